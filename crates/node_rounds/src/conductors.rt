@@ -137,7 +137,7 @@ fn asked<F: Fates, C: Clock, M: Medium, R: Wait>(
     if let Some(reason) = ended_by_nodes(shares) {
         return (pass, Next::End(reason));
     }
-    let (pass, seen) = wire.look(rt, pass);
+    let (pass, seen, _) = wire.look(rt, pass);
     if seen.sent >= limits.messages {
         return (pass, Next::End(Reason::Enough));
     }
@@ -147,7 +147,7 @@ fn asked<F: Fates, C: Clock, M: Medium, R: Wait>(
     if ticks >= limits.ticks {
         return (pass, Next::End(Reason::RunOut));
     }
-    let (pass, ticked) = wire.tick(rt, pass);
+    let (pass, ticked, _) = wire.tick(rt, pass);
     match ticked {
         Ok(Some(_)) => (pass, Next::Ticked),
         Ok(None) => (pass, Next::Round),

@@ -140,7 +140,7 @@ fn take<K: StoredCore<M>, F: Fates, C: Clock, M: Medium, R: Wait>(
     ensures cause { IsErrOf result.1 fault.Medium →
         Rose (M.faults (K.parts core.old).medium) (M.faults (K.parts core.new).medium) }
 {
-    let (pass, taken) = wire.take(rt, node, pass);
+    let (pass, taken, _) = wire.take(rt, node, pass);
     match taken {
         Err(_) => (pass, Err(HistoryFault::NoMemory)),
         Ok(came) => match came {

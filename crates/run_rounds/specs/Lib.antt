@@ -4,6 +4,7 @@ pub mod Ends
 pub mod Runs
 pub mod Finishes
 pub mod Closings
+pub mod Begins
 pub use Rattle.kill_law.specs.Places
 pub use Rattle.trace_report.specs.Acts
 pub use Rattle.trace_report.specs.Replays

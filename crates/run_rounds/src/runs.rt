@@ -1,16 +1,16 @@
 //! A run of a plan.
 ghost use Rattle.std.specs.Prelude.{◌≡◌, ◌≤◌, ◌<◌, ℕ, List, [], length, map, vec_len, vec_capacity, slice_get, Option, Some, All};
 ghost use Rattle.std.specs.List.{AllZip};
-ghost use Rattle.seat_lock.specs.Words.{base_of, fresh, knows};
+ghost use Rattle.seat_lock.specs.Words.{base_of, knows};
 ghost use Rattle.plan_form.specs.PlanTexts.{IsOfLanguage};
 ghost use Rattle.run_starts.specs.Sights.{IsWirePass};
-ghost use Rattle.run_media.specs.Openings.{AreReady, HasOpened, IsOpen, medium_in};
+ghost use Rattle.run_media.specs.Openings.{HasOpened, IsOpen, medium_in};
 ghost use Rattle.run_starts.specs.Deals.{HaveRoom, IsDealt};
 ghost use Rattle.run_starts.specs.Seats.{IsSound};
-ghost use Rattle.run_starts.specs.Starts.{IsSetUp, fresh_for};
 ghost use Rattle.run_media.specs.Places.{node_count};
 ghost use Rattle.run_starts.specs.Nodes.{IsReady};
 ghost use Rattle.world_core.specs.Counts.{tick_count};
+ghost use Rattle.run_rounds.specs.Begins.{HasBegun, IsRunnable};
 ghost use Rattle.run_rounds.specs.Closings.{HasClosed};
 ghost use Rattle.run_rounds.specs.Finishes.{EndsAs, IsEndFor, tellers};
 
@@ -76,19 +76,10 @@ fn with_nodes<
     openings: Vec<Opening<M>>,
     media: Vec<Option<M>>,
 ) -> Finished<F, C, M>
-    requires plan { IsOfLanguage plan.now }
-    requires set_up { IsSetUp plan.now openings.items (base_of begun.wire.lock).origin.asked
-        (base_of begun.wire.lock).origin.answers
-        (base_of begun.wire.lock).origin }
-    requires start { begun.start ≡ (base_of begun.wire.lock).origin.start }
-    requires passes { All (IsWirePass begun.wire.lock) begun.passes.items }
-    requires fresh { map knows begun.passes.items ≡ fresh_for (base_of begun.wire.lock)
-        (base_of begun.wire.lock).origin.opened }
-    requires conductor { IsWirePass begun.wire.lock begun.conductor ×
-        (knows begun.conductor ≡ fresh (base_of begun.wire.lock) 0) }
+    requires runnable { IsRunnable plan.now openings.items }
+    requires begun { HasBegun plan.now openings.items begun.wire.lock begun.start begun.passes.items
+        begun.conductor }
     requires pass_room { vec_len begun.passes < vec_capacity begun.passes }
-    requires count { length openings.items ≡ node_count plan.now }
-    requires ready { AreReady plan.now 0 openings.items }
     requires empty { media.items ≡ [] }
     requires room { vec_len openings ≤ vec_capacity media }
     requires workers { 1 ≤ limits.workers }
@@ -188,19 +179,10 @@ fn without_nodes<F: Fates, C: Clock, M: Medium, R: Wait>(
     openings: Vec<Opening<M>>,
     media: Vec<Option<M>>,
 ) -> Finished<F, C, M>
-    requires plan { IsOfLanguage plan.now }
-    requires set_up { IsSetUp plan.now openings.items (base_of begun.wire.lock).origin.asked
-        (base_of begun.wire.lock).origin.answers
-        (base_of begun.wire.lock).origin }
-    requires start { begun.start ≡ (base_of begun.wire.lock).origin.start }
-    requires passes { All (IsWirePass begun.wire.lock) begun.passes.items }
-    requires fresh { map knows begun.passes.items ≡ fresh_for (base_of begun.wire.lock)
-        (base_of begun.wire.lock).origin.opened }
-    requires conductor { IsWirePass begun.wire.lock begun.conductor ×
-        (knows begun.conductor ≡ fresh (base_of begun.wire.lock) 0) }
+    requires runnable { IsRunnable plan.now openings.items }
+    requires begun { HasBegun plan.now openings.items begun.wire.lock begun.start begun.passes.items
+        begun.conductor }
     requires pass_room { vec_len begun.passes < vec_capacity begun.passes }
-    requires count { length openings.items ≡ node_count plan.now }
-    requires ready { AreReady plan.now 0 openings.items }
     requires empty { media.items ≡ [] }
     requires room { vec_len openings ≤ vec_capacity media }
     requires shut { (place : _) × (opening : _) × (slice_get openings.items place ≡ Some opening) ×

@@ -164,7 +164,7 @@ pub fn takes(
     requires { IsAt wire.now.lock node (is_broker node.kind) false pass }
     ensures { IfOk result (λ r. AfterTaking wire.now.lock node (is_broker node.kind) r.0 r.1) }
 {
-    let (pass, taken) = wire.take(rt, node, pass);
+    let (pass, taken, _) = wire.take(rt, node, pass);
     let taken = taken?;
     Ok((pass, taken))
 }

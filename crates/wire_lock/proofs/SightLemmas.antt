@@ -1,6 +1,6 @@
 -- What a pass has seen of its node is so in what a visit finds, and what a visit leaves.
-use Rattle.std.specs.Prelude.{◌≡◌, ◌↔◌, ℕ, ◌+◌, ◌==◌, Bool, true, false, ◌&&◌, List, [], ◌∷◌, ◌++◌, map, take, length, ◌<◌, Option, Some, None, IsTrue, if◌then◌else◌}
-use Rattle.std.proofs.Common.{refl, ap, sym, ◌∙◌, subst, cond, eq-eqb, get_or, append_assoc}
+use Rattle.std.specs.Prelude.{◌≡◌, ◌↔◌, ℕ, ◌+◌, ◌==◌, Bool, true, false, ◌&&◌, List, [], ◌∷◌, ◌++◌, map, take, length, ◌<◌, Option, Some, None, Result, Ok, Err, IfOk, OnErr, IsTrue, if◌then◌else◌}
+use Rattle.std.proofs.Common.{refl, ap, ap₂, sym, ◌∙◌, subst, cond, eq-eqb, get_or, append_assoc}
 use Rattle.std.proofs.lemmas.List.{map-append, get_or-map, take_more}
 use Rattle.std.proofs.lemmas.List.Elements.{filter-append}
 use Rattle.std.proofs.Math.ListN.{get_or-map as get_or-f}
@@ -28,12 +28,12 @@ use Rattle.world_core.proofs.Others.{same-flags, same-behind}
 use Rattle.message_core.specs.declared.letters.Arrival.{Arrival}
 use Rattle.world_core.specs.declared.traces.Trace.{Trace}
 use Rattle.wire_core.specs.Wires.{Origin, WireParts, base_from, trace_of, world_of}
-use Rattle.wire_core.specs.Changes.{IsCopyOf, IsQuiet}
+use Rattle.wire_core.specs.Changes.{IsCopyOf, IsQuiet, TookAll}
 use Rattle.wire_core.specs.Boards.{owner_for, owner_of, place_of, number_of}
 use Rattle.wire_core.proofs.DueLemmas.{numbered-from}
 use Rattle.wire_lock.specs.Decisions.{Decided, posted, answer_of}
 use Rattle.wire_lock.specs.Stories.{end_of}
-use Rattle.wire_lock.specs.Sights.{Sight, origin_in, origin_at, base_at, world_at, life_at, flags_at, IsOf, Owns, IsWirePass, IsAsBefore, Looked, Added, Visited, Gated, Tested, TicksOn, HasNothingOpen, closed}
+use Rattle.wire_lock.specs.Sights.{IsLeft, HasNoneDue, IsIdle, Sight, origin_in, origin_at, base_at, world_at, life_at, flags_at, IsOf, Owns, IsWirePass, IsAsBefore, Looked, Added, Visited, Gated, Tested, TicksOn, HasNothingOpen, closed}
 
 -- ---- a node's entries are among those of its owner
 
@@ -328,3 +328,28 @@ owns-noted k k' l e is mine car = subst Owns (sym is) (owned-more k.owner l e k.
 module _ {Q A : Type 0} where
   pub pass-at : (lock lock' : LockTable WireParts (View WireParts Entry) (Founding WireParts) Q A) (pass : Seat WireParts (View WireParts Entry)) → lock' ≡ lock → IsPassOf lock' pass → Owns (knows pass) → IsWirePass lock pass
   pass-at lock lock' pass same is owns = subst (λ (l : LockTable WireParts (View WireParts Entry) (Founding WireParts) Q A). IsWirePass l pass) same (record { of_lock = is; own = owns })
+
+-- ---- the wire as a visit left it
+
+pub if-gave : {A E : Type 0} (P : A → Type 0) (r : Result A E) (x : A) → r ≡ Ok x → IfOk r P → P x
+if-gave {A} {E} P r x is h = subst (λ (z : Result A E). IfOk z P) is h
+
+pub if-failed : {A E P : Type 0} (r : Result A E) (e : E) → r ≡ Err e → OnErr r P → P
+if-failed {A} {E} {P} r e is h = subst (λ (z : Result A E). OnErr z P) is h
+
+pub left-of : (k k' : Sight) (l own : List Entry) (w : WireParts) → w.origin ≡ origin_at k → w.entries ≡ l → k' ≡ record k { story = l; own = own } → IsLeft w k'
+left-of k k' l own w origin entries is = record { origin = origin ∙ ap origin_at (sym is); entries = entries ∙ sym (story-of is) }
+
+left-world : (w : WireParts) (k : Sight) → IsLeft w k → world_of w ≡ world_at k
+left-world w k h = ap₂ (λ (o : Origin) (l : List Entry). walk (base_from o) l) h.origin h.entries
+
+pub none-due : (w old : WireParts) (k : Sight) (n : NodeId) → IsLeft w k → w ≡ old → TookAll (fates_of old.sent) (world_of old) n → HasNoneDue w k n
+none-due w old k n left same h =
+    subst (λ (v : World). TookAll (fates_of w.sent) v n) (left-world w k left) (subst (λ (x : WireParts). TookAll (fates_of x.sent) (world_of x) n) (sym same) h)
+
+pub still-busy : (w old : WireParts) (k : Sight) → IsLeft w k → w ≡ old → (Idle (fates_of old.sent) (world_of old) → ⊥) → IsIdle w k → ⊥
+still-busy w old k left same busy idle =
+    busy (subst (λ (x : WireParts). Idle (fates_of x.sent) (world_of x)) same (subst (λ (v : World). Idle (fates_of w.sent) v) (sym (left-world w k left)) idle))
+
+pub idle-left : (w : WireParts) (k : Sight) (idle : Bool) → IsLeft w k → (IsTrue idle ↔ ((w.broken ≡ false) × Idle (fates_of w.sent) (world_of w))) → (IsTrue idle ↔ ((w.broken ≡ false) × IsIdle w k))
+idle-left w k idle left h = subst (λ (v : World). IsTrue idle ↔ ((w.broken ≡ false) × Idle (fates_of w.sent) v)) (left-world w k left) h

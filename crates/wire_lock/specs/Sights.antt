@@ -16,8 +16,9 @@ use Rattle.world_core.specs.declared.traces.Opened.{Opened}
 use Rattle.world_core.specs.Nodes.{Input}
 use Rattle.world_core.specs.Nodes.Input.{Going, Taking, Learning, Hearing}
 use Rattle.world_core.specs.Walks.{Base, Life, Flags, World, walk, opened_log, after_input, gated_life, crashed_life, went, learned, with_due}
-use Rattle.world_core.specs.Legal.{HasGone, is_behind}
+use Rattle.world_core.specs.Legal.{HasGone, Idle, fates_of, is_behind}
 use Rattle.wire_core.specs.Wires.{Origin, WireParts, base_from}
+use Rattle.wire_core.specs.Changes.{TookAll}
 use Rattle.wire_core.specs.Boards.{owner_for, owner_of, place_of}
 use Rattle.wire_core.specs.declared.takens.Taken.{Taken}
 use Rattle.wire_core.specs.declared.takens.Taken.TheVariants.{Behind, Nothing, Arrived}
@@ -162,6 +163,26 @@ abbrev pub TakesOne : Bool → NodeId → Sight → Sight → Taken → Type 0
 TakesOne told n old new Behind = Looked old new × (is_behind (world_at new) n ≡ true)
 TakesOne told n old new Nothing = Looked old new × (is_behind (world_at new) n ≡ false)
 TakesOne told n old new (Arrived a) = Visited told n old new (Take n a.number) (given n old (Taking a.from a.message)) (with_due (flags_at old n))
+
+-- ---- the wire as a visit left it
+
+-- Its entries are those that the pass has seen then. Beside them it has the fates of the messages.
+pub record IsLeft (w : WireParts) (k : Sight) : Type 0 where
+  pub origin : w.origin ≡ origin_at k
+  pub entries : w.entries ≡ k.story
+
+-- no copy is due for the node
+abbrev pub HasNoneDue : WireParts → Sight → NodeId → Type 0
+HasNoneDue w k n = TookAll (fates_of w.sent) (world_at k) n
+
+-- no node that is up has anything to do
+abbrev pub IsIdle : WireParts → Sight → Type 0
+IsIdle w k = Idle (fates_of w.sent) (world_at k)
+
+-- where no time passes this doesn't hold
+abbrev pub IfStill : Type 0 → Option ℕ → Type 0
+IfStill P None = P → ⊥
+IfStill P (Some moment) = Unit {0}
 
 -- A node that is down before anything but downs happened had nothing when it was opened.
 abbrev pub HadNothing : NodeId → Sight → Type 0

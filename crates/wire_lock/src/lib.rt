@@ -13,4 +13,4 @@ pub use boards::{number_of, place_of};
 pub use ends::{Closed, Told};
 pub use laws::{law_of_numbers, law_of_whole_stories};
 pub use looks::Seen;
-pub use shared::{SharedWire, WirePass};
+pub use shared::{LeftWire, SharedWire, WirePass};

@@ -1,13 +1,14 @@
 //! What passes do beside the visits of nodes: ticks, looks and meetings.
-ghost use Rattle.std.specs.Prelude.{◌≡◌, length, IsTrue, IfOk, OnErr};
+ghost use Rattle.std.specs.Prelude.{◌≡◌, ◌↔◌, true, false, length, IsTrue, IfOk, OnErr};
 ghost use Rattle.seat_lock.specs.Story.{longer};
 ghost use Rattle.seat_lock.specs.Words.{knows};
 ghost use Rattle.world_core.specs.Walks.{sent_by};
-ghost use Rattle.wire_lock.specs.Sights.{IsWirePass, Looked, TicksOn, HasNothingOpen, world_at};
+ghost use Rattle.wire_lock.specs.Sights.{IsWirePass, Looked, TicksOn, HasNothingOpen, IsLeft, IsIdle, IfStill, world_at};
 
-use crate::shared::{SharedWire, WirePass};
+use crate::shared::{LeftWire, SharedWire, WirePass};
 use medium_port::Medium;
 use std::alloc::AllocError;
+use std::snapshot::Snapshot;
 use std::sync::Wait;
 use stream_port::{Clock, Fates};
 use world_core::Entry;
@@ -22,39 +23,55 @@ pub struct Seen {
 }
 
 impl<F: Fates, C: Clock, M: Medium> SharedWire<F, C, M> {
-    /// Lets time pass, where the wire is idle. The pass is the conductor's.
+    /// Lets time pass, where the wire is idle: None only where it isn't. The pass is the conductor's.
     pub fn tick<R: Wait>(
         &self,
         rt: &R,
         pass: WirePass<F, C, M>,
-    ) -> (WirePass<F, C, M>, Result<Option<u64>, AllocError>)
+    ) -> (
+        WirePass<F, C, M>,
+        Result<Option<u64>, AllocError>,
+        LeftWire<F, C, M>,
+    )
         requires pass { IsWirePass self.now.lock pass }
         requires conductor { (knows pass).owner ≡ 0 }
         ensures pass { IsWirePass self.now.lock result.0 }
         ensures ok { IfOk result.1 (TicksOn (knows pass) (knows result.0)) }
+        ensures left { IsLeft result.2.value (knows result.0) }
+        ensures still { IsTrue M.tells →
+            IfOk result.1 (IfStill (IsIdle result.2.value (knows result.0))) }
         ensures err { OnErr result.1 (Looked (knows pass) (knows result.0)) }
+        ensures broken { OnErr result.1 (result.2.value.broken ≡ true) }
     {
         let mut visit = self.lock.enter(rt, pass);
-        match visit.value().tick() {
-            Err(_) => (visit.leave(), Err(AllocError)),
-            Ok(None) => (visit.leave(), Ok(None)),
+        let wire = visit.value();
+        let ticked = wire.tick();
+        let left = Snapshot::of(wire);
+        match ticked {
+            Err(_) => (visit.leave(), Err(AllocError), left),
+            Ok(None) => (visit.leave(), Ok(None), left),
             Ok(Some(moment)) => {
                 visit.note(&Entry::Tick { moment });
-                (visit.leave(), Ok(Some(moment)))
+                (visit.leave(), Ok(Some(moment)), left)
             }
         }
     }
 
-    /// How many messages the wire has sent, and whether it is idle. After memory ran out in an
-    /// earlier visit it isn't idle.
-    ///
-    /// Which copies are due only the wire knows: the run's end tells whether it closed idle.
-    pub fn look<R: Wait>(&self, rt: &R, pass: WirePass<F, C, M>) -> (WirePass<F, C, M>, Seen)
+    /// How many messages the wire has sent, and whether it is idle, which it is just where no node
+    /// that is up has anything to do. After memory ran out in an earlier visit it isn't idle.
+    pub fn look<R: Wait>(
+        &self,
+        rt: &R,
+        pass: WirePass<F, C, M>,
+    ) -> (WirePass<F, C, M>, Seen, LeftWire<F, C, M>)
         requires pass { IsWirePass self.now.lock pass }
         ensures pass { IsWirePass self.now.lock result.0 }
         ensures looked { Looked (knows pass) (knows result.0) }
         ensures sent { IsTrue M.tells → result.1.sent ≡ length (sent_by (world_at (knows result.0))) }
         ensures rest { IsTrue result.1.idle → HasNothingOpen (world_at (knows result.0)) }
+        ensures left { IsLeft result.2.value (knows result.0) }
+        ensures idle { IsTrue M.tells → (IsTrue result.1.idle ↔
+            ((result.2.value.broken ≡ false) × IsIdle result.2.value (knows result.0))) }
     {
         let mut visit = self.lock.enter(rt, pass);
         let wire = visit.value();
@@ -62,7 +79,8 @@ impl<F: Fates, C: Clock, M: Medium> SharedWire<F, C, M> {
             sent: wire.sent(),
             idle: wire.idle(),
         };
-        (visit.leave(), seen)
+        let left = Snapshot::of(wire);
+        (visit.leave(), seen, left)
     }
 
     /// Each pass learns what the other has seen, and neither waits. Both have then seen the longer

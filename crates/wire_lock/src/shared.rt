@@ -5,11 +5,16 @@ ghost use Rattle.wire_lock.specs.Sights.{owners_for};
 
 use medium_port::Medium;
 use seat_lock::{Pass, SeatLock};
+use std::snapshot::Snapshot;
 use stream_port::{Clock, Fates};
 use wire_core::Wire;
 
 /// The right of a node, or of the conductor, to visit the shared wire, with what it has seen.
 pub type WirePass<F, C, M> = Pass<Wire<F, C, M>>;
+
+/// The wire as a visit left it, which contracts alone read: so they say what the visit saw beside the
+/// entries, as the fates of messages.
+pub type LeftWire<F, C, M> = Snapshot<Wire<F, C, M>>;
 
 /// A wire under its lock, with a board of 4,096 words for decisions.
 ///

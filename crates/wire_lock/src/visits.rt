@@ -5,27 +5,33 @@ ghost use Rattle.message_form.specs.Messages.{IsMessage};
 ghost use Rattle.seat_lock.specs.Words.{knows};
 ghost use Rattle.world_core.specs.Walks.{sent_by};
 ghost use Rattle.world_core.specs.Legal.{HasGone, IsDecidedAs, is_behind};
-ghost use Rattle.wire_core.specs.Changes.{IfArrived, IsCopyOf};
+ghost use Rattle.wire_core.specs.Changes.{IfArrived, IfNothing, IsCopyOf};
 ghost use Rattle.wire_lock.specs.Sights.{IsWirePass, IsOf, HadNothing, world_at, life_at, flags_at};
-ghost use Rattle.wire_lock.specs.Sights.{Looked, TakesOne, Goes, Hears, Learns, Crashes, Falls};
+ghost use Rattle.wire_lock.specs.Sights.{Looked, TakesOne, Goes, Hears, Learns, Crashes, Falls, IsLeft, HasNoneDue};
 
-use crate::shared::{SharedWire, WirePass};
+use crate::shared::{LeftWire, SharedWire, WirePass};
 use medium_port::Medium;
 use pseudo_time::{DownCause, NodeId, Stamp};
 use std::alloc::AllocError;
+use std::snapshot::Snapshot;
 use std::sync::Wait;
 use stream_port::{Clock, Fates};
 use wire_core::Taken;
 use world_core::Entry;
 
 impl<F: Fates, C: Clock, M: Medium> SharedWire<F, C, M> {
-    /// Takes the node's first due copy. Behind where the node hasn't heard the last tick.
+    /// Takes the node's first due copy. Behind where the node hasn't heard the last tick, and Nothing
+    /// only where no copy is due for it.
     pub fn take<R: Wait>(
         &self,
         rt: &R,
         node: NodeId,
         pass: WirePass<F, C, M>,
-    ) -> (WirePass<F, C, M>, Result<Taken, AllocError>)
+    ) -> (
+        WirePass<F, C, M>,
+        Result<Taken, AllocError>,
+        LeftWire<F, C, M>,
+    )
         requires pass { IsWirePass self.now.lock pass }
         requires node { IsOf node (knows pass) }
         requires up { (flags_at (knows pass) node).up ≡ true }
@@ -35,17 +41,24 @@ impl<F: Fates, C: Clock, M: Medium> SharedWire<F, C, M> {
         ensures copy { IsTrue M.tells →
             IfOk result.1 (IfArrived (IsCopyOf (sent_by (world_at (knows result.0))) node)) }
         ensures in_range { IfOk result.1 (IfArrived (λ a. IsMessage a.message)) }
+        ensures left { IsLeft result.2.value (knows result.0) }
+        ensures nothing { IsTrue M.tells →
+            IfOk result.1 (IfNothing (HasNoneDue result.2.value (knows result.0) node)) }
         ensures err { OnErr result.1 (Looked (knows pass) (knows result.0)) }
+        ensures broken { OnErr result.1 (result.2.value.broken ≡ true) }
     {
         let mut visit = self.lock.enter(rt, pass);
-        match visit.value().take(node) {
-            Err(_) => (visit.leave(), Err(AllocError)),
-            Ok(Taken::Behind) => (visit.leave(), Ok(Taken::Behind)),
-            Ok(Taken::Nothing) => (visit.leave(), Ok(Taken::Nothing)),
+        let wire = visit.value();
+        let taken = wire.take(node);
+        let left = Snapshot::of(wire);
+        match taken {
+            Err(_) => (visit.leave(), Err(AllocError), left),
+            Ok(Taken::Behind) => (visit.leave(), Ok(Taken::Behind), left),
+            Ok(Taken::Nothing) => (visit.leave(), Ok(Taken::Nothing), left),
             Ok(Taken::Arrived(arrival)) => {
                 let number = arrival.number;
                 visit.note(&Entry::Take { node, number });
-                (visit.leave(), Ok(Taken::Arrived(arrival)))
+                (visit.leave(), Ok(Taken::Arrived(arrival)), left)
             }
         }
     }

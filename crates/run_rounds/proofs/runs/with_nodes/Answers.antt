@@ -27,7 +27,7 @@ stopped-requires-clause-all g c =
     let passes = c.args.begun.passes in
     let os = c.args.openings.items in
     let plan = c.args.plan.now in
-    let n = pass-count wire wire.origin.opened passes.items c.requires.fresh in
+    let n = pass-count wire wire.origin.opened passes.items c.requires.begun.unseen in
     omega (arith, n, passes.ok)
 
 pub returns-in_default : goal.returns-in_default
@@ -51,7 +51,7 @@ open_nodes-nodes-requires-clause-can g c =
     let passes = c.args.begun.passes in
     let os = c.args.openings.items in
     let plan = c.args.plan.now in
-    can-seat g.M.Medium plan os wire c.args.begun.start passes.items c.requires.set_up c.requires.start c.requires.ready c.requires.sound c.requires.fresh
+    can-seat g.M.Medium plan os wire c.args.begun.start passes.items c.requires.begun.set_up c.requires.begun.starts c.requires.runnable.ready c.requires.sound c.requires.begun.unseen
 
 pub stopped-requires-then-not-is_whole-clause-passes : goal.stopped-requires-then-not-is_whole-clause-passes
 stopped-requires-then-not-is_whole-clause-passes g c =
@@ -61,7 +61,7 @@ stopped-requires-then-not-is_whole-clause-passes g c =
     let os = c.args.openings.items in
     let plan = c.args.plan.now in
     let back = c.open_nodes-nodes.ensures.back c.if-not-is_whole.true in
-    (subst (All (IsWirePass lock)) (sym back.1) c.requires.passes, c.requires.conductor.0)
+    (subst (All (IsWirePass lock)) (sym back.1) c.requires.begun.passes_fit, c.requires.begun.conducts)
 
 pub stopped-requires-then-not-is_whole-clause-all : goal.stopped-requires-then-not-is_whole-clause-all
 stopped-requires-then-not-is_whole-clause-all g c =
@@ -71,7 +71,7 @@ stopped-requires-then-not-is_whole-clause-all g c =
     let os = c.args.openings.items in
     let plan = c.args.plan.now in
     let back = c.open_nodes-nodes.ensures.back c.if-not-is_whole.true in
-    let n = pass-count wire wire.origin.opened passes.items c.requires.fresh in
+    let n = pass-count wire wire.origin.opened passes.items c.requires.begun.unseen in
     let same = ap length back.1 in
     omega (arith, n, same, c.open_nodes-nodes.result.passes.ok)
 
@@ -105,7 +105,7 @@ run_nodes-requires-clause-ready g c κs within =
     let plan = c.args.plan.now in
     let whole = c.if-not-is_whole.false in
     let o = c.open_nodes-nodes in
-    ready-nodes lock plan os o.result.nodes.items passes.items (o.ensures.new whole) (o.ensures.passes whole) c.requires.passes
+    ready-nodes lock plan os o.result.nodes.items passes.items (o.ensures.new whole) (o.ensures.passes whole) c.requires.begun.passes_fit
 
 pub run_nodes-requires-clause-count : goal.run_nodes-requires-clause-count
 run_nodes-requires-clause-count g c κs within =
@@ -116,7 +116,7 @@ run_nodes-requires-clause-count g c κs within =
     let plan = c.args.plan.now in
     let whole = c.if-not-is_whole.false in
     let o = c.open_nodes-nodes in
-    let n = pass-count wire wire.origin.opened passes.items c.requires.fresh in
+    let n = pass-count wire wire.origin.opened passes.items c.requires.begun.unseen in
     let same = ap length (o.ensures.passes whole) in
     let long = length-map o.result.nodes.items (λ (n : NodeParts g.row.M.Denot). n.pass) in
     omega (arith, n, same, long)
@@ -128,8 +128,8 @@ run_nodes-requires-clause-pass g c κs within =
     let passes = c.args.begun.passes in
     let os = c.args.openings.items in
     let plan = c.args.plan.now in
-    let fresh = new-conductor wire (knows c.args.begun.conductor) c.requires.conductor.1 in
-    (c.requires.conductor.0, fresh.0, fresh.1)
+    let fresh = new-conductor wire (knows c.args.begun.conductor) c.requires.begun.conductor_unseen in
+    (c.requires.begun.conducts, fresh.0, fresh.1)
 
 pub run_nodes-requires-clause-dealt : goal.run_nodes-requires-clause-dealt
 run_nodes-requires-clause-dealt g c κs within =
@@ -152,7 +152,7 @@ run_nodes-requires-clause-room g c κs within =
     let o = c.open_nodes-nodes in
     let passes = c.args.begun.passes in
     let long = along-length (IsNewNode c.args.plan.now) 0 c.args.openings.items o.result.nodes.items (o.ensures.new c.if-not-is_whole.false) in
-    let n = seats-count c.args.plan.now c.args.openings.items _ _ (base_of c.args.begun.wire.lock) c.requires.set_up passes.items c.requires.fresh in (
+    let n = seats-count c.args.plan.now c.args.openings.items _ _ (base_of c.args.begun.wire.lock) c.requires.begun.set_up passes.items c.requires.begun.unseen in (
       omega (arith, long, o.result.nodes.ok, c.args.openings.ok, c.requires.room, o.ensures.room.0),
       omega (arith, long, n, o.result.nodes.ok, passes.ok, c.requires.pass_room, o.ensures.room.1),
     )
@@ -168,8 +168,8 @@ returns g c first opened =
     let whole = c.if-not-is_whole.false in
     let o = c.open_nodes-nodes in
     let nodes = o.result.nodes.items in
-    let own = none-own wire wire.origin.opened passes.items c.requires.fresh in
+    let own = none-own wire wire.origin.opened passes.items c.requires.begun.unseen in
     let unseen = all-mapped (λ (p : Pass). (knows p).own ≡ []) (λ (n : NodeParts g.row.M.Denot). n.pass) nodes (subst (All (λ (p : Pass). (knows p).own ≡ [])) (sym (o.ensures.passes whole)) own) in
-    let fresh = unseen-nodes plan os wire.origin.asked wire.origin.answers wire c.requires.set_up passes.items c.requires.fresh nodes (o.ensures.passes whole) in
+    let fresh = unseen-nodes plan os wire.origin.asked wire.origin.answers wire c.requires.begun.set_up passes.items c.requires.begun.unseen nodes (o.ensures.passes whole) in
     let r = c.run_nodes.result in
-    ends-as w c.args.limits plan c.requires.plan lock (g.F.Fates.asked r.fates) (g.C.Clock.answers r.clock) first os opened (open-of w os c.requires.sound) c.requires.count c.requires.ready c.requires.set_up nodes (o.ensures.new whole) unseen fresh (g.met.M.Medium g.world.𝓛 g.world.𝓜 g.world.𝓡 ((λ s x. x), (λ x. x), (λ x. x), (λ x. x))).only_now r.media r.end c.run_nodes.ensures
+    ends-as w c.args.limits plan c.requires.runnable.of_language lock (g.F.Fates.asked r.fates) (g.C.Clock.answers r.clock) first os opened (open-of w os c.requires.sound) c.requires.runnable.all c.requires.runnable.ready c.requires.begun.set_up nodes (o.ensures.new whole) unseen fresh (g.met.M.Medium g.world.𝓛 g.world.𝓜 g.world.𝓡 ((λ s x. x), (λ x. x), (λ x. x), (λ x. x))).only_now r.media r.end c.run_nodes.ensures

@@ -1,7 +1,9 @@
-use Rattle.std.proofs.Common.{sym, ◌∙◌}
+use Rattle.std.proofs.Common.{sym, subst, ◌∙◌, ◌≡◌, ◌↔◌, IsTrue, false}
 use Rattle.seat_lock.specs.Words.{knows}
 use Rattle.wire_lock.proofs.SightLemmas.{finds, origin-of, entries-in, lock-origin, looked-of}
-use Rattle.wire_lock.proofs.SightLemmas.{sent-left, rest-left}
+use Rattle.wire_lock.proofs.SightLemmas.{sent-left, rest-left, left-of, idle-left}
+use Rattle.world_core.specs.Legal.{Idle, fates_of}
+use Rattle.wire_core.specs.Wires.{WireParts, world_of}
 use Rattle.wire_lock.proofs.shared.SharedWire.look.Goals as goal
 
 pub leave-requires : goal.leave-requires
@@ -25,3 +27,19 @@ returns-clause-rest g c =
     let x = c.enter-visit.ensures.value in
     let s = finds c.args.self.now.lock c.args.pass x.0 c.value-wire.result.now _ c.requires.pass x.2 x.3 c.enter-visit.ensures.carries (c.value-wire.ensures.value x.0 x.1) in
     λ i. rest-left (knows c.args.pass) (knows c.leave.result) _ c.value-wire.result.now (c.leave.ensures.kept ∙ c.enter-visit.ensures.kept) s.world (c.idle.ensures.quiet.0 i).1
+
+pub returns-clause-left : goal.returns-clause-left
+returns-clause-left g c =
+    let x = c.enter-visit.ensures.value in
+    let at = c.value-wire.ensures.value x.0 x.1 in
+    let s = finds c.args.self.now.lock c.args.pass x.0 c.value-wire.result.now _ c.requires.pass x.2 x.3 c.enter-visit.ensures.carries at in
+    left-of (knows c.args.pass) (knows c.leave.result) _ (knows c.args.pass).own _ (origin-of c.of-left.ensures ∙ s.origin) (entries-in (c.of-left.ensures ∙ at) ∙ x.3) (c.leave.ensures.kept ∙ c.enter-visit.ensures.kept)
+
+pub returns-clause-idle : goal.returns-clause-idle
+returns-clause-idle g c = λ t.
+    let x = c.enter-visit.ensures.value in
+    let at = c.value-wire.ensures.value x.0 x.1 in
+    let s = finds c.args.self.now.lock c.args.pass x.0 c.value-wire.result.now _ c.requires.pass x.2 x.3 c.enter-visit.ensures.carries at in
+    let left = left-of (knows c.args.pass) (knows c.leave.result) _ (knows c.args.pass).own _ (origin-of c.of-left.ensures ∙ s.origin) (entries-in (c.of-left.ensures ∙ at) ∙ x.3) (c.leave.ensures.kept ∙ c.enter-visit.ensures.kept) in
+    idle-left c.of-left.result.value (knows c.leave.result) c.idle.result left
+    (subst (λ (w : WireParts). IsTrue c.idle.result ↔ ((w.broken ≡ false) × Idle (fates_of w.sent) (world_of w))) (sym c.of-left.ensures) (c.idle.ensures.idle t))
