@@ -1,5 +1,5 @@
 -- What turns are to a node of the rounds, one or several.
-use Rattle.std.proofs.Common.{◌≡◌, ◌≢◌, ◌+◌, ◌++◌, Bool, ℕ, List, Result, Ok, Err, IsTrue, refl, ap, sym, subst, ◌∙◌, ⊎_elim}
+use Rattle.std.proofs.Common.{◌≡◌, ◌≢◌, ◌+◌, ◌++◌, List, Result, Ok, Err, IsTrue, refl, ap, sym, subst, ◌∙◌, ⊎_elim}
 use Rattle.std.specs.Prelude.{IfOk, OnOk}
 use Rattle.std.specs.declared.alloc.AllocError.{AllocError}
 use Rattle.pseudo_time.specs.declared.down_causes.DownCause.{DownCause}

@@ -1,5 +1,5 @@
 -- How nodes went on, over rounds and meetings.
-use Rattle.std.proofs.Common.{◌≡◌, ℕ, Bool, List}
+use Rattle.std.proofs.Common.{List}
 use Rattle.medium_port.specs.declared.media.Medium.{Ghosts as Media}
 use Rattle.seat_lock.specs.declared.views.View.{View}
 use Rattle.seat_lock.specs.declared.views.Founding.{Founding}

@@ -29,3 +29,9 @@ returns-in-Err-clause-passes g c = λ told. passes-seen g.M.Medium g.met.M.Mediu
 
 pub returns-in-Ok-clause-passes : goal.returns-in-Ok-clause-passes
 returns-in-Ok-clause-passes g c = λ told. passes-fallen g.M.Medium g.met.M.Medium.only_now c.requires.struck.stored c.requires.pass.own (same_node-refl c.args.node) (on-ok _ _ _ c.in-Ok.is c.down-pass.ensures.ok) told
+
+pub returns-in-Err-clause-names : goal.returns-in-Err-clause-names
+returns-in-Err-clause-names g c = λ ne. absurd (ne refl)
+
+pub returns-in-Ok-clause-names : goal.returns-in-Ok-clause-names
+returns-in-Ok-clause-names g c = λ ne. refl

@@ -1,5 +1,8 @@
-use Rattle.std.proofs.Common.{refl, arith}
+use Rattle.std.proofs.Common.{refl, sym, subst, arith}
+use Rattle.object_history.specs.declared.steps.HistoryFault.{HistoryFault}
 use Rattle.seat_lock.specs.Words.{knows}
+use Rattle.node_turn.specs.declared.conditions.Condition.TheVariants as condition
+use Rattle.node_turn.specs.Lives.{NamesPage}
 use Rattle.node_turn.proofs.CostLemmas.{pays-none, pays-one}
 use Rattle.node_turn.proofs.TrailLemmas.{trail-none, trail-cost}
 use Rattle.node_turn.proofs.PhaseLemmas.{passes-stored}
@@ -47,3 +50,12 @@ returns-in-Damaged-clause-grew g c = λ w. absurd (c.go_down-pass.ensures.stops 
 
 pub returns-in-NoMemory-clause-passes : goal.returns-in-NoMemory-clause-passes
 returns-in-NoMemory-clause-passes g c = λ told. passes-stored g.M.Medium g.met.M.Medium.only_now (rw c.in-NoMemory.is at c.requires.after) told
+
+pub returns-in-NoMemory-clause-names : goal.returns-in-NoMemory-clause-names
+returns-in-NoMemory-clause-names g c = subst (λ (f : HistoryFault). NamesPage f condition.Wanting) (sym c.in-NoMemory.is) tt
+
+pub returns-in-Medium-clause-names : goal.returns-in-Medium-clause-names
+returns-in-Medium-clause-names g c = subst (λ (f : HistoryFault). NamesPage f c.open_anew.result.1.condition) (sym c.in-Medium.is) tt
+
+pub returns-in-Damaged-clause-names : goal.returns-in-Damaged-clause-names
+returns-in-Damaged-clause-names g c = subst (λ (f : HistoryFault). NamesPage f c.go_down-pass.result.1) (sym c.in-Damaged.is) c.go_down-pass.ensures.names
