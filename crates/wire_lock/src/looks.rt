@@ -47,14 +47,14 @@ impl<F: Fates, C: Clock, M: Medium> SharedWire<F, C, M> {
         let wire = visit.value();
         let ticked = wire.tick();
         let left = Snapshot::of(wire);
-        match ticked {
-            Err(_) => (visit.leave(), Err(AllocError), left),
-            Ok(None) => (visit.leave(), Ok(None), left),
-            Ok(Some(moment)) => {
-                visit.note(&Entry::Tick { moment });
-                (visit.leave(), Ok(Some(moment)), left)
-            }
-        }
+        let Ok(passed) = ticked else {
+            return (visit.leave(), Err(AllocError), left);
+        };
+        let Some(moment) = passed else {
+            return (visit.leave(), Ok(None), left);
+        };
+        visit.note(&Entry::Tick { moment });
+        (visit.leave(), Ok(Some(moment)), left)
     }
 
     /// How many messages the wire has sent, and whether it is idle, which it is just where no node
