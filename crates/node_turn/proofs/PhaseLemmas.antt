@@ -175,7 +175,7 @@ module _ {K M : Type 0} {w : Media M} {m : Meanings K M} where
 
 -- ---- the append and its gate
 
-module _ {K M : Type 0} {w : Media M} {m : Meanings K M} (only : (x : M) (c : Image) → IsTrue w.tells → LeftNow (w.stages x) c → w.may_leave x c)
+module _ {K M : Type 0} (w : Media M) {m : Meanings K M} (only : (x : M) (c : Image) → IsTrue w.tells → LeftNow (w.stages x) c → w.may_leave x c)
     {T : Type 0} {core new : K} {k : Sight} {n : NodeId} {gone : Bool} {d : DraftParts} {result : Result T StoreFault}
     (u : IsUp w m core k n gone true d) (a : IsAppended w m core new d.effects result) (t : IsTrue w.tells) where
   goes-appended : Goes (w.stages (m.parts core).medium) (w.stages (m.parts new).medium) (IsKept (life_at k n))
@@ -204,7 +204,7 @@ module _ {K M : Type 0} {w : Media M} {m : Meanings K M} (only : (x : M) (c : Im
 
 -- ---- an opening after a fault
 
-module _ {K M : Type 0} {w : Media M} {m : Meanings K M} (only : (x : M) (c : Image) → IsTrue w.tells → LeftNow (w.stages x) c → w.may_leave x c)
+module _ {K M : Type 0} (w : Media M) {m : Meanings K M} (only : (x : M) (c : Image) → IsTrue w.tells → LeftNow (w.stages x) c → w.may_leave x c)
     {core new : K} {k : Sight} {n : NodeId} {durable : ℕ} {result : Result ℕ OpenFault}
     (s : IsStruck w m core k n durable) (r : IsReopened w m core new result) (t : IsTrue w.tells) where
   goes-reopened : Goes (w.stages (m.parts core).medium) (w.stages (m.parts new).medium) (IsKept (life_at k n))

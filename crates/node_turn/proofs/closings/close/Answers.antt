@@ -86,10 +86,10 @@ pub returns-in_default-checked_add-clause-passes : goal.returns-in_default-check
 returns-in_default-checked_add-clause-passes g c = λ told. passes-stored g.M.Medium g.met.M.Medium.only_now (up-stored c.requires.up) told
 
 pub returns-in-Err-clause-passes : goal.returns-in-Err-clause-passes
-returns-in-Err-clause-passes g c = λ told. passes-appended g.met.M.Medium.only_now c.requires.up (appended-at c.effects-3.ensures c.append-core.ensures) told
+returns-in-Err-clause-passes g c = λ told. passes-appended g.M.Medium g.met.M.Medium.only_now c.requires.up (appended-at c.effects-3.ensures c.append-core.ensures) told
 
 pub returns-in-Err-gated-clause-passes : goal.returns-in-Err-gated-clause-passes
-returns-in-Err-gated-clause-passes g c = λ told. passes-ungated g.met.M.Medium.only_now c.requires.up (appended-at c.effects-3.ensures c.append-core.ensures) told c.requires.pass.own (on-err _ _ _ c.in-Err-gated.is c.gate-pass.ensures.err)
+returns-in-Err-gated-clause-passes g c = λ told. passes-ungated g.M.Medium g.met.M.Medium.only_now c.requires.up (appended-at c.effects-3.ensures c.append-core.ensures) told c.requires.pass.own (on-err _ _ _ c.in-Err-gated.is c.gate-pass.ensures.err)
 
 pub returns-clause-passes : goal.returns-clause-passes
-returns-clause-passes g c = λ told. passes-closed g.met.M.Medium.only_now c.requires.up (appended-at c.effects-3.ensures c.append-core.ensures) told _ c.in-Ok-appended.is c.requires.pass.own (on-ok _ _ _ c.in-Ok-gated.is c.gate-pass.ensures.ok)
+returns-clause-passes g c = λ told. passes-closed g.M.Medium g.met.M.Medium.only_now c.requires.up (appended-at c.effects-3.ensures c.append-core.ensures) told _ c.in-Ok-appended.is c.requires.pass.own (on-ok _ _ _ c.in-Ok-gated.is c.gate-pass.ensures.ok)

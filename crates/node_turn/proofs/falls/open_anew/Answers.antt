@@ -82,13 +82,13 @@ pub returns-in-Some-clause-grew : goal.returns-in-Some-clause-grew
 returns-in-Some-clause-grew g c = λ w. absurd (c.go_down-pass.ensures.stops w)
 
 pub returns-in-Ok-noted-clause-passes : goal.returns-in-Ok-noted-clause-passes
-returns-in-Ok-noted-clause-passes g c = λ told. passes-crashed g.met.M.Medium.only_now c.requires.struck c.reopen-core.ensures told c.in-Ok.found c.in-Ok.is c.requires.pass.own (on-ok _ _ _ c.in-Ok-noted.is c.note_crash-pass.ensures.ok)
+returns-in-Ok-noted-clause-passes g c = λ told. passes-crashed g.M.Medium g.met.M.Medium.only_now c.requires.struck c.reopen-core.ensures told c.in-Ok.found c.in-Ok.is c.requires.pass.own (on-ok _ _ _ c.in-Ok-noted.is c.note_crash-pass.ensures.ok)
 
 pub returns-in-Err-noted-clause-passes : goal.returns-in-Err-noted-clause-passes
-returns-in-Err-noted-clause-passes g c = λ told. passes-unnoted g.met.M.Medium.only_now c.requires.struck c.reopen-core.ensures told c.requires.pass.own (on-err _ _ _ c.in-Err-noted.is c.note_crash-pass.ensures.err)
+returns-in-Err-noted-clause-passes g c = λ told. passes-unnoted g.M.Medium g.met.M.Medium.only_now c.requires.struck c.reopen-core.ensures told c.requires.pass.own (on-err _ _ _ c.in-Err-noted.is c.note_crash-pass.ensures.err)
 
 pub returns-in-None-clause-passes : goal.returns-in-None-clause-passes
-returns-in-None-clause-passes g c = λ told. passes-reopened g.met.M.Medium.only_now c.requires.struck c.reopen-core.ensures told
+returns-in-None-clause-passes g c = λ told. passes-reopened g.M.Medium g.met.M.Medium.only_now c.requires.struck c.reopen-core.ensures told
 
 pub returns-in-Some-clause-passes : goal.returns-in-Some-clause-passes
-returns-in-Some-clause-passes g c = λ told. passes-on (passes-reopened g.met.M.Medium.only_now c.requires.struck c.reopen-core.ensures told) (c.go_down-pass.ensures.passes told)
+returns-in-Some-clause-passes g c = λ told. passes-on (passes-reopened g.M.Medium g.met.M.Medium.only_now c.requires.struck c.reopen-core.ensures told) (c.go_down-pass.ensures.passes told)
