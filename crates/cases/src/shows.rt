@@ -76,7 +76,7 @@ pub fn crashes_of(text: &str) -> Option<u64> {
     crashes.trim().parse().ok()
 }
 
-/// Whether a node is told as down.
+/// Whether a node is reported as down.
 pub fn is_down(said: &Said) -> bool {
     said.text.starts_with("down ") || said.text.contains("\ndown ")
 }

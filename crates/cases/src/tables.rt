@@ -46,7 +46,7 @@ impl Range {
         }
     }
 
-    // Of the calls in the last range at least so many are told, and no greater number.
+    // Of the calls in the last range at least so many are reported, and no greater number.
     fn show(&self, alloc: Global, said: &mut String, least: u64) -> Result<(), CaseFault> {
         let Range {
             first,
@@ -94,7 +94,7 @@ impl Table {
         Ok(())
     }
 
-    /// Shows it. No call's number above the least one is told.
+    /// Shows it. No call's number above the least one is reported.
     pub fn show(&self, said: &mut String, least: u64) -> Result<(), CaseFault> {
         for range in &self.ranges {
             range.show(self.alloc, said, least)?;

@@ -213,7 +213,7 @@ fn without_nodes<F: Fates, C: Clock, M: Medium, R: Wait>(
 /// Runs a plan over what the media of its nodes were opened as, in the order of the nodes: repositories
 /// first, rising. A medium that is missing couldn't be had. The emptied list has room for the media.
 ///
-/// Where a node can't be opened its Down is told, and no round follows. Where a broker's log shows a
+/// Where a node can't be opened its Down is reported, and no round follows. Where a broker's log shows a
 /// later run or another plan, no run begins, and nothing is added to any log.
 pub fn run<
     F: Fates + Drop + Send,

@@ -79,8 +79,8 @@ module _ {M : Type 0} (w : Media M) (old new : ShelfSight) (kept : List (Kept M)
       pub unasked : new.asked ≡ old.asked
       pub no_run : HasNoRun told
 
-    -- Memory ran out, and no trace is told. The media that the shelf gave are handed back, and none lost anything. They have a past all the same: none was written to; or there was a run, whose trace is
-    -- told to no one.
+    -- Memory ran out, and no trace is reported. The media that the shelf gave are handed back, and none lost anything. They have a past all the same: none was written to; or there was a run, whose trace is
+    -- reported to no one.
     pub record WantedMemory (told : Account) : Type 0 where
       pub trace : told.trace ≡ no_trace
       pub volumes : List (NodeVolumes w)
@@ -89,7 +89,7 @@ module _ {M : Type 0} (w : Media M) (old new : ShelfSight) (kept : List (Kept M)
       pub safe : Every (LosesNothing w old) kept
       pub past : IsTrue w.tells → AllZip (IsLeftAlone w) (map work_taken volumes) left ⊎ (HadMemory w volumes × RanUntold w plan told.asked_before (map work_taken volumes) left)
 
-    -- What came of running the plan: memory ran out; or a broker's log refuses it; or it ran, and is told unless memory ran out for that.
+    -- What came of running the plan: memory ran out; or a broker's log refuses it; or it ran, and is reported unless memory ran out for that.
     abbrev pub CameOf : Wanted → Options → Account → Sinking → ℕ → Type 0
     CameOf wanted o told s status = ((status ≡ 7) × (TookNothing told ⊎ WantedMemory told))
         ⊎ (((status ≡ 2) × IsRefusedByLog s × HasNoRun told)

@@ -1,4 +1,4 @@
--- How the history of an object is told, by the volumes of its repository.
+-- How the history of an object is reported, by the volumes of its repository.
 use Rattle.std.specs.Prelude.{◌≡◌, ◌⊎◌, ℕ, List, [], ◌∷◌, ◌++◌, length, map, Option, Result, Ok, Err}
 use Rattle.pseudo_time.specs.Nodes.{repository}
 use Rattle.pseudo_time.specs.declared.nodes.NodeId.{NodeId}

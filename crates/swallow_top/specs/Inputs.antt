@@ -1,4 +1,4 @@
--- What is said of an input that may not be told.
+-- What is said of an input that the source may not tell.
 use Rattle.std.specs.Prelude.{ℕ, List, Option, Some, None}
 
 -- P holds of the input, or of some bytes where it isn't told

@@ -1,4 +1,4 @@
--- How it is told what came of a command over the volumes of a repository: a question to its archive, or a watch.
+-- How it is reported what came of a command over the volumes of a repository: a question to its archive, or a watch.
 use Rattle.std.specs.Prelude.{◌≡◌, ◌⊎◌, ℕ, List}
 use Rattle.plan_volumes.specs.Media.{Media}
 use Rattle.plan_volumes.specs.KeptMedium.{Kept}
@@ -22,7 +22,7 @@ TellsOutcome (Fallen line) status s = Ends status s 6 line
 TellsOutcome NoMemory status s = status ≡ 7
 
 module _ {M : Type 0} (w : Media M) (old new : ShelfSight) where
-  -- The repository's volumes were taken and opened, this came of the question, and so it was told: over whatever past left them, lawfully. Nothing was written to the volumes, which are handed back.
+  -- The repository's volumes were taken and opened, this came of the question, and so it was reported: over whatever past left them, lawfully. Nothing was written to the volumes, which are handed back.
   pub record TellsAnswer (question : Question) (kept : List (Kept M)) (s : Sinking) (status : ℕ) : Type 0 where
     pub outcome : Outcome
     pub over : AnswersOver w old new question kept outcome

@@ -19,7 +19,7 @@ IsReadAs bytes (Err stop.Words) = ⊥
 IsReadAs bytes (Err (stop.Votes line)) = ⊥
 IsReadAs bytes (Err stop.Sink) = ⊥
 
--- The plan that the input is, which was read to its end; else what is wrong with it, or why it can't be told. The source has this before and after, and failed so often.
+-- The plan that the input is, which was read to its end; else what is wrong with it, or why it can't be read. The source has this before and after, and failed so often.
 abbrev pub ReadsPlan : (old new : Option (List ℕ)) → (faults_before faults : ℕ) → Result Plan Stop → Type 0
 ReadsPlan old new before after (Ok plan) = OfInput old (λ input. IsPlan input plan) × IsAtEnd new
 ReadsPlan old new before after (Err (stop.Fault line kind)) = OfInput old (λ input. IsPlanFault input line kind)

@@ -1,4 +1,4 @@
--- How the retirement of a repository is told.
+-- How the retirement of a repository is reported.
 use Rattle.std.specs.Prelude.{◌≡◌, ℕ, List}
 use Rattle.pseudo_time.specs.Nodes.{repository as named}
 use Rattle.pseudo_time.specs.TimeParts.{TimeParts}
@@ -21,7 +21,7 @@ TellsRetired (Refused line) status s = (status ≡ 8) × GotLine s line
 TellsRetired (Fallen line) status s = Ends status s 6 line
 TellsRetired NoMemory status s = status ≡ 7
 
--- The repository's volumes were taken and opened, this came of retiring it at the clock's mark, and so it was told. What is left of the volumes is handed back.
+-- The repository's volumes were taken and opened, this came of retiring it at the clock's mark, and so it was reported. What is left of the volumes is handed back.
 pub record TellsRetirement {M : Type 0} (w : Media M) (old new : ShelfSight) (repository clock : ℕ) (kept : List (Kept M)) (s : Sinking) (status : ℕ) : Type 0 where
   pub retired : Retired
   pub over : RetiresOver w old new (named repository) (mark_at clock) kept retired

@@ -1,4 +1,4 @@
--- How a run is told: its text and its status.
+-- How a run is reported: its text and its status.
 use Rattle.std.specs.Prelude.{◌≡◌, ◌⊎◌, ℕ, ◌==◌, List, if◌then◌else◌}
 use Rattle.plan_form.specs.declared.plans.Plan.{Plan}
 use Rattle.broker_core.specs.declared.resume_faults.ResumeFault.{ResumeFault}
@@ -32,7 +32,7 @@ OfRun (Ran t) P = P t
 OfRun (Refused fault) P = Unit {0}
 OfRun NoMemory P = Unit {0}
 
--- Of a run that ended so this status is told and this trace: its text, or the line that refuses its plan, unless memory ran out.
+-- Of a run that ended so this status is reported and this trace: its text, or the line that refuses its plan, unless memory ran out.
 abbrev pub TellsEnd : Wanted → Plan → End → ℕ → Trace → Sinking → Type 0
 TellsEnd wanted plan (Ran ran) status t s = (t ≡ ran) × EndsIfAny status s (status_of plan ran) (wanted_text wanted plan ran)
 TellsEnd wanted plan (Refused fault) status t s = (t ≡ no_trace) × ((status ≡ 7) ⊎ ((status ≡ 2) × GotLine s (resume_line fault)))

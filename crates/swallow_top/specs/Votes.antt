@@ -1,4 +1,4 @@
--- Votes: what their input is, and how they are told.
+-- Votes: what their input is, and how they are reported.
 use Rattle.std.specs.Prelude.{◌≡◌, ◌⊎◌, ℕ, ◌<◌, ◌^◌, IsTrue, List, length, Option, Result, Ok, Err, Vec}
 use Rattle.std.specs.declared.alloc.Global.{Global}
 use Rattle.std.specs.Io.KnownBytes.{IsAtEnd}
@@ -41,7 +41,7 @@ AreReadAs bytes (Err stop.Source) = ⊥
 AreReadAs bytes (Err stop.Words) = ⊥
 AreReadAs bytes (Err stop.Sink) = ⊥
 
--- The polls that the input is, which was read to its end; else what is wrong with it, or why it can't be told.
+-- The polls that the input is, which was read to its end; else what is wrong with it, or why it can't be read.
 abbrev pub ReadsPolls : (old new : Option (List ℕ)) → (faults_before faults : ℕ) → Result (Vec PollLine Global) Stop → Type 0
 ReadsPolls old new before after (Ok polls) = OfInput old (λ input. IsInput input polls.items) × IsAtEnd new
 ReadsPolls old new before after (Err (stop.Votes line)) = OfInput old (λ input. IsInputFault input line)
@@ -57,7 +57,7 @@ pub record AreNoPolls (input : List ℕ) (s : Sinking) : Type 0 where
   pub is_fault : IsInputFault input line
   pub told : GotLine s (fault_line line)
 
--- ---- what is told
+-- ---- what is reported
 
 -- how far members and polls go
 abbrev pub limits_of : Options → Limits
@@ -81,7 +81,7 @@ AreFew NoMemory = Unit {0}
 abbrev pub tellers_of : Account → Tellers
 tellers_of told = tellers told.asked_before told.asked told.answers_before told.answers
 
--- The members voted on the polls over the media that the shelf gave, and so it was told. There is no run.
+-- The members voted on the polls over the media that the shelf gave, and so it was reported. There is no run.
 pub record HavePolled {M : Type 0} (w : Media M) (old new : ShelfSight) (polls : List PollLine) (o : Options) (told : Account) (votes : Trace) (kept : List (Kept M)) (s : Sinking) (status : ℕ) : Type 0 where
   pub end : VoteEnd
   pub over : VotesOver w old new (limits_of o) polls (tellers_of told) kept end

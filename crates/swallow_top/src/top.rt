@@ -69,7 +69,7 @@ fn refused<O: Sink>(alloc: Global, stop: Stop, sink: &mut O) -> u8
 /// - `votes` reads polls from the source, lets three members vote on them over volumes 1,010 of
 ///   repositories 1 to 3, and writes how each stands;
 /// - `watch` brings the totals of a repository's objects by a rule up to date, which stand in its volume
-///   1,001, 1,002 or 1,003, over all settled versions that its complete volumes have, and writes them;
+///   1,001, 1,002 or 1,003, over all committed versions that its complete volumes have, and writes them;
 /// - `asof` writes the map of a repository's objects as of a mark, by its complete volumes together;
 /// - `audit` writes all versions of an object that they have, and which volume has each.
 ///
