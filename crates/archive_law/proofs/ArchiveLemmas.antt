@@ -1,20 +1,8 @@
 -- What a past left of a repository's complete volumes is an archive of all that ever stood there.
 use Rattle.std.proofs.Common.{◌≡◌, ◌⊎◌, inl, inr, ℕ, Bool, List, [], ◌∷◌, reverse, sym, ◌∙◌, subst, Some}
-use Rattle.pseudo_time.specs.Lists.{Has}
-use Rattle.pseudo_time.specs.Nodes.{repository}
-use Rattle.pseudo_time.specs.StampParts.{StampParts}
-use Rattle.pseudo_time.specs.TimeParts.{TimeParts}
-use Rattle.value_form.specs.declared.objects.ObjectId.{ObjectId}
-use Rattle.value_form.specs.declared.values.Value.{Value}
-use Rattle.effect_form.specs.declared.effects.Effect.{Effect}
+use Rattle.archive_law.proofs.Names.{Has, repository, StampParts, TimeParts, ObjectId, Value, Effect, settle_of, Gone, known, marks, own_reading, Earlier, TickedBy, replaced, EverStood, IsArchive, IsPast, WasDecided, archive, log_after, volumes_left}
 use Rattle.effect_form.specs.declared.effects.Effect.TheVariants as effect
 use Rattle.object_history.specs.declared.marks.Mark.TheVariants as mark
-use Rattle.object_history.specs.History.{settle_of}
-use Rattle.object_retirement.specs.Older.{Gone}
-use Rattle.repository_log.specs.Logs.{known, marks}
-use Rattle.world_core.specs.Pasts.{own_reading}
-use Rattle.serial_law.specs.Earlier.{Earlier, TickedBy, replaced}
-use Rattle.archive_law.specs.Archives.{EverStood, IsArchive, IsPast, WasDecided, archive, log_after, volumes_left}
 use Rattle.archive_law.proofs.CallLemmas.{last-stood, replaced-stood, stood-stands}
 use Rattle.archive_law.proofs.PastReadings.{Facts, facts-of, no_base}
 use Rattle.archive_law.proofs.VolumeLemmas as volumes

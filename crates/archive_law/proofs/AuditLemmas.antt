@@ -1,25 +1,9 @@
 -- An audit lists each version that ever stood, once, and tells the last volume that has it.
 use Rattle.std.proofs.Common.{◌≡◌, ◌+◌, ◌<◌, inl, inr, ℕ, zero, suc, Bool, true, false, List, [], ◌∷◌, ◌++◌, map, reverse, slice_get, refl, sym, ◌∙◌, ap, subst, Option, Some, None, arith}
 use Rattle.std.proofs.lemmas.Bool.{true≢false}
-use Rattle.pseudo_time.specs.Lists.{Has}
-use Rattle.pseudo_time.specs.Nodes.{repository}
-use Rattle.pseudo_time.specs.TimeParts.{TimeParts}
-use Rattle.pseudo_time.proofs.ListLemmas.{has-either, has-left, has-reverse, has-right}
-use Rattle.value_form.specs.declared.objects.ObjectId.{ObjectId}
-use Rattle.value_form.specs.declared.values.Value.{Value}
-use Rattle.effect_form.specs.declared.effects.Effect.{Effect}
+use Rattle.archive_law.proofs.Names.{Has, repository, TimeParts, has-either, has-left, has-reverse, has-right, ObjectId, Value, Effect, Mark, listed, marks, put-logged, Version, version_of, has_start, own_reading, Earlier, replaced, has-map, map-has, EverStood, IsArchive, IsPast, archive, log_after, volumes_left}
 use Rattle.effect_form.specs.declared.effects.Effect.TheVariants as effect
-use Rattle.object_history.specs.declared.marks.Mark.{Mark}
-use Rattle.object_history.specs.Settled.{listed}
-use Rattle.repository_log.specs.Logs.{marks}
-use Rattle.repository_laws.proofs.Logs.{put-logged}
-use Rattle.commit_watch.specs.declared.versions.Version.{Version}
-use Rattle.commit_watch.specs.Folds.{version_of}
-use Rattle.archive_store.specs.Joined.{has_start, holder_of, later}
-use Rattle.world_core.specs.Pasts.{own_reading}
-use Rattle.serial_law.specs.Earlier.{Earlier, replaced}
-use Rattle.serial_law.proofs.Growths.{has-map, map-has}
-use Rattle.archive_law.specs.Archives.{EverStood, IsArchive, IsPast, archive, log_after, volumes_left}
+use Rattle.archive_store.specs.Joined.{holder_of, later}
 use Rattle.archive_law.specs.Audits.{HoldsLast, ListsAll}
 use Rattle.archive_law.proofs.ArchiveLemmas.{archive-is, same-put}
 use Rattle.archive_law.proofs.CallLemmas.{StandsIn, stood-stands}

@@ -2,23 +2,12 @@
 use Rattle.std.proofs.Common.{◌≡◌, inl, inr, ℕ, Bool, true, false, List, [], ◌∷◌, ◌++◌, take, reverse, if◌then◌else◌, refl, sym, ◌∙◌, ap, subst, Option, Some, None, is_some, append_assoc}
 use Rattle.std.specs.Option.{unwrap_or}
 use Rattle.std.proofs.lemmas.List.{reverse-reverse}
-use Rattle.pseudo_time.specs.Lists.{Has}
-use Rattle.pseudo_time.specs.Nodes.{repository, same_node}
-use Rattle.pseudo_time.specs.declared.nodes.NodeId.{NodeId}
-use Rattle.pseudo_time.proofs.ListLemmas.{has-left, has-reverse}
-use Rattle.effect_form.specs.declared.effects.Effect.{Effect}
+use Rattle.archive_law.proofs.Names.{Has, repository, same_node, NodeId, has-left, has-reverse, Effect, TimeParts, forward, forwarded, forwarded-has, base_of, in_plan, Call, log_left, own_reading, walk_from, AreEarlier, Earlier, replaced, Running, Retiring, EverStood, log_after, log_there}
 use Rattle.effect_form.specs.declared.effects.Effect.TheVariants as effect
-use Rattle.pseudo_time.specs.TimeParts.{TimeParts}
-use Rattle.object_retirement.specs.Forward.{forward, forwarded}
-use Rattle.object_retirement.proofs.ForwardLemmas.{forwarded-has}
 use Rattle.world_core.specs.declared.entries.Entry.{Entry}
-use Rattle.world_core.specs.Legal.{base_of, in_plan}
-use Rattle.world_core.specs.Pasts.{Call, IsCall, log_left, own_reading}
-use Rattle.world_core.specs.Walks.{Life, opened_log, walk, walk_from}
+use Rattle.world_core.specs.Pasts.{IsCall}
+use Rattle.world_core.specs.Walks.{Life, opened_log, walk}
 use Rattle.world_core.proofs.Lives.{gated-grows}
-use Rattle.serial_law.specs.Earlier.{AreEarlier, Earlier, replaced}
-use Rattle.serial_law.specs.Earlier.Earlier.{Running, Retiring}
-use Rattle.archive_law.specs.Archives.{EverStood, log_after, log_there}
 
 -- ---- a run adds to a log
 

@@ -2,39 +2,18 @@
 use Rattle.std.proofs.Common.{◌≡◌, ◌⊎◌, inl, inr, ℕ, Bool, true, false, List, [], ◌∷◌, ◌++◌, map, reverse, if◌then◌else◌, refl, sym, ◌∙◌, ap, subst, Option, Some, append_assoc}
 use Rattle.std.proofs.lemmas.Bool.{true≢false}
 use Rattle.std.proofs.lemmas.List.{reverse-append, reverse-reverse}
-use Rattle.pseudo_time.specs.Lists.{Has}
-use Rattle.pseudo_time.specs.Nodes.{repository, same_node}
-use Rattle.pseudo_time.specs.Order.{lt}
-use Rattle.pseudo_time.specs.StampParts.{StampParts}
-use Rattle.pseudo_time.specs.TimeParts.{TimeParts}
-use Rattle.pseudo_time.proofs.ListLemmas.{has-either, has-left, has-reverse, has-right}
-use Rattle.pseudo_time.proofs.OrderLemmas.{lt-irreflexive, lt-split}
-use Rattle.value_form.specs.declared.objects.ObjectId.{ObjectId}
-use Rattle.value_form.specs.declared.values.Value.{Value}
-use Rattle.effect_form.specs.declared.effects.Effect.{Effect}
+use Rattle.archive_law.proofs.Names.{Has, repository, same_node, lt, StampParts, TimeParts, has-either, has-left, has-reverse, has-right, lt-irreflexive, lt-split, ObjectId, Value, Effect, Mark, floor_of, settle_of, forward, forwarded, Gone, forwarded-has, starts-has, known, marks, Tree, Call, log_left, own_reading, Earlier, replaced, Running, Retiring, node_facts, marks-append, EverStood, IsPast, WasDecided, log_after, log_there}
 use Rattle.effect_form.specs.declared.effects.Effect.TheVariants as effect
 use Rattle.message_form.specs.Growth.{Grew}
-use Rattle.object_history.specs.declared.marks.Mark.{Mark}
 use Rattle.object_history.specs.declared.marks.Mark.TheVariants as mark
-use Rattle.object_history.specs.History.{alive, floor_of, is_alive, settle_of, top}
+use Rattle.object_history.specs.History.{alive, is_alive, top}
 use Rattle.object_history.specs.Views.{Fits}
 use Rattle.object_history.proofs.ScanLemmas.{puts-below, settled-kept}
-use Rattle.object_retirement.specs.Forward.{forward, forwarded}
-use Rattle.object_retirement.specs.Older.{Gone}
 use Rattle.object_retirement.proofs.ChainLemmas.{put-on-floor}
-use Rattle.object_retirement.proofs.ForwardLemmas.{decide-forwarded, forwarded-has, known-carried}
-use Rattle.object_retirement.proofs.RetiredLemmas.{starts-has}
-use Rattle.repository_log.specs.Logs.{known, marks}
+use Rattle.object_retirement.proofs.ForwardLemmas.{decide-forwarded, known-carried}
 use Rattle.repository_laws.specs.Facts.{FitsLog}
-use Rattle.serial_model.specs.Questions.{Tree}
-use Rattle.world_core.specs.Pasts.{Call, log_left, own_reading}
-use Rattle.serial_law.specs.Earlier.{Earlier, replaced}
-use Rattle.serial_law.specs.Earlier.Earlier.{Running, Retiring}
-use Rattle.serial_law.specs.NodeRules.{node_facts}
 use Rattle.serial_law.specs.Rules.{GrownFrom}
 use Rattle.serial_law.specs.Soft.{Lineage}
-use Rattle.serial_law.proofs.OldChains.{marks-append}
-use Rattle.archive_law.specs.Archives.{EverStood, IsPast, WasDecided, log_after, log_there}
 use Rattle.archive_law.proofs.ArchiveLemmas.{here-or-gone}
 use Rattle.archive_law.proofs.CallLemmas.{IsLasting, last-stood, place-left, replaced-stood, retired-old, run-grows, stood-stands}
 use Rattle.archive_law.proofs.PastReadings.{facts-of}

@@ -1,38 +1,18 @@
 -- The facts of a run without acts over what a past left; and so its archive tells the map.
 use Rattle.std.proofs.Common.{◌≡◌, ◌⊎◌, ◌≤◌, inl, inr, ℕ, Bool, true, false, List, [], ◌∷◌, ◌++◌, map, filter, reverse, if◌then◌else◌, refl, sym, ◌∙◌, ap, subst, nat_le, ◌&&◌}
 use Rattle.std.proofs.lemmas.Bool.{false≢true, le-leb}
-use Rattle.pseudo_time.specs.Lists.{Has}
-use Rattle.pseudo_time.specs.Nodes.{repository}
-use Rattle.pseudo_time.specs.StampParts.{StampParts}
-use Rattle.pseudo_time.specs.declared.decisions.Decision.{Decision}
+use Rattle.archive_law.proofs.Names.{Has, repository, StampParts, Decision, NodeId, Effect, Post, settle_of, Distinct, is_commit, marks, RestsOn, decide-home, decided-once, put-logged, Tree, RunLogs, before, in_run, log_of, own_reading, Base, Earlier, TickedBy, replaced, node_facts, OlderFacts, each-has, map-has, RunFacts, whole_log, put-asked, IsPast, archive, log_after, volumes_left, TellsMap}
 use Rattle.pseudo_time.specs.declared.decisions.Decision.TheVariants as decision
-use Rattle.pseudo_time.specs.declared.nodes.NodeId.{NodeId}
-use Rattle.effect_form.specs.declared.effects.Effect.{Effect}
 use Rattle.effect_form.specs.declared.effects.Effect.TheVariants as effect
 use Rattle.message_form.specs.declared.messages.Message.{Message}
 use Rattle.message_form.specs.declared.messages.Message.TheVariants as message
-use Rattle.message_form.specs.Posts.{Post}
 use Rattle.object_history.specs.declared.marks.Mark.TheVariants as mark
-use Rattle.object_history.specs.History.{settle_of}
-use Rattle.object_history.specs.Views.{Distinct}
-use Rattle.repository_log.specs.Logs.{is_commit, marks}
-use Rattle.repository_laws.specs.Facts.{RestsOn}
-use Rattle.repository_laws.proofs.Logs.{decide-home, decided-once, learn-home, put-logged}
-use Rattle.serial_model.specs.Questions.{Tree}
-use Rattle.world_core.specs.Deeds.{RunLogs, before, in_run, log_of}
-use Rattle.world_core.specs.Pasts.{own_reading}
-use Rattle.world_core.specs.Walks.{Base}
-use Rattle.serial_law.specs.Earlier.{Earlier, TickedBy, replaced}
-use Rattle.serial_law.specs.NodeRules.{node_facts}
-use Rattle.serial_law.specs.Refines.{OlderFacts}
-use Rattle.serial_law.proofs.Growths.{each-has, map-has}
-use Rattle.serial_law.specs.Facts.{RunFacts, Said}
-use Rattle.serial_law.specs.Wholes.{whole_log, whole_run}
+use Rattle.repository_laws.proofs.Logs.{learn-home}
+use Rattle.serial_law.specs.Facts.{Said}
+use Rattle.serial_law.specs.Wholes.{whole_run}
 use Rattle.serial_law.proofs.RunFacts.{said-of}
-use Rattle.serial_law.proofs.WholeFacts.{put-asked}
 use Rattle.serial_law.proofs.WholeLemmas.{marks-whole, other-whole, put-once, settle-whole, whole-has}
-use Rattle.archive_law.specs.Archives.{IsPast, archive, log_after, volumes_left}
-use Rattle.archive_law.specs.AsOf.{TellsMap, idle_run}
+use Rattle.archive_law.specs.AsOf.{idle_run}
 use Rattle.archive_law.proofs.MapLemmas.{Archives, tells-map}
 use Rattle.archive_law.proofs.PastReadings.{Facts, facts-of, no_base}
 use Rattle.archive_law.proofs.VolumeLemmas.{all-here, archive-from, archive-has, archive-settles, put-home, put-marked, put-step, unturned}

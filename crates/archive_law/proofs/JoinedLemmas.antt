@@ -3,24 +3,11 @@ use Rattle.std.proofs.Common.{◌≡◌, ◌≢◌, Bool, true, false, List, [],
 use Rattle.std.proofs.lemmas.Bool.{true≢false, false≢true, or_left, or_right, or_cases}
 use Rattle.std.proofs.lemmas.List.{reverse-append, reverse-reverse}
 use Rattle.std.proofs.lemmas.List.Elements.{filter-append}
-use Rattle.pseudo_time.specs.Lists.{Every, Has}
-use Rattle.pseudo_time.specs.Order.{same_stamp, same_time}
-use Rattle.pseudo_time.specs.StampParts.{StampParts}
-use Rattle.pseudo_time.specs.TimeParts.{TimeParts}
-use Rattle.pseudo_time.proofs.ListLemmas.{every-reverse, has-either, has-left, has-reverse, has-right}
+use Rattle.archive_law.proofs.Names.{Every, Has, same_stamp, same_time, StampParts, TimeParts, has-either, has-left, has-reverse, has-right, ObjectId, Value, Mark, Put, Stretch, Settle, Floor, same_object, floor_of, settle_of, Distinct, Starts, and-both, and-left, and-right, same_object-is, same_object-of, starts-has, is_under, all_firsts, firsts, has_start, joined, last_log, met_after}
+use Rattle.pseudo_time.proofs.ListLemmas.{every-reverse}
 use Rattle.pseudo_time.proofs.OrderLemmas.{same_time-is, same_time-of}
-use Rattle.value_form.specs.declared.objects.ObjectId.{ObjectId}
-use Rattle.value_form.specs.declared.values.Value.{Value}
-use Rattle.object_history.specs.declared.marks.Mark.{Mark}
-use Rattle.object_history.specs.declared.marks.Mark.TheVariants.{Put, Stretch, Settle, Floor}
-use Rattle.object_history.specs.Objects.{same_object}
-use Rattle.object_history.specs.History.{floor_of, or_else, settle_of}
-use Rattle.object_history.specs.Views.{Distinct, Starts}
-use Rattle.object_history.proofs.BoolLemmas.{and-both, and-left, and-right}
-use Rattle.object_history.proofs.ObjectLemmas.{same_object-is, same_object-of}
-use Rattle.object_retirement.proofs.RetiredLemmas.{starts-has}
-use Rattle.commit_watch.specs.Folds.{is_under}
-use Rattle.archive_store.specs.Joined.{all_firsts, firsts, given_up, has_start, is_floor, is_new, joined, last_log, met_after}
+use Rattle.object_history.specs.History.{or_else}
+use Rattle.archive_store.specs.Joined.{given_up, is_floor, is_new}
 
 -- ---- versions apart
 
@@ -123,15 +110,11 @@ reverse-plain (f ∷ m) = go (not (is_floor f)) refl ∙ sym (ap plain (reverse-
       where
         split : (f : Mark) (m : List Mark) → plain (f ∷ m) ≡ plain (f ∷ []) ++ plain m
         split (Put o x v) m = refl
-        split (Stretch o x) m = refl
-        split (Settle s c) m = refl
-        split (Floor z) m = refl
+        split _ m = refl
 
         one : (f : Mark) → reverse (plain (f ∷ [])) ≡ plain (f ∷ [])
         one (Put o x v) = refl
-        one (Stretch o x) = refl
-        one (Settle s c) = refl
-        one (Floor z) = refl
+        one _ = refl
 
 -- ---- an object and start that was met
 
@@ -210,15 +193,11 @@ fresh-distinct floor met (f ∷ fs) d h = subst Distinct (sym (turned f fs met))
 
 abbrev IsPut : Mark → Type 0
 IsPut (Put o x v) = Unit {0}
-IsPut (Stretch o x) = ⊥
-IsPut (Settle s c) = ⊥
-IsPut (Floor z) = ⊥
+IsPut _ = ⊥
 
 new-put : (floor : Option TimeParts) (met : List Mark) (f : Mark) → is_new floor met f ≡ true → IsPut f
 new-put floor met (Put o x v) h = tt
-new-put floor met (Stretch o x) h = absurd (false≢true h)
-new-put floor met (Settle s c) h = absurd (false≢true h)
-new-put floor met (Floor z) h = absurd (false≢true h)
+new-put floor met _ h = absurd (false≢true h)
 
 fresh-puts : (floor : Option TimeParts) (met fs : List Mark) → Fresh floor met fs → Every IsPut fs
 fresh-puts floor met [] h = tt

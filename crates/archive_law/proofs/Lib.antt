@@ -12,3 +12,4 @@ pub mod TotalLemmas
 pub mod VolumeLemmas
 pub mod WorkedArchives
 pub use Rattle.serial_law.proofs.Growths
+pub mod Names

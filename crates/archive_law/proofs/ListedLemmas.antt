@@ -2,29 +2,13 @@
 use Rattle.std.proofs.Common.{◌≡◌, ◌≢◌, Bool, true, false, List, [], ◌∷◌, ◌++◌, map, filter, refl, sym, ◌∙◌, ap, subst, Option, Some, None, ◌&&◌, ◌||◌, not, if◌then◌else◌, ◌⊎◌, inl, inr}
 use Rattle.std.specs.Prelude.{Result, Ok, Err}
 use Rattle.std.proofs.lemmas.Bool.{true≢false, false≢true}
-use Rattle.pseudo_time.specs.Lists.{Every, Has}
-use Rattle.pseudo_time.specs.Order.{lt}
-use Rattle.pseudo_time.specs.TimeParts.{TimeParts}
+use Rattle.archive_law.proofs.Names.{Every, Has, lt, TimeParts, lt-irreflexive, ObjectId, Value, Mark, Put, Stretch, Settle, Floor, same_object, Seen, version_count, some_put, insert, listed, Distinct, Starts, and-both, and-left, and-right, same_object-is, same_object-of, WatchFault, Moved, Version, moved_over, version_of, Rises}
 use Rattle.pseudo_time.proofs.ListLemmas.{every-has, every-map}
-use Rattle.pseudo_time.proofs.OrderLemmas.{lt-asymmetric, lt-irreflexive, lt-total, lt-trans}
-use Rattle.value_form.specs.declared.objects.ObjectId.{ObjectId}
-use Rattle.value_form.specs.declared.values.Value.{Value}
-use Rattle.object_history.specs.declared.marks.Mark.{Mark}
-use Rattle.object_history.specs.declared.marks.Mark.TheVariants.{Put, Stretch, Settle, Floor}
-use Rattle.object_history.specs.Objects.{same_object}
-use Rattle.object_history.specs.History.{Seen, version_count}
-use Rattle.object_history.specs.Answers.{some_put}
-use Rattle.object_history.specs.Settled.{insert, listed}
-use Rattle.object_history.specs.Views.{Distinct, Starts}
-use Rattle.object_history.proofs.BoolLemmas.{and-both, and-left, and-right, not-true}
-use Rattle.object_history.proofs.ObjectLemmas.{same_object-is, same_object-of}
+use Rattle.pseudo_time.proofs.OrderLemmas.{lt-asymmetric, lt-total, lt-trans}
+use Rattle.object_history.proofs.BoolLemmas.{not-true}
 use Rattle.object_history.proofs.SettledLemmas.{listed-passes}
-use Rattle.commit_watch.specs.declared.faults.WatchFault.{WatchFault}
-use Rattle.commit_watch.specs.declared.moved.Moved.{Moved}
-use Rattle.commit_watch.specs.declared.versions.Version.{Version}
-use Rattle.commit_watch.specs.Folds.{and_then, moved_over, moved_to, version_of}
+use Rattle.commit_watch.specs.Folds.{and_then, moved_to}
 use Rattle.commit_watch.specs.Lists.{total_of}
-use Rattle.archive_law.specs.Audits.{Rises}
 
 -- ---- what is listed
 

@@ -2,34 +2,21 @@
 use Rattle.std.proofs.Common.{◌≡◌, ◌==◌, ◌≤◌, ℕ, nat_lt, Bool, true, false, List, if◌then◌else◌, refl, sym, ◌∙◌, ap, subst, Option, Some, None, ◌&&◌, not, arith}
 use Rattle.std.proofs.lemmas.Bool.{true≢false, false≢true}
 use Rattle.std.proofs.lemmas.Bool.Decides.{nat_tests}
-use Rattle.pseudo_time.specs.Lists.{Has}
-use Rattle.pseudo_time.specs.Order.{lt, stamp_lt}
-use Rattle.pseudo_time.specs.StampParts.{StampParts}
-use Rattle.pseudo_time.specs.TimeParts.{TimeParts}
+use Rattle.archive_law.proofs.Names.{Has, lt, StampParts, TimeParts, ObjectId, Value, Nothing, Post, Mark, Seen, is_committed, is_settled, scan, settle_of, value_of, marks, last_below, first_open, RunLogs, before, in_run, log_of, RunFacts, TellsMap}
+use Rattle.pseudo_time.specs.Order.{stamp_lt}
 use Rattle.pseudo_time.proofs.OrderLemmas.{lt-own, lt-stamps, lt-steps}
-use Rattle.value_form.specs.declared.objects.ObjectId.{ObjectId}
-use Rattle.value_form.specs.declared.values.Value.{Value}
-use Rattle.value_form.specs.declared.values.Value.TheVariants.{Nothing}
 use Rattle.value_form.specs.Objects.{value_at}
-use Rattle.message_form.specs.Posts.{Post}
-use Rattle.object_history.specs.declared.marks.Mark.{Mark}
 use Rattle.object_history.specs.declared.marks.Mark.TheVariants as mark
-use Rattle.object_history.specs.History.{Seen, is_committed, is_settled, scan, settle_of}
-use Rattle.object_history.specs.Views.{value_of}
 use Rattle.object_history.proofs.ObjectLemmas.{eq-from}
 use Rattle.object_history.proofs.ScanLemmas.{Standing, same-scan, standing, stands-has}
 use Rattle.object_retirement.specs.Retired.{Same}
 use Rattle.object_retirement.proofs.RetiredLemmas.{same-found, same-values}
-use Rattle.repository_log.specs.Logs.{marks}
-use Rattle.archive_store.specs.Latest.{last_below}
-use Rattle.archive_store.specs.Opens.{first_open}
 use Rattle.archive_store.proofs.ArchiveLemmas.{closed-by}
-use Rattle.world_core.specs.Deeds.{RunLogs, before, committed, in_run, log_of, marks_at}
-use Rattle.serial_law.specs.Facts.{RunFacts}
+use Rattle.world_core.specs.Deeds.{committed, marks_at}
 use Rattle.serial_law.proofs.Before.{before-holds}
 use Rattle.serial_law.proofs.LogLemmas.{marks-in}
 use Rattle.serial_law.proofs.Settled.{sure-no, sure-yes}
-use Rattle.archive_law.specs.AsOf.{TellsMap, first_of, value_in}
+use Rattle.archive_law.specs.AsOf.{first_of, value_in}
 use Rattle.archive_law.proofs.JoinedLemmas.{starts-from}
 use Rattle.archive_law.proofs.ListedLemmas.{passes-none}
 

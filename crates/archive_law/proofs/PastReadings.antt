@@ -1,29 +1,16 @@
 -- One reading of the scripts of all runs of a past, and the facts of the logs that it left.
 use Rattle.std.proofs.Common.{◌≡◌, ◌⊎◌, inl, inr, ℕ, Bool, true, false, nat_le, ◌&&◌, List, [], ◌∷◌, reverse, if◌then◌else◌, refl, sym, ◌∙◌, ap, subst, arith}
 use Rattle.std.proofs.lemmas.Bool.{leb-true}
-use Rattle.pseudo_time.specs.Nodes.{repository, same_node}
-use Rattle.pseudo_time.specs.declared.nodes.NodeId.{NodeId}
+use Rattle.archive_law.proofs.Names.{repository, same_node, NodeId, Post, Tree, Plan, IsOfLanguage, forward, Asked, Trace, base_of, alike, own_reading, IsLegal, Base, walk_from, AreEarlier, Earlier, TickedBy, WereLeftOrRetired, replaced, sent_earlier, Running, Retiring, node_facts, OlderFacts, IsPast, log_after}
 use Rattle.pseudo_time.specs.declared.nodes.NodeKind.{NodeKind}
 use Rattle.pseudo_time.specs.declared.nodes.NodeKind.TheVariants.{Repository, Broker}
 use Rattle.value_form.specs.declared.endings.Ending.TheVariants as ending
-use Rattle.message_form.specs.Posts.{Post}
-use Rattle.serial_model.specs.Questions.{Tree, Ends}
-use Rattle.plan_form.specs.declared.plans.Plan.{Plan}
-use Rattle.plan_form.specs.PlanTexts.{IsOfLanguage}
-use Rattle.object_retirement.specs.Forward.{MayRetire, forward}
-use Rattle.stream_port.specs.declared.fates.Asked.{Asked}
-use Rattle.world_core.specs.declared.traces.Trace.{Trace}
-use Rattle.world_core.specs.Legal.{Legal, Meets, base_of, is_within, most_of}
-use Rattle.world_core.specs.Pasts.{alike, own_reading}
-use Rattle.world_core.specs.Readings.{IsLegal}
-use Rattle.world_core.specs.Walks.{Base, walk_from}
-use Rattle.serial_law.specs.Earlier.{AreEarlier, AreOfLanguage, Earlier, TickedBy, WereLeftOrRetired, logs_left, replaced, sent_earlier}
-use Rattle.serial_law.specs.Earlier.Earlier.{Running, Retiring}
-use Rattle.serial_law.specs.NodeRules.{node_facts}
-use Rattle.serial_law.specs.Refines.{OlderFacts}
+use Rattle.serial_model.specs.Questions.{Ends}
+use Rattle.object_retirement.specs.Forward.{MayRetire}
+use Rattle.world_core.specs.Legal.{Legal, Meets, is_within, most_of}
+use Rattle.serial_law.specs.Earlier.{AreOfLanguage, logs_left}
 use Rattle.serial_law.proofs.EarlierLemmas.{older-facts}
 use Rattle.serial_law.proofs.OlderReading.{OneReading, older-reading}
-use Rattle.archive_law.specs.Archives.{IsPast, log_after}
 
 -- ---- one reading
 

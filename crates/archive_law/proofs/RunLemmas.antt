@@ -1,29 +1,18 @@
 -- The archive at the end of a run tells the map that the run's committed scripts leave, each carried out alone.
 use Rattle.std.proofs.Common.{◌≡◌, ℕ, nat_le, true, ◌&&◌, List, [], ◌∷◌, ◌++◌, map, reverse, refl, sym, ◌∙◌, ap, subst}
 use Rattle.std.proofs.lemmas.List.{reverse-reverse}
-use Rattle.pseudo_time.specs.Nodes.{repository}
-use Rattle.pseudo_time.specs.StampParts.{StampParts}
-use Rattle.pseudo_time.specs.declared.nodes.NodeId.{NodeId}
-use Rattle.effect_form.specs.declared.effects.Effect.{Effect}
-use Rattle.stream_port.specs.declared.fates.Asked.{Asked}
-use Rattle.plan_form.specs.declared.plans.Plan.{Plan}
-use Rattle.plan_form.specs.PlanTexts.{IsOfLanguage}
-use Rattle.world_core.specs.declared.traces.Trace.{Trace}
-use Rattle.world_core.specs.Deeds.{Try, before}
-use Rattle.world_core.specs.Legal.{base_of, in_plan}
-use Rattle.world_core.specs.Pasts.{OpenedWith, alike, own_reading}
-use Rattle.world_core.specs.Readings.{IsLegal, gated_log}
+use Rattle.archive_law.proofs.Names.{repository, StampParts, NodeId, Effect, Asked, Plan, IsOfLanguage, Trace, before, base_of, in_plan, alike, own_reading, IsLegal, WereLeftOrRetired, replaced, sent_earlier, whole_log, archive, TellsMap}
+use Rattle.world_core.specs.Deeds.{Try}
+use Rattle.world_core.specs.Pasts.{OpenedWith}
+use Rattle.world_core.specs.Readings.{gated_log}
 use Rattle.world_core.specs.Walks.{sent_by}
-use Rattle.serial_law.specs.Earlier.{WereLeftOrRetired, replaced, sent_earlier}
 use Rattle.serial_law.specs.Refines.{logs_at}
 use Rattle.serial_law.specs.Runs.{Position, TickedBefore, log_at, olds_at, run_at, sent_before, whole_at, world_at}
 use Rattle.serial_law.specs.Serials.{run_in, whole_in}
-use Rattle.serial_law.specs.Wholes.{whole_log}
 use Rattle.serial_law.proofs.SameRuns.{before-same}
 use Rattle.serial_law.proofs.SerialRuns.{Placed, placed}
 use Rattle.serial_law.proofs.Traces.{place-facts, place-serial-facts}
-use Rattle.archive_law.specs.Archives.{archive, volumes_with}
-use Rattle.archive_law.specs.AsOf.{TellsMap}
+use Rattle.archive_law.specs.Archives.{volumes_with}
 use Rattle.archive_law.proofs.IdleLemmas.{archives}
 use Rattle.archive_law.proofs.MapLemmas.{tells-map}
 

@@ -3,33 +3,17 @@ use Rattle.std.proofs.Common.{◌≡◌, ◌⊎◌, inl, inr, ℕ, Bool, true, f
 use Rattle.std.specs.Prelude.{Result, Ok, Err}
 use Rattle.std.proofs.lemmas.Bool.{true≢false, false≢true}
 use Rattle.std.proofs.lemmas.List.{map-append}
-use Rattle.pseudo_time.specs.Lists.{Has}
-use Rattle.pseudo_time.specs.Nodes.{repository}
-use Rattle.pseudo_time.specs.Order.{lt}
-use Rattle.pseudo_time.specs.TimeParts.{TimeParts}
-use Rattle.pseudo_time.proofs.OrderLemmas.{lt-irreflexive, lt-split}
-use Rattle.value_form.specs.declared.objects.ObjectId.{ObjectId}
-use Rattle.value_form.specs.declared.values.Value.{Value}
+use Rattle.archive_law.proofs.Names.{Has, repository, lt, TimeParts, lt-irreflexive, lt-split, ObjectId, Value, Mark, Seen, floor_of, is_committed, is_settled, settle_of, listed, and-both, and-left, and-right, known, WatchFault, Moved, Version, advanced, moved_over, version_of, Earlier, has-map, map-has, EverStood, IsArchive, IsPast, WasDecided, archive, log_after, volumes_left, Rises}
 use Rattle.effect_form.specs.declared.effects.Effect.TheVariants as effect
-use Rattle.object_history.specs.declared.marks.Mark.{Mark}
 use Rattle.object_history.specs.declared.marks.Mark.TheVariants as mark
-use Rattle.object_history.specs.History.{Seen, floor_of, is_committed, is_settled, settle_of}
-use Rattle.object_history.specs.Settled.{is_blocked, listed, settled_versions}
+use Rattle.object_history.specs.Settled.{is_blocked, settled_versions}
 use Rattle.object_history.proofs.AnswerLemmas.{committed}
-use Rattle.object_history.proofs.BoolLemmas.{and-both, and-left, and-right, not-false}
-use Rattle.repository_log.specs.Logs.{known}
-use Rattle.commit_watch.specs.declared.faults.WatchFault.{WatchFault}
-use Rattle.commit_watch.specs.declared.moved.Moved.{Moved}
-use Rattle.commit_watch.specs.declared.versions.Version.{Version}
-use Rattle.commit_watch.specs.Folds.{advanced, fresh, is_retired, moved_over, unless_retired, version_of}
+use Rattle.object_history.proofs.BoolLemmas.{not-false}
+use Rattle.commit_watch.specs.Folds.{fresh, is_retired, unless_retired}
 use Rattle.commit_watch.specs.Lists.{cursor_of}
 use Rattle.commit_watch.specs.Totals.{IsTotal, folded_so_far}
 use Rattle.commit_watch.proofs.StandingLemmas.{filter-listed}
 use Rattle.commit_watch.proofs.TotalLemmas.{total-advanced}
-use Rattle.serial_law.specs.Earlier.{Earlier}
-use Rattle.serial_law.proofs.Growths.{has-map, map-has}
-use Rattle.archive_law.specs.Archives.{EverStood, IsArchive, IsPast, WasDecided, archive, log_after, volumes_left}
-use Rattle.archive_law.specs.Audits.{Rises}
 use Rattle.archive_law.specs.Totals.{AreWatches, CountsAll, Event, IsCounted, archive_then, calls_of, totals_of}
 use Rattle.archive_law.specs.Totals.Event.{Calling, Watching}
 use Rattle.archive_law.proofs.ArchiveLemmas.{archive-is, known-decided, one-decision}

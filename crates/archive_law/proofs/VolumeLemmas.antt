@@ -1,42 +1,17 @@
 -- The archive of a repository's volumes has each version of its logs, older and last, once; and it settles attempts as the last log does.
 use Rattle.std.proofs.Common.{◌≡◌, ◌⊎◌, ◌≤◌, inl, inr, ℕ, Bool, true, List, [], ◌∷◌, ◌++◌, map, reverse, refl, sym, ◌∙◌, ap, subst, Some}
 use Rattle.std.proofs.lemmas.List.{map-append, reverse-append, reverse-reverse}
-use Rattle.pseudo_time.specs.Lists.{Has}
-use Rattle.pseudo_time.specs.Nodes.{repository}
-use Rattle.pseudo_time.specs.StampParts.{StampParts}
-use Rattle.pseudo_time.specs.TimeParts.{TimeParts}
-use Rattle.pseudo_time.specs.declared.decisions.Decision.{Decision}
-use Rattle.pseudo_time.specs.declared.nodes.NodeId.{NodeId}
-use Rattle.pseudo_time.proofs.ListLemmas.{has-either, has-left, has-reverse, has-right}
-use Rattle.value_form.specs.declared.objects.ObjectId.{ObjectId}
-use Rattle.value_form.specs.declared.values.Value.{Value}
-use Rattle.effect_form.specs.declared.effects.Effect.{Effect}
+use Rattle.archive_law.proofs.Names.{Has, repository, StampParts, TimeParts, Decision, NodeId, has-either, has-left, has-reverse, has-right, ObjectId, Value, Effect, Post, Mark, floor_of, settle_of, Distinct, Gone, is_commit, known, marks, RestsOn, decide-home, decided-once, put-logged, is_under, joined, put-asked, Tree, Base, node_facts, OlderFacts, each-has, has-map, map-has, marks-append, archive}
 use Rattle.effect_form.specs.declared.effects.Effect.TheVariants as effect
-use Rattle.message_form.specs.Posts.{Post}
-use Rattle.object_history.specs.declared.marks.Mark.{Mark}
 use Rattle.object_history.specs.declared.marks.Mark.TheVariants as mark
-use Rattle.object_history.specs.History.{floor_of, settle_of}
-use Rattle.object_history.specs.Views.{Distinct}
 use Rattle.object_retirement.specs.Chains as chains
-use Rattle.object_retirement.specs.Older.{Gone}
 use Rattle.object_retirement.specs.Stood.{all_stood}
 use Rattle.object_retirement.proofs.ChainLemmas.{chain-distinct, chain-given, some-given}
 use Rattle.object_retirement.proofs.RetiredLemmas.{one-value}
-use Rattle.repository_log.specs.Logs.{is_commit, known, marks}
-use Rattle.repository_laws.specs.Facts.{RestsOn}
-use Rattle.repository_laws.proofs.Logs.{decide-home, decided-once, put-logged}
-use Rattle.commit_watch.specs.Folds.{is_under}
-use Rattle.archive_store.specs.Joined.{joined}
 use Rattle.serial_law.proofs.LogLemmas.{SettledBy, put-marks, settle-marks}
 use Rattle.serial_law.proofs.Puts.{stands-put}
-use Rattle.serial_law.proofs.WholeFacts.{its-all, its-chain, put-asked}
-use Rattle.serial_model.specs.Questions.{Tree}
-use Rattle.world_core.specs.Walks.{Base}
-use Rattle.serial_law.specs.NodeRules.{node_facts}
-use Rattle.serial_law.specs.Refines.{OlderFacts}
-use Rattle.serial_law.proofs.Growths.{each-has, has-map, map-has}
-use Rattle.serial_law.proofs.OldChains.{marks-append, some-history}
-use Rattle.archive_law.specs.Archives.{archive}
+use Rattle.serial_law.proofs.WholeFacts.{its-all, its-chain}
+use Rattle.serial_law.proofs.OldChains.{some-history}
 use Rattle.archive_law.proofs.JoinedLemmas.{joined-distinct, joined-from, joined-settles, joined-some}
 
 pub marks-reverse : (l : List Effect) → marks (reverse l) ≡ reverse (marks l)
@@ -47,18 +22,7 @@ marks-reverse (f ∷ l) =
   where
     one : (f : Effect) → marks (f ∷ []) ≡ reverse (marks (f ∷ []))
     one (effect.Put o x v) = refl
-    one (effect.Stretch o x) = refl
-    one (effect.Decide s d) = refl
-    one (effect.Learn s c) = refl
-    one (effect.Mark at) = refl
-    one (effect.Begin s d) = refl
-    one (effect.Run n) = refl
-    one (effect.Act i h t n c b) = refl
-    one (effect.Try i s) = refl
-    one (effect.Got k v) = refl
-    one (effect.Acked k) = refl
-    one (effect.End i e) = refl
-    one effect.Whole = refl
+    one _ = refl
 
 -- a Put of a log is one of its marks
 pub put-marked : (l : List Effect) (o : ObjectId) (x : TimeParts) (v : Value) → Has (effect.Put o x v) l → Has (mark.Put o x v) (marks l)

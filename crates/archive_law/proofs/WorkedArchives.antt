@@ -1,35 +1,14 @@
 -- A past worked by hand: a run of three acts, a retirement at 3.1.1/1, and a run of one act more. The definitions compute what they come to.
 use Rattle.std.proofs.Common.{◌≡◌, ℕ, true, List, [], ◌∷◌, ◌++◌, reverse, if◌then◌else◌, refl, ◌∙◌, ap, Some, None}
 use Rattle.std.specs.Prelude.{ℤ, pos, Ok}
-use Rattle.pseudo_time.specs.Nodes.{repository}
-use Rattle.pseudo_time.specs.Order.{lt, same_stamp, same_time}
-use Rattle.pseudo_time.specs.StampParts.{StampParts}
-use Rattle.pseudo_time.specs.TimeParts.{TimeParts}
+use Rattle.archive_law.proofs.Names.{repository, lt, same_stamp, same_time, StampParts, TimeParts, ObjectId, Value, Nothing, Effect, Mark, some_put, floor_of, scan, settle_of, version_count, same_object, insert, listed, value_of, forwarded, Moved, advanced, moved_over, all_firsts, firsts, has_start, last_log, met_after, last_below, first_open, in_plan, Call, log_left, own_reading, replaced, Running, Retiring, archive, log_after, volumes_left}
 use Rattle.pseudo_time.specs.declared.decisions.Decision.TheVariants.{Committed}
-use Rattle.value_form.specs.declared.objects.ObjectId.{ObjectId}
-use Rattle.value_form.specs.declared.values.Value.{Value}
-use Rattle.value_form.specs.declared.values.Value.TheVariants.{Nothing, Number}
-use Rattle.effect_form.specs.declared.effects.Effect.{Effect}
+use Rattle.value_form.specs.declared.values.Value.TheVariants.{Number}
 use Rattle.effect_form.specs.declared.effects.Effect.TheVariants as effect
-use Rattle.object_history.specs.declared.marks.Mark.{Mark}
 use Rattle.object_history.specs.declared.marks.Mark.TheVariants as mark
-use Rattle.object_history.specs.Answers.{some_put}
-use Rattle.object_history.specs.History.{floor_of, pick, scan, settle_of, version_count}
-use Rattle.object_history.specs.Objects.{same_object}
-use Rattle.object_history.specs.Settled.{insert, listed}
-use Rattle.object_history.specs.Views.{value_of}
-use Rattle.object_retirement.specs.Forward.{forwarded}
-use Rattle.commit_watch.specs.declared.moved.Moved.{Moved}
-use Rattle.commit_watch.specs.Folds.{advanced, moved_over}
+use Rattle.object_history.specs.History.{pick}
 use Rattle.commit_watch.specs.Rules.{sum_next}
-use Rattle.archive_store.specs.Joined.{all_firsts, firsts, has_start, last_log, met_after}
-use Rattle.archive_store.specs.Latest.{last_below}
-use Rattle.archive_store.specs.Opens.{first_among, first_open}
-use Rattle.world_core.specs.Legal.{in_plan}
-use Rattle.world_core.specs.Pasts.{Call, log_left, own_reading}
-use Rattle.serial_law.specs.Earlier.{replaced}
-use Rattle.serial_law.specs.Earlier.Earlier.{Running, Retiring}
-use Rattle.archive_law.specs.Archives.{archive, log_after, volumes_left}
+use Rattle.archive_store.specs.Opens.{first_among}
 
 -- the stamp c.1.1, and its first pseudotime
 abbrev stamp : ℕ → StampParts

@@ -3,49 +3,24 @@ use Rattle.std.proofs.Common.{refl, ◌≡◌, ℕ, ◌≤◌, nat_lt, true, fal
 use Rattle.std.proofs.lemmas.List.{append_cancel_right, length-append}
 use Rattle.std.proofs.lemmas.Bool.{ltb-false}
 use Rattle.std.proofs.lemmas.Option.{same_Some}
-use Rattle.pseudo_time.specs.Lists.{Has}
-use Rattle.pseudo_time.specs.TimeParts.{TimeParts}
-use Rattle.pseudo_time.specs.Order.{lt}
-use Rattle.pseudo_time.specs.declared.nodes.NodeId.{NodeId}
-use Rattle.pseudo_time.specs.declared.nodes.NodeKind.{NodeKind}
-use Rattle.pseudo_time.specs.declared.nodes.NodeKind.TheVariants.{Repository, Broker}
-use Rattle.pseudo_time.proofs.ListLemmas.{every-has}
-use Rattle.value_form.specs.declared.objects.ObjectId.{ObjectId}
-use Rattle.value_form.specs.declared.values.Value.{Value}
-use Rattle.effect_form.specs.declared.effects.Effect.{Effect}
+use Rattle.serial_law.proofs.Names.{Has, TimeParts, lt, NodeId, NodeKind, Repository, Broker, every-has, ObjectId, Value, Effect, Outcome, Post, each_below, WriteStep, write_step, Asks, Request, ToRead, ToWrite, stop, marks, Once, Task, Book, broker, repository, counted, IsAskOf, WasAnswered, WasRefused, Base, sent_by, walk, start_world, Meets, base_of, fates_of, Reason, meets-front, post-answered, write-sent, read-sent, logs_at}
 use Rattle.effect_form.specs.declared.effects.Effect.TheVariants as effect
-use Rattle.effect_form.specs.declared.outcomes.Outcome.{Outcome}
 use Rattle.effect_form.specs.declared.outcomes.Outcome.TheVariants as outcome
 use Rattle.message_form.specs.declared.messages.Message.TheVariants as message
 use Rattle.message_form.specs.Growth.{Grew, Each}
-use Rattle.message_form.specs.Posts.{Post}
-use Rattle.message_form.proofs.GrowthLemmas.{each_below}
-use Rattle.object_history.specs.declared.steps.WriteStep.{WriteStep}
 use Rattle.object_history.specs.declared.steps.WriteStep.TheVariants as write
-use Rattle.object_history.specs.Answers.{write_step}
-use Rattle.script_meaning.specs.Meaning.{Asks, Request, ToRead, ToWrite}
-use Rattle.serial_model.specs.Questions.{stop}
-use Rattle.repository_core.specs.Logs.{marks}
 use Rattle.repository_laws.specs.Facts as repositories
-use Rattle.repository_laws.specs.Facts.{Once}
-use Rattle.broker_core.specs.Tasks.{Task}
-use Rattle.broker_core.specs.Book.{Book, Try, find, open_try, time_of}
+use Rattle.broker_core.specs.Book.{Try, find, open_try, time_of}
 use Rattle.broker_core.specs.Fits.{stop_of}
-use Rattle.pseudo_time.specs.Nodes.{broker, repository}
-use Rattle.broker_core.specs.Counted.{counted, own_tries}
+use Rattle.broker_core.specs.Counted.{own_tries}
 use Rattle.broker_laws.specs.AnyLogs.{Joins, Rests, Says}
 use Rattle.broker_laws.specs.Fits.{IsReading, IsWriting}
 use Rattle.broker_laws.specs.Posts as posts
-use Rattle.broker_laws.specs.Posts.{IsAskOf, IsLater, OfOpen}
+use Rattle.broker_laws.specs.Posts.{IsLater, OfOpen}
 use Rattle.broker_laws.proofs.AnyDesks.{later-through, enters, open-own}
 use Rattle.broker_laws.proofs.TurnLemmas.{runs-rise}
-use Rattle.world_core.specs.Answered.{WasAnswered, WasRefused}
-use Rattle.world_core.specs.Walks.{Base, sent_by, walk, start_world}
-use Rattle.world_core.specs.Legal.{Meets, base_of, fates_of}
-use Rattle.world_core.proofs.Answered.{Reason, meets-front, post-answered, write-sent, read-sent}
 use Rattle.world_core.specs.declared.entries.Entry.TheVariants.{Tick}
 use Rattle.world_facts.specs.Refines as refines
-use Rattle.world_facts.specs.Refines.{logs_at}
 use Rattle.world_facts.specs.Soft.{SentOk}
 use Rattle.world_facts.specs.AnyRules.{GrownFrom, any_facts, any_post, tasks_of, log_opened, log_before}
 use Rattle.world_facts.proofs.AnyNodes.{any-trace}

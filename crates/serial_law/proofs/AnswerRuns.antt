@@ -1,36 +1,12 @@
 -- What the top call promises of what was sent, from the laws of acknowledgements and of acts that are spent.
 use Rattle.std.proofs.Common.{◌≡◌, ℕ, List, [], ◌∷◌, ◌++◌, append-nil, map, reverse, sym, ◌∙◌, subst, if◌then◌else◌}
-use Rattle.pseudo_time.specs.Lists.{Has}
-use Rattle.pseudo_time.specs.Nodes.{broker, repository}
-use Rattle.pseudo_time.specs.declared.nodes.NodeId.{NodeId}
-use Rattle.effect_form.specs.declared.effects.Effect.{Effect}
+use Rattle.serial_law.proofs.Names.{Has, broker, repository, NodeId, Effect, Post, Asked, Plan, IsOfLanguage, book, reading, MayTry, Trace, base_of, in_plan, OpenedWith, alike, own_reading, IsLegal, sent_by, start_world, walk, own-reading, walk-same, TickedBy, WereLeftOrRetired, replaced, sent_earlier, node_facts, OlderFacts, logs_at, older-facts, walk-known, IsSpent, Position, log_at, world_at}
 use Rattle.effect_form.specs.declared.effects.Effect.TheVariants as effect
 use Rattle.effect_form.specs.declared.outcomes.Outcome.TheVariants as outcome
 use Rattle.message_form.specs.declared.messages.Message.TheVariants as message
-use Rattle.message_form.specs.Posts.{Post}
-use Rattle.stream_port.specs.declared.fates.Asked.{Asked}
-use Rattle.plan_form.specs.declared.plans.Plan.{Plan}
-use Rattle.plan_form.specs.PlanTexts.{IsOfLanguage}
-use Rattle.broker_core.specs.Book.{book}
-use Rattle.broker_core.specs.Readings.{reading}
-use Rattle.broker_laws.specs.Fits.{MayTry}
-use Rattle.world_core.specs.declared.traces.Trace.{Trace}
-use Rattle.world_core.specs.Legal.{base_of, in_plan}
-use Rattle.world_core.specs.Pasts.{OpenedWith, alike, own_reading}
-use Rattle.world_core.specs.Readings.{IsLegal}
-use Rattle.world_core.specs.Walks.{sent_by, start_world, walk}
-use Rattle.world_core.proofs.OneReading.{own-reading}
-use Rattle.world_core.proofs.SameWorlds.{walk-same}
 use Rattle.world_facts.specs.Acknowledged.{Keeps, SeesAbove}
-use Rattle.world_facts.specs.Earlier.{TickedBy, WereLeftOrRetired, replaced, sent_earlier}
-use Rattle.world_facts.specs.NodeRules.{node_facts}
-use Rattle.world_facts.specs.Refines.{OlderFacts, logs_at}
 use Rattle.world_facts.proofs.AnswerLemmas.{all-kept, all-seen}
-use Rattle.world_facts.proofs.EarlierLemmas.{older-facts}
-use Rattle.world_facts.proofs.Steps.{walk-known}
 use Rattle.serial_law.specs.Acknowledged.{KeepsAnswers, SpendsRightly, all_sent, log_after}
-use Rattle.serial_law.specs.Causes.{IsSpent}
-use Rattle.serial_law.specs.Runs.{Position, log_at, world_at}
 use Rattle.serial_law.proofs.OlderReading.{OneReading, older-reading}
 
 -- the end of a run as a place of a legal trace by one reading of all scripts, with the same logs

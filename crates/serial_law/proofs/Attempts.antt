@@ -1,27 +1,15 @@
 -- The attempts of a run: each is a try of a broker's book, at the home that its act has in the plan.
 use Rattle.std.proofs.Common.{◌≡◌, ℕ, zero, suc, ◌≤◌, ◌==◌, Bool, true, false, List, [], ◌∷◌, ◌++◌, map, refl, sym, ◌∙◌, subst, Some, None, inl, inr, arith, if◌then◌else◌, ap}
 use Rattle.std.proofs.lemmas.Bool.{eqb-true}
-use Rattle.pseudo_time.specs.Lists.{Every, Has}
-use Rattle.pseudo_time.specs.Order.{same_stamp}
-use Rattle.pseudo_time.specs.StampParts.{StampParts}
-use Rattle.pseudo_time.specs.declared.nodes.NodeId.{NodeId}
-use Rattle.pseudo_time.proofs.ListLemmas.{has-either, has-left}
-use Rattle.pseudo_time.proofs.OrderLemmas.{same_stamp-is, same_stamp-self}
-use Rattle.effect_form.specs.declared.effects.Effect.{Effect}
+use Rattle.serial_law.proofs.Names.{Every, Has, same_stamp, StampParts, NodeId, has-either, has-left, same_stamp-is, Effect, Outcome, Tree, Act, Book, book, tries, tries_of, ActSpec, keep, tasks, acts_of, broker, MayTry, attempt}
+use Rattle.pseudo_time.proofs.OrderLemmas.{same_stamp-self}
 use Rattle.effect_form.specs.declared.effects.Effect.TheVariants as effect
-use Rattle.effect_form.specs.declared.outcomes.Outcome.{Outcome}
 use Rattle.effect_form.specs.declared.outcomes.Outcome.TheVariants as outcome
-use Rattle.serial_model.specs.Questions.{Tree}
-use Rattle.broker_core.specs.Book.{Act, Book, Try, book, close, enter, find, finish, gain, on_act, on_front, on_try, tries, tries_of, new_try}
-use Rattle.value_form.specs.declared.acts.ActSpec.{ActSpec}
-use Rattle.broker_core.specs.Fits.{keep}
-use Rattle.broker_core.specs.Tasks.{tasks}
-use Rattle.world_core.specs.Nodes.{acts_of}
-use Rattle.pseudo_time.specs.Nodes.{broker}
-use Rattle.broker_laws.specs.Fits.{FitsBook, IsTidy, MayTry}
+use Rattle.broker_core.specs.Book.{Try, close, enter, find, finish, gain, on_act, on_front, on_try, new_try}
+use Rattle.broker_laws.specs.Fits.{FitsBook, IsTidy}
 use Rattle.broker_laws.specs.Posts.{Distinct}
 use Rattle.world_core.specs.Deeds as deeds
-use Rattle.serial_law.specs.Runs.{attempt, book_tries, run_tries}
+use Rattle.serial_law.specs.Runs.{book_tries, run_tries}
 
 -- ---- homes
 

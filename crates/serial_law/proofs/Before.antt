@@ -1,38 +1,18 @@
 -- the map after the deeds of the committed stamps
 use Rattle.std.proofs.Common.{◌≡◌, ◌+◌, ◌≤◌, length, Bool, true, false, List, [], ◌∷◌, ◌++◌, refl, sym, ◌∙◌, ap, subst, Option, Some, None, ◌⊎◌, inl, inr, ◌&&◌, ◌||◌, arith, if◌then◌else◌}
 use Rattle.std.proofs.lemmas.Bool.{false≢true, true≢false, or_left, or_right, or_cases}
-use Rattle.pseudo_time.specs.TimeParts.{TimeParts}
-use Rattle.pseudo_time.specs.StampParts.{StampParts}
-use Rattle.value_form.specs.declared.objects.ObjectId.{ObjectId}
-use Rattle.value_form.specs.declared.values.Value.{Value}
-use Rattle.value_form.specs.declared.values.Value.TheVariants.{Nothing}
-use Rattle.object_history.specs.declared.marks.Mark.{Mark}
-use Rattle.message_form.specs.Posts.{Post}
+use Rattle.serial_law.proofs.Names.{TimeParts, StampParts, ObjectId, Value, Nothing, Mark, Post, left_after, Seen, scan, same_stamp, stamp_lt, Answer, Got, Over, Stored, ToWrite, RunLogs, Try, all_deeds, before, committed, deed, deed_of, deed_stamps, finals, find, marks_at, written, RunFacts, asks, HasValue, Ends, Reads, Says, Tree, Writes, after, talked, Objects, object_cmp, value_at, Ending, Has, and-both, and-left, and-right, scan-passes, two-tests, Passes, same_stamp-is, same_stamp-of}
 use Rattle.serial_law.proofs.Settled.{at-home}
-use Rattle.serial_model.specs.Questions.{left_after}
 use Rattle.serial_law.proofs.Talking.{alone, kinds-all}
 use Rattle.serial_law.proofs.Premises.{lone, put-at}
 use Rattle.serial_law.proofs.Fold.{Deed, Holds, Grows, on, fold-step, own-deed}
 use Rattle.serial_law.proofs.Given.{given-deed}
 use Rattle.serial_law.proofs.Stamps.{InS, Rising, rising, listed-pass, put-listed}
-use Rattle.object_history.specs.History.{Seen, scan}
-use Rattle.pseudo_time.specs.Order.{same_stamp, stamp_lt}
-use Rattle.script_meaning.specs.Meaning.{Answer, Got, Over, Stored, ToWrite}
-use Rattle.world_core.specs.Deeds.{RunLogs, Try, after_deed, all_deeds, before, committed, deed, deed_of, deed_stamps, finals, find, marks_at, written}
-use Rattle.serial_law.specs.Facts.{RunFacts, asks}
-use Rattle.serial_law.specs.Serial.{HasValue, HoldsAll, HoldsBefore}
-use Rattle.serial_model.specs.Questions.{Ends, Reads, Says, Tree, Writes, after, talked}
-use Rattle.value_form.specs.Objects.{Objects, object_cmp, value_at}
+use Rattle.world_core.specs.Deeds.{after_deed}
+use Rattle.serial_law.specs.Serial.{HoldsAll, HoldsBefore}
 use Rattle.std.specs.FinMap as finite
 use Rattle.std.specs.Option.{unwrap_or}
-use Rattle.value_form.specs.declared.endings.Ending.{Ending}
 use Rattle.value_form.specs.declared.endings.Ending.TheVariants as ending
-use Rattle.pseudo_time.specs.Lists.{Has}
-use Rattle.object_history.proofs.BoolLemmas.{and-both, and-left, and-right}
-use Rattle.object_history.proofs.StableLemmas.{scan-passes}
-use Rattle.object_history.proofs.TestLemmas.{two-tests}
-use Rattle.object_history.proofs.Words.{Passes}
-use Rattle.pseudo_time.proofs.OrderLemmas.{same_stamp-is, same_stamp-of}
 use Rattle.serial_law.proofs.Puts.{Picked, PutAt, picked, starts-of}
 use Rattle.serial_law.proofs.Times.{stamp_lt-self, stamp_lt-trans}
 

@@ -1,19 +1,11 @@
 -- What a repository once answered to a write, and the marks that it answered by, in its log.
 use Rattle.std.proofs.Common.{◌≡◌, ◌⊎◌, List, [], ◌∷◌, inl, inr}
-use Rattle.pseudo_time.specs.Lists.{Has}
-use Rattle.pseudo_time.specs.TimeParts.{TimeParts}
-use Rattle.value_form.specs.declared.objects.ObjectId.{ObjectId}
-use Rattle.value_form.specs.declared.values.Value.{Value}
-use Rattle.effect_form.specs.declared.effects.Effect.{Effect}
+use Rattle.serial_law.proofs.Names.{Has, TimeParts, ObjectId, Value, Effect, read_step, write_step, marks, Once, put-logged}
 use Rattle.effect_form.specs.declared.effects.Effect.TheVariants as effect
 use Rattle.object_history.specs.declared.marks.Mark.TheVariants as mark
 use Rattle.object_history.specs.declared.steps.ReadStep.TheVariants as read
 use Rattle.object_history.specs.declared.steps.WriteStep.TheVariants as write
-use Rattle.object_history.specs.Answers.{read_step, write_step}
 use Rattle.object_history.proofs.AnswerLemmas.{later-read, later-version, read-below}
-use Rattle.repository_core.specs.Logs.{marks}
-use Rattle.repository_laws.specs.Facts.{Once}
-use Rattle.repository_laws.proofs.Logs.{put-logged}
 
 stretch-path : (o p : ObjectId) (x y : TimeParts) → mark.Stretch p y ≡ mark.Stretch o x → effect.Stretch p y ≡ effect.Stretch o x
 stretch-path o p x y e = cc e

@@ -1,27 +1,9 @@
 -- the fold left_after committed stamps
 use Rattle.std.proofs.Common.{◌≡◌, ◌≢◌, ◌+◌, ◌≤◌, length, Bool, true, false, List, ◌∷◌, refl, sym, ◌∙◌, ap, subst, Option, Some, None, ◌⊎◌, inl, inr, arith}
 use Rattle.std.proofs.lemmas.Bool.{true≢false}
-use Rattle.pseudo_time.specs.TimeParts.{TimeParts}
-use Rattle.pseudo_time.specs.StampParts.{StampParts}
-use Rattle.value_form.specs.declared.objects.ObjectId.{ObjectId}
-use Rattle.value_form.specs.declared.values.Value.{Value}
-use Rattle.object_history.specs.declared.marks.Mark.{Mark}
+use Rattle.serial_law.proofs.Names.{TimeParts, StampParts, ObjectId, Value, Mark, left_after, Seen, scan, lt, same_stamp, stamp_lt, Answer, Stored, asks, at, HasValue, Tree, after, Objects, value_at, scan-passes, starts-all, two-tests, top-all, AtMost, Passes, Starts, lt-stamps, same_stamp-is, same_stamp-of}
 use Rattle.serial_law.proofs.Own.{Kinds, NoneWritten, LastWritten, own-map, fronts, same-value}
-use Rattle.serial_model.specs.Questions.{left_after}
 use Rattle.serial_law.proofs.Lone.{Lone}
-use Rattle.object_history.specs.History.{Seen, scan}
-use Rattle.pseudo_time.specs.Order.{lt, same_stamp, stamp_lt}
-use Rattle.script_meaning.specs.Meaning.{Answer, Stored}
-use Rattle.serial_law.specs.Facts.{asks, at}
-use Rattle.serial_law.specs.Serial.{HasValue}
-use Rattle.serial_model.specs.Questions.{Tree, after}
-use Rattle.value_form.specs.Objects.{Objects, value_at}
-use Rattle.object_history.proofs.StableLemmas.{scan-passes, starts-all}
-use Rattle.object_history.proofs.TestLemmas.{two-tests}
-use Rattle.object_history.proofs.ViewLemmas.{top-all}
-use Rattle.object_history.proofs.Words.{AtMost, Passes}
-use Rattle.object_history.specs.Views.{Starts}
-use Rattle.pseudo_time.proofs.OrderLemmas.{lt-stamps, same_stamp-is, same_stamp-of}
 use Rattle.serial_law.proofs.Puts.{Picked, PutAt, at-most, picked}
 use Rattle.serial_law.proofs.Times.{inside-low, stamp-no}
 

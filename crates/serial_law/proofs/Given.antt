@@ -1,30 +1,12 @@
 -- Given writes, set in the order of their starts, leave what a deed of their stamp leaves.
 use Rattle.std.proofs.Common.{◌≡◌, ◌≢◌, ℕ, ◌≤◌, zero, suc, Bool, true, false, List, [], ◌∷◌, refl, sym, ◌∙◌, ap, subst, Option, Some, None, ◌⊎◌, inl, inr, arith, if◌then◌else◌}
 use Rattle.std.proofs.lemmas.Bool.{false≢true}
-use Rattle.pseudo_time.specs.TimeParts.{TimeParts}
-use Rattle.pseudo_time.specs.StampParts.{StampParts}
-use Rattle.value_form.specs.declared.objects.ObjectId.{ObjectId}
-use Rattle.value_form.specs.declared.values.Value.{Value}
-use Rattle.object_history.specs.declared.marks.Mark.{Mark}
-use Rattle.object_history.specs.declared.marks.Mark.TheVariants.{Put, Stretch, Settle, Floor}
-use Rattle.message_form.specs.Posts.{Post}
+use Rattle.serial_law.proofs.Names.{TimeParts, StampParts, ObjectId, Value, Mark, Put, Stretch, Settle, Floor, Post, Seen, scan, same_object, Distinct, lt, same_stamp, RunLogs, Version, in_run, log_of, marks_at, put_in, puts_of, puts_to, written, RunFacts, marks, Objects, value_at, same_object-is, same_object-of, scan-passes, top-all, AtMost, Passes, Starts, lt-total, same_stamp-is, same_stamp-of}
 use Rattle.serial_law.proofs.LogLemmas.{le-cases, in-low, in-high, in-both, marks-put, marks-in, marks-cases, put-marks}
 use Rattle.serial_law.proofs.Fold.{Deed, Deed_at, on}
 use Rattle.serial_law.proofs.Premises.{put-at}
-use Rattle.object_history.specs.History.{Seen, scan}
-use Rattle.object_history.specs.Objects.{same_object}
-use Rattle.object_history.specs.Views.{Distinct}
-use Rattle.pseudo_time.specs.Order.{lt, same_stamp}
-use Rattle.world_core.specs.Deeds.{RunLogs, Version, in_run, log_of, marks_at, put_in, puts_of, puts_to, set_all, written}
-use Rattle.serial_law.specs.Facts.{RunFacts}
-use Rattle.repository_core.specs.Logs.{marks}
-use Rattle.value_form.specs.Objects.{Objects, value_at}
-use Rattle.object_history.proofs.ObjectLemmas.{same_object-is, same_object-of}
-use Rattle.object_history.proofs.StableLemmas.{scan-passes}
-use Rattle.object_history.proofs.ViewLemmas.{top-all}
-use Rattle.object_history.proofs.Words.{AtMost, Passes}
-use Rattle.object_history.specs.Views.{Starts}
-use Rattle.pseudo_time.proofs.OrderLemmas.{lt-asymmetric, lt-total, same_stamp-is, same_stamp-of}
+use Rattle.world_core.specs.Deeds.{set_all}
+use Rattle.pseudo_time.proofs.OrderLemmas.{lt-asymmetric}
 use Rattle.serial_law.proofs.Puts.{Picked, PutAt, at-most, picked, starts-at}
 use Rattle.serial_law.proofs.Own.{value-insert}
 use Rattle.serial_law.proofs.Times.{not-lt-trans}

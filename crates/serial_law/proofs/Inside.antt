@@ -3,20 +3,17 @@ use Rattle.std.proofs.Common.{◌≡◌, ℕ, zero, suc, ◌^◌, nat_lt, Bool, 
 use Rattle.std.proofs.lemmas.Option.{same_Some}
 use Rattle.value_form.specs.declared.fail_kinds.FailKind.{FailKind}
 use Rattle.value_form.specs.declared.fail_kinds.FailKind.TheVariants as fails
-use Rattle.value_form.specs.declared.objects.ObjectId.{ObjectId}
-use Rattle.value_form.specs.declared.values.Value.{Value}
+use Rattle.serial_law.proofs.Names.{ObjectId, Value, Request, Answer, Got, Stored, Tree, Ends, Says, Reads, Writes, after, InRange, asks, asked_of}
 use Rattle.value_form.specs.declared.values.Value.TheVariants as v
 use Rattle.value_form.specs.Mirror.{Spot, Fixed, At, Step, Let, Read, Write, Print, If, IfElse, Repeat, Withdraw, Block, End, Then}
 use Rattle.script_meaning.specs.Names.{Names, with_name}
 use Rattle.script_meaning.specs.Operations.{◌>>=◌, object_in}
-use Rattle.script_meaning.specs.Meaning.{value, object_at, condition, count, Request, Answer, Got, Stored}
+use Rattle.script_meaning.specs.Meaning.{value, object_at, condition, count}
 use Rattle.script_form.specs.Row as r
 use Rattle.script_form.specs.Rows.{Numbered, on, step_rows, rows}
 use Rattle.script_form.specs.RowTexts.{SpotInLimits, SpotUpTo}
 use Rattle.script_form.specs.Printable.{RowsInLimits}
-use Rattle.serial_model.specs.Questions.{Tree, Ends, Says, Reads, Writes, Onward, asked_with, asked_turns, asked, all_asked, denote, after}
-use Rattle.plan_form.specs.Plans.{InRange}
-use Rattle.serial_law.specs.Facts.{asks, asked_of}
+use Rattle.serial_model.specs.Questions.{Onward, asked_with, asked_turns, asked, all_asked, denote}
 
 -- each request of the script is for an object of these repositories
 abbrev pub Inside : ℕ → Tree → Type 0
@@ -42,8 +39,7 @@ inside-after n (Writes o a t) (Got b ∷ ans) h = h
 pub inside-asks : (n : ℕ) (t : Tree) (q : Request) → Inside n t → asks t ≡ Some q → InRange n (asked_of q).repository
 inside-asks n (Ends e) q h k = absurd (cc k)
 inside-asks n (Says a t) q h k = inside-asks n t q h k
-inside-asks n (Reads o f) q h k = subst (λ x. InRange n (asked_of x).repository) (same_Some _ q k) h.0
-inside-asks n (Writes o a t) q h k = subst (λ x. InRange n (asked_of x).repository) (same_Some _ q k) h.0
+inside-asks n _ q h k = subst (λ x. InRange n (asked_of x).repository) (same_Some _ q k) h.0
 
 -- ---- objects
 

@@ -39,3 +39,4 @@ pub use Rattle.world_facts.proofs.Openings
 pub use Rattle.world_facts.proofs.Ranges
 pub use Rattle.world_facts.proofs.Refinements
 pub use Rattle.world_facts.proofs.Steps
+pub mod Names

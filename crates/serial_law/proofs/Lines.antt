@@ -1,30 +1,15 @@
 -- the puts of a committed try are the Wrote lines of its transcript
 use Rattle.std.proofs.Common.{◌≡◌, ◌≢◌, ℕ, ◌+◌, ◌≤◌, ◌<◌, zero, suc, length, Bool, true, false, List, [], ◌∷◌, refl, sym, ◌∙◌, ap, subst, Some, inl, inr, arith, if◌then◌else◌}
 use Rattle.std.proofs.lemmas.Bool.{true≢false}
-use Rattle.pseudo_time.specs.TimeParts.{TimeParts}
-use Rattle.pseudo_time.specs.StampParts.{StampParts}
-use Rattle.value_form.specs.declared.objects.ObjectId.{ObjectId}
-use Rattle.value_form.specs.declared.values.Value.{Value}
-use Rattle.object_history.specs.declared.marks.Mark.{Mark}
-use Rattle.object_history.specs.declared.marks.Mark.TheVariants.{Put, Stretch, Settle, Floor}
-use Rattle.message_form.specs.Posts.{Post}
+use Rattle.serial_law.proofs.Names.{TimeParts, StampParts, ObjectId, Value, Mark, Put, Stretch, Settle, Floor, Post, Distinct, lt, same_stamp, Answer, Got, Stored, ToWrite, RunLogs, Try, Version, committed, in_run, lines_written, log_of, marks_at, put_in, puts_of, puts_to, written, RunFacts, asks, at, marks, Ends, Reads, Says, Tree, Writes, after, talked, Line, Has, lt-total, same_stamp-is}
 use Rattle.serial_law.proofs.LogLemmas.{marks-put, in-both}
 use Rattle.serial_law.proofs.Own.{Kinds, Written, fronts, no-split, tail_of}
 use Rattle.serial_law.proofs.Premises.{lone, write-stored, put-written}
 use Rattle.serial_law.proofs.Talking.{kinds-all}
 use Rattle.serial_law.proofs.Given.{In, in-put, in-of, in-to, version-path, written-at, at-written}
 use Rattle.serial_law.proofs.Before.{whole-puts}
-use Rattle.object_history.specs.Views.{Distinct}
-use Rattle.pseudo_time.specs.Order.{lt, same_stamp}
-use Rattle.script_meaning.specs.Meaning.{Answer, Got, Stored, ToWrite}
-use Rattle.world_core.specs.Deeds.{RunLogs, Try, Version, committed, in_run, lines_written, log_of, marks_at, put_in, puts_of, puts_to, written}
-use Rattle.serial_law.specs.Facts.{RunFacts, asks, at}
-use Rattle.repository_core.specs.Logs.{marks}
-use Rattle.serial_model.specs.Questions.{Ends, Reads, Says, Tree, Writes, after, talked}
-use Rattle.value_form.specs.declared.transcripts.Line.{Line}
 use Rattle.value_form.specs.declared.transcripts.Line.TheVariants as line
-use Rattle.pseudo_time.specs.Lists.{Has}
-use Rattle.pseudo_time.proofs.OrderLemmas.{lt-irreflexive, lt-total, lt-trans, same_stamp-is}
+use Rattle.pseudo_time.proofs.OrderLemmas.{lt-irreflexive, lt-trans}
 use Rattle.serial_law.proofs.Puts.{PutAt, starts-at}
 use Rattle.serial_law.proofs.Times.{lt-step}
 

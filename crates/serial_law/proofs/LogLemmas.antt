@@ -2,22 +2,10 @@
 use Rattle.std.proofs.Common.{◌≡◌, ℕ, ◌≤◌, zero, suc, Bool, true, false, List, [], ◌∷◌, refl, sym, ◌∙◌, ap, Option, Some, None, ◌⊎◌, inl, inr, ◌||◌, ◌&&◌, not, subst, nat_le, arith, if◌then◌else◌}
 use Rattle.std.proofs.lemmas.Grind.{common_steps}
 use Rattle.std.proofs.lemmas.Bool.{false≢true, or_left, or_right, or_cases, leb-true, le-leb}
-use Rattle.pseudo_time.specs.TimeParts.{TimeParts}
-use Rattle.pseudo_time.specs.StampParts.{StampParts}
-use Rattle.value_form.specs.declared.objects.ObjectId.{ObjectId}
-use Rattle.value_form.specs.declared.values.Value.{Value}
-use Rattle.effect_form.specs.declared.effects.Effect.{Effect}
+use Rattle.serial_law.proofs.Names.{TimeParts, StampParts, ObjectId, Value, Effect, Decision, Mark, settle_of, Has, same_stamp, RunLogs, has_commit, has_learned, in_run, log_of, marks_at, some_of, is_commit, marks, knows, and-both, and-left, and-right, same_stamp-is, same_stamp-of}
 use Rattle.effect_form.specs.declared.effects.Effect.TheVariants as effect
-use Rattle.pseudo_time.specs.declared.decisions.Decision.{Decision}
 use Rattle.pseudo_time.specs.declared.decisions.Decision.TheVariants as decision
-use Rattle.object_history.specs.declared.marks.Mark.{Mark}
-use Rattle.object_history.specs.History.{or_else, settle_of}
-use Rattle.pseudo_time.specs.Lists.{Has}
-use Rattle.pseudo_time.specs.Order.{same_stamp}
-use Rattle.world_core.specs.Deeds.{RunLogs, has_commit, has_learned, in_run, log_of, marks_at, some_of}
-use Rattle.repository_core.specs.Logs.{is_commit, marks, knows}
-use Rattle.object_history.proofs.BoolLemmas.{and-both, and-left, and-right}
-use Rattle.pseudo_time.proofs.OrderLemmas.{same_stamp-is, same_stamp-of}
+use Rattle.object_history.specs.History.{or_else}
 use Rattle.serial_law.proofs.Puts.{PutAt}
 
 put-path : (o p : ObjectId) (x y : TimeParts) (v w : Value) → p ≡ o → y ≡ x → w ≡ v → effect.Put p y w ≡ effect.Put o x v
@@ -104,8 +92,7 @@ knows-has (f ∷ log) s h = skip f log s (knows-has log s h)
 
 commits-only : (d : Decision) → is_commit d ≡ true → d ≡ decision.Committed
 commits-only decision.Committed h = refl
-commits-only decision.Withdrawn h = absurd (false≢true h)
-commits-only (decision.Expired a b) h = absurd (false≢true h)
+commits-only _ h = absurd (false≢true h)
 
 -- the log decides the stamp as committed alone, and learns nothing of it
 pub record OnlyCommits (s : StampParts) (log : List Effect) : Type 0 where

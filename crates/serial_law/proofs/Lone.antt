@@ -1,28 +1,10 @@
 -- one try: the premises of the second part, and the value lemma
 use Rattle.std.proofs.Common.{◌≡◌, ◌+◌, ◌≤◌, ◌<◌, length, Bool, true, false, List, ◌∷◌, ◌++◌, refl, sym, ◌∙◌, ap, subst, Option, Some, None, inl, inr, ◌&&◌, arith}
 use Rattle.std.proofs.lemmas.Bool.{true≢false, or_left, or_right}
-use Rattle.pseudo_time.specs.TimeParts.{TimeParts}
-use Rattle.pseudo_time.specs.StampParts.{StampParts}
-use Rattle.value_form.specs.declared.objects.ObjectId.{ObjectId}
-use Rattle.value_form.specs.declared.values.Value.{Value}
-use Rattle.object_history.specs.declared.marks.Mark.{Mark}
+use Rattle.serial_law.proofs.Names.{TimeParts, StampParts, ObjectId, Value, Mark, left_after, Seen, alive, scan, settle_of, shows, views, lt, same_stamp, stamp_lt, Answer, Got, Stored, ToRead, ToWrite, Sees, asks, at, HasValue, Tree, after, Objects, value_at, and-both, and-left, and-right, scan-passes, starts-all, two-tests, top-all, AtMost, Passes, Starts, same_stamp-of}
 use Rattle.serial_law.proofs.Own.{Kinds, Written, NoneWritten, LastWritten, own-map, fronts, longer, same-value, same-read, shorter, widen, front-short}
-use Rattle.serial_model.specs.Questions.{left_after}
-use Rattle.object_history.specs.History.{Seen, alive, is_alive, scan, settle_of}
-use Rattle.object_history.specs.Views.{Firm, shows, views}
-use Rattle.pseudo_time.specs.Order.{lt, same_stamp, stamp_lt}
-use Rattle.script_meaning.specs.Meaning.{Answer, Got, Stored, ToRead, ToWrite}
-use Rattle.serial_law.specs.Facts.{Sees, asks, at}
-use Rattle.serial_law.specs.Serial.{HasValue}
-use Rattle.serial_model.specs.Questions.{Tree, after}
-use Rattle.value_form.specs.Objects.{Objects, value_at}
-use Rattle.object_history.proofs.BoolLemmas.{and-both, and-left, and-right}
-use Rattle.object_history.proofs.StableLemmas.{scan-passes, starts-all}
-use Rattle.object_history.proofs.TestLemmas.{two-tests}
-use Rattle.object_history.proofs.ViewLemmas.{top-all}
-use Rattle.object_history.proofs.Words.{AtMost, Passes}
-use Rattle.object_history.specs.Views.{Starts}
-use Rattle.pseudo_time.proofs.OrderLemmas.{same_stamp-of}
+use Rattle.object_history.specs.History.{is_alive}
+use Rattle.object_history.specs.Views.{Firm}
 use Rattle.serial_law.proofs.Puts.{Picked, PutAt, at-most, picked}
 use Rattle.serial_law.proofs.Times.{below-stamp, inside, inside-high, inside-low, lt-step, stamp-below}
 

@@ -2,25 +2,15 @@
 use Rattle.std.proofs.Common.{◌≡◌, Bool, true, false, List, refl, subst, Some}
 use Rattle.std.proofs.lemmas.Bool.{false≢true}
 use Rattle.pseudo_time.specs.declared.decisions.Decision.TheVariants as decision
-use Rattle.effect_form.specs.declared.outcomes.Outcome.{Outcome}
+use Rattle.serial_law.proofs.Names.{Outcome, Post, Answer, Over, RunLogs, Try, before, committed, marks_at, RunFacts, IsSerial, Serial, Tree, talked, talked_alone, Objects, Ending, Has, MayCommit}
 use Rattle.effect_form.specs.declared.outcomes.Outcome.TheVariants as outcome
-use Rattle.message_form.specs.Posts.{Post}
-use Rattle.script_meaning.specs.Meaning.{Answer}
 use Rattle.serial_law.proofs.Talking.{Alike, alone}
 use Rattle.serial_law.proofs.Settled.{at-home, committed-home}
 use Rattle.serial_law.proofs.Premises.{lone}
 use Rattle.serial_law.proofs.Before.{whole, before-holds}
 use Rattle.serial_law.proofs.Lines.{puts-are-lines}
-use Rattle.script_meaning.specs.Meaning.{Over}
-use Rattle.world_core.specs.Deeds.{RunLogs, Try, before, committed, marks_at}
-use Rattle.serial_law.specs.Facts.{RunFacts}
-use Rattle.serial_law.specs.Serial.{IsSerial, Serial, IsComplete}
-use Rattle.serial_model.specs.Questions.{Tree, talked, talked_alone}
-use Rattle.value_form.specs.Objects.{Objects}
-use Rattle.value_form.specs.declared.endings.Ending.{Ending}
+use Rattle.serial_law.specs.Serial.{IsComplete}
 use Rattle.value_form.specs.declared.endings.Ending.TheVariants as ending
-use Rattle.pseudo_time.specs.Lists.{Has}
-use Rattle.broker_laws.specs.Posts.{MayCommit}
 
 whole-of : (t : Tree) (ans : List Answer) (m : Objects) (e : Ending) → Alike t ans m → (talked t ans).stop ≡ Over e → IsComplete (talked t ans) (talked_alone t m) e
 whole-of t ans m e h k = let s = h.whole e k in record { over = k; lines = s.0; ends = s.1 }

@@ -1,31 +1,16 @@
 -- One reading for a plan and all plans of the runs among earlier calls.
 use Rattle.std.proofs.Common.{◌≡◌, ℕ, List, [], ◌∷◌, ◌++◌, refl, ◌∙◌, ap, subst, reverse, if◌then◌else◌, take}
-use Rattle.pseudo_time.specs.Lists.{Every, Has}
-use Rattle.pseudo_time.specs.Nodes.{repository, same_node}
-use Rattle.pseudo_time.specs.TimeParts.{TimeParts}
-use Rattle.pseudo_time.proofs.ListLemmas.{every-append, has-left, has-right}
-use Rattle.pseudo_time.specs.declared.nodes.NodeId.{NodeId}
-use Rattle.value_form.specs.declared.acts.ActSpec.{ActSpec}
-use Rattle.effect_form.specs.declared.effects.Effect.{Effect}
-use Rattle.stream_port.specs.declared.fates.Asked.{Asked}
-use Rattle.serial_model.specs.Questions.{Tree}
-use Rattle.plan_form.specs.declared.plans.Plan.{Plan}
-use Rattle.plan_form.specs.PlanTexts.{IsOfLanguage}
+use Rattle.serial_law.proofs.Names.{Every, Has, repository, TimeParts, has-left, has-right, NodeId, ActSpec, Effect, Asked, Tree, Plan, IsOfLanguage, reading, Scripted, Trace, in_plan, alike, own_reading, IsLegal, World, sent_by, own-reading, walk-same, AreEarlier, AreOfLanguage, Earlier, WereLeftOrRetired, replaced, sent_earlier, Running, Retiring}
+use Rattle.pseudo_time.specs.Nodes.{same_node}
+use Rattle.pseudo_time.proofs.ListLemmas.{every-append}
 use Rattle.object_retirement.specs.Forward.{MayRetire, forward}
 use Rattle.broker_core.specs.Ledgers.{IsBrokerAct}
-use Rattle.broker_core.specs.Readings.{reading}
-use Rattle.broker_core.specs.Tasks.{Scripted}
 use Rattle.broker_core.proofs.ReadingLemmas.{reads-all}
-use Rattle.world_core.specs.declared.traces.Trace.{Trace}
-use Rattle.world_core.specs.Legal.{Legal, in_plan}
-use Rattle.world_core.specs.Pasts.{Call, alike, log_left, own_reading}
-use Rattle.world_core.specs.Readings.{IsLegal}
-use Rattle.world_core.specs.Walks.{World, sent_by}
-use Rattle.world_core.proofs.OneReading.{own-reading}
+use Rattle.world_core.specs.Legal.{Legal}
+use Rattle.world_core.specs.Pasts.{Call, log_left}
 use Rattle.world_core.proofs.PlanRangeLemmas.{plan-acts}
-use Rattle.world_core.proofs.SameWorlds.{legal-same, walk-same}
-use Rattle.world_facts.specs.Earlier.{AreEarlier, AreOfLanguage, Earlier, WereLeftOrRetired, logs_left, replaced, sent_earlier}
-use Rattle.world_facts.specs.Earlier.Earlier.{Running, Retiring}
+use Rattle.world_core.proofs.SameWorlds.{legal-same}
+use Rattle.world_facts.specs.Earlier.{logs_left}
 
 acts_of_all : List Earlier → List ActSpec
 acts_of_all [] = []

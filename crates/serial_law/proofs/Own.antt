@@ -1,18 +1,10 @@
 -- A script's own map: what it wrote last to an object, or what was there before.
 use Rattle.std.proofs.Common.{◌≡◌, ◌≤◌, ◌<◌, length, Bool, true, false, List, [], ◌∷◌, ◌++◌, refl, sym, ◌∙◌, ap, subst, Option, Some, None, ◌⊎◌, inl, inr, arith, if◌then◌else◌, cond}
 use Rattle.std.proofs.lemmas.Bool.{false≢true}
-use Rattle.value_form.specs.declared.objects.ObjectId.{ObjectId}
-use Rattle.value_form.specs.declared.values.Value.{Value}
-use Rattle.value_form.specs.declared.values.Value.TheVariants.{Nothing}
-use Rattle.object_history.specs.Objects.{same_object}
-use Rattle.script_meaning.specs.Meaning.{Answer, Got, Request, Stored, ToRead, ToWrite}
-use Rattle.serial_law.specs.Facts.{asks}
-use Rattle.serial_model.specs.Questions.{Ends, Reads, Says, Tree, Writes, after, left_after}
-use Rattle.value_form.specs.Objects.{Objects, object_cmp, value_at}
+use Rattle.serial_law.proofs.Names.{ObjectId, Value, Nothing, same_object, Answer, Got, Request, Stored, ToRead, ToWrite, asks, Ends, Reads, Says, Tree, Writes, after, left_after, Objects, object_cmp, value_at, same_object-is, same_object-of}
 use Rattle.value_form.proofs.ObjectLemmas.{object_cmp-total}
 use Rattle.std.specs.Ordering.{is_eq}
 use Rattle.std.specs.Option.{unwrap_or}
-use Rattle.object_history.proofs.ObjectLemmas.{same_object-is, same_object-of}
 use Rattle.std.specs.FinMap as finite
 
 -- what a map holds after a write

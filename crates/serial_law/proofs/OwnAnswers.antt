@@ -3,57 +3,23 @@ use Rattle.std.proofs.Common.{◌≡◌, inl, inr, ℕ, ◌+◌, ◌≤◌, ◌<
 use Rattle.std.proofs.lemmas.List.{length-append}
 use Rattle.std.proofs.lemmas.Bool.{or_right}
 use Rattle.std.proofs.lemmas.Option.{same_Some}
-use Rattle.pseudo_time.specs.Lists.{Every, Has}
-use Rattle.pseudo_time.specs.Order.{lt, same_stamp}
-use Rattle.pseudo_time.specs.StampParts.{StampParts}
-use Rattle.pseudo_time.specs.TimeParts.{TimeParts}
-use Rattle.pseudo_time.specs.declared.nodes.NodeId.{NodeId}
-use Rattle.pseudo_time.specs.declared.nodes.NodeKind.{NodeKind}
-use Rattle.pseudo_time.specs.declared.nodes.NodeKind.TheVariants.{Repository, Broker}
-use Rattle.pseudo_time.proofs.ListLemmas.{every-has}
-use Rattle.pseudo_time.proofs.OrderLemmas.{same_stamp-of}
-use Rattle.value_form.specs.declared.objects.ObjectId.{ObjectId}
-use Rattle.value_form.specs.declared.values.Value.{Value}
-use Rattle.effect_form.specs.declared.effects.Effect.{Effect}
+use Rattle.serial_law.proofs.Names.{Every, Has, lt, same_stamp, StampParts, TimeParts, NodeId, NodeKind, Repository, Broker, every-has, same_stamp-of, ObjectId, Value, Effect, Message, Post, WasSent, Mark, Seen, alive, shows, views, value_of, Viewed, and-both, and-left, scan-passes, top-all, AtMost, Passes, Answer, Got, Stored, Request, ToRead, ToWrite, Asks, stop, marks, book, tries, broker, repository, IsAskOf, IsBelow, IsPlayed, IsProven, clocks, kind_post, asked_of, Position, TickedBefore, log_at, sent_before, world_at, alike, replaced, sent_earlier, base_of, sent_by, logs_at, some-log}
 use Rattle.effect_form.specs.declared.effects.Effect.TheVariants as effect
 use Rattle.effect_form.specs.declared.outcomes.Outcome.TheVariants as outcome
-use Rattle.message_form.specs.declared.messages.Message.{Message}
 use Rattle.message_form.specs.declared.messages.Message.TheVariants as message
-use Rattle.message_form.specs.Posts.{Post, WasSent}
-use Rattle.object_history.specs.declared.marks.Mark.{Mark}
 use Rattle.object_history.specs.declared.marks.Mark.TheVariants as mark
-use Rattle.object_history.specs.History.{Seen, alive}
-use Rattle.object_history.specs.Views.{shows, views, value_of, Viewed}
-use Rattle.object_history.proofs.BoolLemmas.{and-both, and-left}
-use Rattle.object_history.proofs.StableLemmas.{scan-passes}
-use Rattle.object_history.proofs.ViewLemmas.{top-all}
-use Rattle.object_history.proofs.Words.{AtMost, Passes}
-use Rattle.script_meaning.specs.Meaning.{Answer, Got, Stored, Request, ToRead, ToWrite, Asks}
-use Rattle.serial_model.specs.Questions.{stop}
-use Rattle.repository_core.specs.Logs.{marks}
 use Rattle.repository_laws.specs.Facts as repositories
-use Rattle.broker_core.specs.Book.{Try, book, find, tries}
-use Rattle.pseudo_time.specs.Nodes.{broker, repository}
-use Rattle.broker_laws.specs.Posts.{IsAskOf, IsBelow, IsFitting, IsPlayed, IsProven, at}
+use Rattle.broker_core.specs.Book.{Try, find}
+use Rattle.broker_laws.specs.Posts.{IsFitting, at}
 use Rattle.broker_laws.proofs.Found.{each-found, one-request}
-use Rattle.broker_laws.proofs.Moves.{clocks}
-use Rattle.world_facts.specs.NodeRules.{kind_post}
 use Rattle.serial_law.specs.Answers.{brings, IsAnsweredThere, StoredBefore}
-use Rattle.serial_law.specs.Facts.{asked_of}
-use Rattle.serial_law.specs.Runs.{Position, TickedBefore, log_at, sent_before, world_at}
 use Rattle.serial_law.proofs.Attempts.{found-try, found-in}
 use Rattle.serial_law.proofs.Own.{front-short}
 use Rattle.serial_law.proofs.Puts.{Picked, at-most, picked, put-stands, stands-put}
 use Rattle.serial_law.proofs.Times.{inside, inside-high, inside-low}
 use Rattle.serial_law.proofs.Traces.{place-facts, broker-tidy, stamps-apart, answers-asked, answers-sent, requests-right}
-use Rattle.world_core.specs.Pasts.{alike}
-use Rattle.world_facts.specs.Earlier.{replaced, sent_earlier}
 use Rattle.world_facts.proofs.Growths.{every-of}
-use Rattle.world_core.specs.Legal.{base_of}
-use Rattle.world_core.specs.Walks.{sent_by}
-use Rattle.world_facts.specs.Refines.{logs_at}
 use Rattle.world_facts.proofs.AnswerLemmas.{ViewedThere, viewed-there}
-use Rattle.world_facts.proofs.OldChains.{some-log}
 
 read-same : (o p : ObjectId) → ToRead o ≡ ToRead p → o ≡ p
 read-same o p e = cc e

@@ -1,21 +1,13 @@
 -- What the facts of a run say of one attempt.
 use Rattle.std.proofs.Common.{◌≡◌, ◌+◌, ◌≤◌, length, true, false, List, [], ◌∷◌, ◌++◌, refl, sym, ◌∙◌, ap, subst, Some, arith}
 use Rattle.std.proofs.lemmas.Option.{same_Some}
-use Rattle.pseudo_time.specs.TimeParts.{TimeParts}
-use Rattle.value_form.specs.declared.objects.ObjectId.{ObjectId}
-use Rattle.value_form.specs.declared.values.Value.{Value}
+use Rattle.serial_law.proofs.Names.{TimeParts, ObjectId, Value, Post, settle_of, Has, Answer, Got, Request, Stored, ToRead, ToWrite, RunLogs, Try, committed, in_run, log_of, marks_at, RunFacts, Sees, asks, at, after}
 use Rattle.effect_form.specs.declared.effects.Effect.TheVariants as effect
-use Rattle.message_form.specs.Posts.{Post}
 use Rattle.serial_law.proofs.LogLemmas.{put-marks, marks-put, marks-in, marks-cases}
 use Rattle.serial_law.proofs.Settled.{sure-yes, sure-no}
 use Rattle.serial_law.proofs.Own.{Written, fronts}
 use Rattle.serial_law.proofs.Lone.{Lone}
-use Rattle.object_history.specs.History.{settle_of}
-use Rattle.pseudo_time.specs.Lists.{Has}
-use Rattle.script_meaning.specs.Meaning.{Answer, Got, Request, Stored, ToRead, ToWrite}
-use Rattle.world_core.specs.Deeds.{RunLogs, Try, committed, in_run, log_of, marks_at}
-use Rattle.serial_law.specs.Facts.{Asked, RunFacts, Sees, asks, at}
-use Rattle.serial_model.specs.Questions.{after}
+use Rattle.serial_law.specs.Facts.{Asked}
 use Rattle.serial_law.proofs.Puts.{PutAt}
 
 -- one request per pseudotime: what was asked at this step is what the script asks there

@@ -1,14 +1,7 @@
 -- Puts among marks, and those that a scan finds.
 use Rattle.std.proofs.Common.{◌≡◌, Bool, true, List, [], ◌∷◌, refl, ◌∙◌, ap, subst, Option, Some, None, inl, inr, ◌⊎◌}
-use Rattle.pseudo_time.specs.Lists.{Has}
-use Rattle.pseudo_time.specs.TimeParts.{TimeParts}
-use Rattle.value_form.specs.declared.objects.ObjectId.{ObjectId}
-use Rattle.value_form.specs.declared.values.Value.{Value}
-use Rattle.object_history.specs.declared.marks.Mark.{Mark}
-use Rattle.object_history.specs.declared.marks.Mark.TheVariants.{Put, Stretch, Settle, Floor}
-use Rattle.object_history.specs.History.{Seen, scan}
-use Rattle.object_history.specs.Views.{Starts, IsVersion}
-use Rattle.object_history.proofs.Words.{AtMost}
+use Rattle.serial_law.proofs.Names.{Has, TimeParts, ObjectId, Value, Mark, Put, Stretch, Settle, Floor, Seen, scan, Starts, AtMost}
+use Rattle.object_history.specs.Views.{IsVersion}
 use Rattle.object_history.proofs.ScanLemmas.{Standing, standing}
 
 -- the object's put with this start and value stands among the marks

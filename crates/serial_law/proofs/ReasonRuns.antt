@@ -1,40 +1,11 @@
 -- Refusals and causes by two readings of scripts.
 use Rattle.std.proofs.Common.{◌≡◌, ◌⊎◌, inl, inr, ℕ, true, List, [], ◌∷◌, reverse, subst, Some}
-use Rattle.pseudo_time.specs.Lists.{Has}
-use Rattle.pseudo_time.specs.Nodes.{repository}
-use Rattle.pseudo_time.specs.TimeParts.{TimeParts}
+use Rattle.serial_law.proofs.Names.{Has, repository, TimeParts, ObjectId, Value, NodeId, Effect, Outcome, WriteStep, read_step, write_step, Request, ToRead, ToWrite, Tree, after, Plan, marks, reading, Scripted, Entry, Trace, WasAnswered, WasRefused, RunLogs, Try, in_run, log_of, base_of, alike, own_reading, AreEarlier, AreOfLanguage, Earlier, Running, Retiring, Base, World, own-reading, walk-same, Happened, HasReason, HasStood, asked_of, asks, AnsweredBy, RefusedBy, InSome}
 use Rattle.pseudo_time.specs.declared.decisions.Decision.TheVariants as decision
-use Rattle.value_form.specs.declared.objects.ObjectId.{ObjectId}
-use Rattle.value_form.specs.declared.values.Value.{Value}
-use Rattle.pseudo_time.specs.declared.nodes.NodeId.{NodeId}
-use Rattle.effect_form.specs.declared.effects.Effect.{Effect}
 use Rattle.effect_form.specs.declared.effects.Effect.TheVariants as effect
-use Rattle.effect_form.specs.declared.outcomes.Outcome.{Outcome}
 use Rattle.effect_form.specs.declared.outcomes.Outcome.TheVariants as outcome
-use Rattle.object_history.specs.declared.steps.WriteStep.{WriteStep}
 use Rattle.object_history.specs.declared.steps.ReadStep.TheVariants as read
-use Rattle.object_history.specs.Answers.{read_step, write_step}
-use Rattle.script_meaning.specs.Meaning.{Request, ToRead, ToWrite}
-use Rattle.serial_model.specs.Questions.{Tree, after}
-use Rattle.plan_form.specs.declared.plans.Plan.{Plan}
-use Rattle.repository_core.specs.Logs.{marks}
-use Rattle.broker_core.specs.Readings.{reading}
-use Rattle.broker_core.specs.Tasks.{Scripted}
-use Rattle.world_core.specs.declared.entries.Entry.{Entry}
-use Rattle.world_core.specs.declared.traces.Trace.{Trace}
-use Rattle.world_core.specs.Answered.{WasAnswered, WasRefused}
-use Rattle.world_core.specs.Deeds.{RunLogs, Try, in_run, log_of}
-use Rattle.world_core.specs.Legal.{base_of}
-use Rattle.world_core.specs.Pasts.{alike, own_reading}
-use Rattle.world_facts.specs.Earlier.{AreEarlier, AreOfLanguage, Earlier}
-use Rattle.world_facts.specs.Earlier.Earlier.{Running, Retiring}
-use Rattle.world_core.specs.Walks.{Base, World, all_effects, numbered}
-use Rattle.world_core.proofs.OneReading.{own-reading}
-use Rattle.world_core.proofs.SameWorlds.{walk-same}
-use Rattle.serial_law.specs.Causes.{Happened, HasReason, HasStood}
-use Rattle.serial_law.specs.Facts.{asked_of, asks}
-use Rattle.serial_law.specs.Reasons.{AnsweredBy, RefusedBy}
-use Rattle.serial_law.specs.Runs.{InSome}
+use Rattle.world_core.specs.Walks.{all_effects, numbered}
 
 -- ---- refusals
 

@@ -1,21 +1,10 @@
 -- What Serial refuses: the run over two repositories with one thing wrong, and a plan without the object's repository.
 use Rattle.std.proofs.Common.{◌≡◌, Bool, true, false, List, [], ◌∷◌, refl, sym, ◌∙◌, ap, Option, Some, None, inl, inr}
 use Rattle.std.proofs.lemmas.Bool.{false≢true, true≢false}
-use Rattle.pseudo_time.specs.Order.{same_stamp, stamp_lt, lt}
-use Rattle.value_form.specs.declared.transcripts.Line.{Line}
+use Rattle.serial_law.proofs.Names.{same_stamp, stamp_lt, lt, Line, Value, Nothing, value_at, Effect, Outcome, Answer, Got, Stored, book, knows, Try, RunLogs, Version, has_commit, committed, put_in, puts_of, puts_to, find, stamp_in, stamp_if, put_stamps, log_stamps, try_stamps, all_deeds, before, lines_written, Serial}
 use Rattle.value_form.specs.declared.transcripts.Line.TheVariants as line
-use Rattle.value_form.specs.declared.values.Value.{Value}
-use Rattle.value_form.specs.declared.values.Value.TheVariants.{Nothing}
-use Rattle.value_form.specs.Objects.{value_at}
-use Rattle.effect_form.specs.declared.effects.Effect.{Effect}
 use Rattle.effect_form.specs.declared.effects.Effect.TheVariants as effect
-use Rattle.effect_form.specs.declared.outcomes.Outcome.{Outcome}
 use Rattle.effect_form.specs.declared.outcomes.Outcome.TheVariants as outcome
-use Rattle.script_meaning.specs.Meaning.{Answer, Got, Stored}
-use Rattle.broker_core.specs.Book.{book}
-use Rattle.repository_core.specs.Logs.{knows}
-use Rattle.world_core.specs.Deeds.{Try, RunLogs, Version, has_commit, committed, put_in, puts_of, puts_to, find, stamp_in, stamp_if, put_stamps, log_stamps, try_stamps, all_deeds, before, lines_written}
-use Rattle.serial_law.specs.Serial.{Serial}
 use Rattle.serial_law.proofs.Attempts.{booked_tries}
 use Rattle.serial_law.proofs.WorkedRuns.{booked_of, stamp, time, object, int, plan, one, elsewhere_script, elsewhere_home, elsewhere_other, elsewhere_broker, at_one, at_two, pick_log, value-one}
 

@@ -1,67 +1,33 @@
 -- What holds of all logs and messages of a legal run gives the facts that keep it serial.
 use Rattle.std.proofs.Common.{◌≡◌, ◌⊎◌, ℕ, ◌+◌, ◌≤◌, true, List, [], ◌∷◌, ◌++◌, map, reverse, refl, sym, ◌∙◌, ap, subst, Some, is_some, inl, inr, ◌==◌}
 use Rattle.std.proofs.lemmas.List.{append-nil}
-use Rattle.pseudo_time.specs.Lists.{Every, Has}
-use Rattle.pseudo_time.specs.StampParts.{StampParts}
-use Rattle.pseudo_time.specs.TimeParts.{TimeParts}
-use Rattle.pseudo_time.specs.declared.decisions.Decision.{Decision}
+use Rattle.serial_law.proofs.Names.{Every, Has, StampParts, TimeParts, Decision, NodeId, NodeKind, Repository, Broker, every-has, ActSpec, ObjectId, Value, Effect, Outcome, Message, Post, WasSent, Distinct, Viewed, all_stood, Got, Stored, Request, ToRead, ToWrite, Asks, Over, Tree, after, stop, talked, talked-stop, Plan, InRange, IsOfLanguage, is_commit, marks, Once, decide-home, decided-once, book, tries, tries_of, broker, repository, Task, tasks, Scripted, IsAskOf, IsBelow, IsPlayed, IsProven, MayCommit, clocks, distinct, played, proven, acts_of, Base, opened_log, kind_post, node_facts, Causes, Happened, HasReason, HasStood, Try, RunLogs, in_run, Sees, at, asks, asked_of, RunFacts, whole_log, whole_run, attempt, keep, WriteStep, read_step, write_step, lt, each-has, broker-post, some-history, some-log}
 use Rattle.pseudo_time.specs.declared.decisions.Decision.TheVariants as decision
-use Rattle.pseudo_time.specs.declared.nodes.NodeId.{NodeId}
-use Rattle.pseudo_time.specs.declared.nodes.NodeKind.{NodeKind}
-use Rattle.pseudo_time.specs.declared.nodes.NodeKind.TheVariants.{Repository, Broker}
-use Rattle.pseudo_time.proofs.ListLemmas.{every-has}
-use Rattle.value_form.specs.declared.acts.ActSpec.{ActSpec}
 use Rattle.value_form.specs.declared.endings.Ending.TheVariants as ending
-use Rattle.value_form.specs.declared.objects.ObjectId.{ObjectId}
-use Rattle.value_form.specs.declared.values.Value.{Value}
 use Rattle.value_form.specs.Mirror.{block}
-use Rattle.effect_form.specs.declared.effects.Effect.{Effect}
 use Rattle.effect_form.specs.declared.effects.Effect.TheVariants as effect
-use Rattle.effect_form.specs.declared.outcomes.Outcome.{Outcome}
 use Rattle.effect_form.specs.declared.outcomes.Outcome.TheVariants as outcome
-use Rattle.message_form.specs.declared.messages.Message.{Message}
 use Rattle.message_form.specs.declared.messages.Message.TheVariants as message
-use Rattle.message_form.specs.Posts.{Post, WasSent}
-use Rattle.object_history.specs.Views.{Distinct, IsOnFloor, Viewed}
-use Rattle.object_retirement.specs.Stood.{all_stood}
+use Rattle.object_history.specs.Views.{IsOnFloor}
 use Rattle.object_retirement.proofs.ChainLemmas.{chain-view}
-use Rattle.script_meaning.specs.Meaning.{Got, Stored, Request, ToRead, ToWrite, Stop, Asks, Over}
-use Rattle.serial_model.specs.Questions.{Tree, after, stop, talked}
-use Rattle.serial_model.proofs.AnswerLemmas.{talked-stop}
-use Rattle.plan_form.specs.declared.plans.Plan.{Plan}
-use Rattle.plan_form.specs.Plans.{InRange}
-use Rattle.plan_form.specs.PlanTexts.{EachAct, IsOfLanguage}
-use Rattle.repository_core.specs.Logs.{is_commit, marks}
+use Rattle.script_meaning.specs.Meaning.{Stop}
+use Rattle.plan_form.specs.PlanTexts.{EachAct}
 use Rattle.repository_laws.specs.Facts as repositories
-use Rattle.repository_laws.specs.Facts.{Once}
-use Rattle.repository_laws.proofs.Logs.{learn-home, decide-home, decided-once, decide-cause}
+use Rattle.repository_laws.proofs.Logs.{learn-home, decide-cause}
 use Rattle.broker_core.specs.Book as books
-use Rattle.broker_core.specs.Book.{book, tries, tries_of, find}
-use Rattle.pseudo_time.specs.Nodes.{broker, repository}
-use Rattle.broker_core.specs.Tasks.{Task, task_of, tasks, Scripted}
+use Rattle.broker_core.specs.Book.{find}
+use Rattle.broker_core.specs.Tasks.{task_of}
 use Rattle.broker_laws.specs.Fits as brokers
-use Rattle.broker_laws.specs.Posts.{IsAskOf, IsCommitOf, IsBelow, IsPlayed, IsProven, IsPlanned, MayCommit}
+use Rattle.broker_laws.specs.Posts.{IsCommitOf, IsPlanned}
 use Rattle.broker_laws.specs.Posts as posts
 use Rattle.broker_laws.proofs.Found.{planned}
-use Rattle.broker_laws.proofs.Moves.{clocks, distinct}
-use Rattle.broker_laws.proofs.Tries.{played, proven}
-use Rattle.world_core.specs.Nodes.{acts_of}
-use Rattle.world_core.specs.Walks.{Base, opened_log}
-use Rattle.world_facts.specs.NodeRules.{kind_post, node_facts}
 use Rattle.world_facts.specs.Refines as refines
-use Rattle.serial_law.specs.Causes.{Causes, Happened, HasReason, HasStood}
-use Rattle.world_core.specs.Deeds.{Try, RunLogs, in_run}
-use Rattle.serial_law.specs.Facts.{Said, Sees, at, asks, request_at, asked_of, Asked, RunFacts}
-use Rattle.serial_law.specs.Wholes.{whole_log, whole_run}
-use Rattle.serial_law.specs.Runs.{attempt, run_of}
-use Rattle.broker_core.specs.Fits.{keep}
+use Rattle.serial_law.specs.Facts.{Said, request_at, Asked}
+use Rattle.serial_law.specs.Runs.{run_of}
 use Rattle.broker_laws.proofs.Kept.{kept}
 use Rattle.serial_law.proofs.Attempts.{IsTryOf, try-of, tries-kept, try-home, of-book, found-try}
-use Rattle.object_history.specs.declared.steps.WriteStep.{WriteStep}
 use Rattle.object_history.specs.declared.steps.WriteStep.TheVariants as write
 use Rattle.object_history.specs.declared.steps.ReadStep.TheVariants as read
-use Rattle.object_history.specs.Answers.{read_step, write_step}
-use Rattle.pseudo_time.specs.Order.{lt}
 use Rattle.world_core.proofs.Refusals.{Says}
 use Rattle.serial_law.proofs.CauseLemmas.{once-read, once-refused, once-version}
 use Rattle.serial_law.proofs.WholeLemmas.{IsPut, marks-whole, other-whole, put-once, whole-has}
@@ -69,11 +35,9 @@ use Rattle.serial_law.proofs.Inside.{Inside, inside-after, inside-asks, inside-s
 use Rattle.serial_law.proofs.LogLemmas.{in-both}
 use Rattle.serial_law.proofs.WholeFacts.{its-all, its-chain, put-asked, put-whole}
 use Rattle.serial_law.proofs.Premises.{asked-here}
-use Rattle.world_facts.proofs.Growths.{each-has, every-filter, every-at}
+use Rattle.world_facts.proofs.Growths.{every-filter, every-at}
 use Rattle.world_facts.specs.Rules.{SomeOf}
-use Rattle.world_facts.proofs.AnswerLemmas.{broker-post}
 use Rattle.world_facts.proofs.AnswerLemmas as answers
-use Rattle.world_facts.proofs.OldChains.{some-history, some-log}
 
 -- ---- lists
 

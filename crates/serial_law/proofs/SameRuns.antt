@@ -2,25 +2,9 @@
 use Rattle.std.proofs.Common.{◌≡◌, ◌⊎◌, ℕ, zero, suc, ◌≤◌, Bool, true, false, ◌&&◌, ◌||◌, nat_le, map, List, [], ◌∷◌, ◌++◌, refl, sym, ◌∙◌, ap, subst, if◌then◌else◌, arith}
 use Rattle.std.specs.FinMap as finite
 use Rattle.std.proofs.lemmas.Bool.{le-leb}
-use Rattle.pseudo_time.specs.Lists.{Every, Has}
-use Rattle.pseudo_time.specs.StampParts.{StampParts}
-use Rattle.pseudo_time.specs.Order.{stamp_lt}
-use Rattle.pseudo_time.specs.Nodes.{repository}
-use Rattle.pseudo_time.specs.declared.nodes.NodeId.{NodeId}
-use Rattle.value_form.specs.declared.objects.ObjectId.{ObjectId}
-use Rattle.value_form.specs.Objects.{Objects}
-use Rattle.effect_form.specs.declared.effects.Effect.{Effect}
-use Rattle.object_history.specs.declared.marks.Mark.{Mark}
-use Rattle.object_history.specs.declared.marks.Mark.TheVariants.{Put, Stretch, Settle, Floor}
-use Rattle.object_history.specs.History.{scan}
-use Rattle.object_history.specs.Views.{value_of}
-use Rattle.repository_core.specs.Logs.{marks}
-use Rattle.serial_model.specs.Questions.{talked, talked_alone}
+use Rattle.serial_law.proofs.Names.{Every, Has, StampParts, stamp_lt, repository, NodeId, ObjectId, Objects, Effect, Mark, Put, Stretch, Settle, Floor, scan, value_of, marks, talked, talked_alone, Try, RunLogs, in_run, some_of, has_commit, has_learned, committed, puts_of, puts_to, written, find, deed_of, deed, put_stamps, log_stamps, try_stamps, deed_stamps, all_deeds, before, finals, marks_at, Serial, IsSerial, KeepsPuts, PutsStand, WasGivenUp, wrote, last_values, marks_to}
 use Rattle.serial_model.specs.Deeds.{after_deeds, stamp_if}
-use Rattle.world_core.specs.Deeds.{Try, RunLogs, in_run, some_of, has_commit, has_learned, committed, puts_of, puts_to, written, find, deed_of, deed, put_stamps, log_stamps, try_stamps, deed_stamps, all_deeds, before, finals, marks_at}
-use Rattle.serial_law.specs.Serial.{Serial, IsSerial}
-use Rattle.serial_law.specs.Wholes.{KeepsPuts, PutsStand, WasGivenUp, wrote}
-use Rattle.trace_report.specs.Finals.{holding, last_values, marks_to}
+use Rattle.trace_report.specs.Finals.{holding}
 use Rattle.broker_laws.proofs.TestLemmas.{and-both}
 
 abbrev run_with : ℕ → (NodeId → List Effect) → List Try → RunLogs

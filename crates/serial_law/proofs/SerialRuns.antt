@@ -2,52 +2,20 @@
 use Rattle.std.proofs.Common.{◌≡◌, ℕ, zero, suc, ◌≤◌, ◌==◌, nat_le, Bool, true, false, ◌&&◌, List, [], ◌∷◌, ◌++◌, append-nil, length, map, refl, sym, ◌∙◌, ap, subst, if◌then◌else◌, arith}
 use Rattle.std.proofs.lemmas.Bool.{eqb-true, le-leb}
 use Rattle.std.specs.Prelude.{reverse}
-use Rattle.pseudo_time.specs.Lists.{Every}
-use Rattle.pseudo_time.specs.declared.nodes.NodeId.{NodeId}
-use Rattle.value_form.specs.declared.acts.ActSpec.{ActSpec}
-use Rattle.effect_form.specs.declared.effects.Effect.{Effect}
-use Rattle.stream_port.specs.declared.fates.Asked.{Asked}
-use Rattle.serial_model.specs.Questions.{Tree}
-use Rattle.plan_form.specs.declared.plans.Plan.{Plan}
-use Rattle.plan_form.specs.PlanTexts.{IsOfLanguage}
-use Rattle.broker_core.specs.Tasks.{Task, tasks, Scripted}
+use Rattle.serial_law.proofs.Names.{Every, NodeId, ActSpec, Effect, Asked, Tree, Plan, IsOfLanguage, Task, tasks, Scripted, Book, Act, tries_of, Trace, acts_of, World, start_world, base_of, in_plan, Try, finals, broker, repository, reading, counted, IsLegal, OpenedWith, AnsweredBefore, Position, RefusedBefore, TickedBefore, happened_before, log_at, olds_at, run_at, sent_before, whole_at, world_at, Serial, KeepsPuts, whole_log, last_values, value_at, Earlier, TickedBy, WereLeftOrRetired, Causes, RunFacts, Has, TimeParts, ObjectId, Value, WriteStep, AnsweredBy, RefusedBy, walk-same, own-reading, walk-known}
 use Rattle.broker_core.specs.Book as books
-use Rattle.broker_core.specs.Book.{Book, Act, tries_of}
 use Rattle.broker_core.specs.Sound.{Started, OfAct}
-use Rattle.world_core.specs.declared.traces.Trace.{Trace}
-use Rattle.world_core.specs.Nodes.{acts_of}
-use Rattle.world_core.specs.Walks.{World, start_world}
-use Rattle.world_core.specs.Legal.{base_of, in_plan}
-use Rattle.world_core.specs.Deeds.{Try, attempt, book_tries, finals, run_tries}
-use Rattle.pseudo_time.specs.Nodes.{broker, repository}
-use Rattle.broker_core.specs.Readings.{reading}
-use Rattle.broker_core.specs.Counted.{counted}
-use Rattle.world_core.specs.Readings.{IsLegal, gated_log}
-use Rattle.world_core.specs.Pasts.{OpenedWith}
-use Rattle.serial_law.specs.Runs.{AnsweredBefore, Position, RefusedBefore, TickedBefore, happened_before, log_at, olds_at, run_at, sent_before, whole_at, world_at}
-use Rattle.serial_law.specs.Serial.{Serial}
-use Rattle.serial_law.specs.Wholes.{KeepsPuts, whole_log}
-use Rattle.trace_report.specs.Finals.{last_values}
-use Rattle.value_form.specs.Objects.{value_at}
-use Rattle.world_facts.specs.Earlier.{Earlier, TickedBy, WereLeftOrRetired}
-use Rattle.serial_law.specs.Causes.{Causes}
-use Rattle.serial_law.specs.Facts.{RunFacts}
-use Rattle.pseudo_time.specs.Lists.{Has}
-use Rattle.pseudo_time.specs.TimeParts.{TimeParts}
-use Rattle.value_form.specs.declared.objects.ObjectId.{ObjectId}
-use Rattle.value_form.specs.declared.values.Value.{Value}
-use Rattle.object_history.specs.declared.steps.WriteStep.{WriteStep}
-use Rattle.serial_law.specs.Reasons.{AnsweredBy, HaveReasons, RefusedBy, happened_by}
+use Rattle.world_core.specs.Deeds.{attempt, book_tries, run_tries}
+use Rattle.world_core.specs.Readings.{gated_log}
+use Rattle.serial_law.specs.Reasons.{HaveReasons, happened_by}
 use Rattle.serial_law.proofs.ReasonRuns.{answered-own, reason-same, refused-own}
 use Rattle.serial_law.specs.Serials.{HoldsFinals, IsSerialOver, olds_in, run_in, whole_in}
 use Rattle.broker_laws.proofs.TestLemmas.{and-both}
 use Rattle.broker_core.proofs.SoundLemmas.{sound-kept}
 use Rattle.broker_core.proofs.SameTurns.{book-same}
-use Rattle.world_core.proofs.SameWorlds.{Agree, agree-of, walk-same}
-use Rattle.world_core.proofs.OneReading.{own-reading}
+use Rattle.world_core.proofs.SameWorlds.{Agree, agree-of}
 use Rattle.serial_law.proofs.OlderReading.{OneReading, older-reading}
 use Rattle.serial_law.proofs.SameRuns.{finals-same, last-same, puts-same, serial-same}
-use Rattle.world_facts.proofs.Steps.{walk-known}
 
 -- ---- attempts by two readings
 

@@ -1,17 +1,10 @@
 -- what is settled is committed, or not, as the home says
 use Rattle.std.proofs.Common.{◌≡◌, ℕ, Bool, true, false, List, refl, sym, ◌∙◌, ap, subst, Some, ◌⊎◌, inl, inr, if◌then◌else◌}
 use Rattle.std.proofs.lemmas.Bool.{false≢true, true≢false}
-use Rattle.pseudo_time.specs.StampParts.{StampParts}
+use Rattle.serial_law.proofs.Names.{StampParts, Decision, Post, settle_of, Has, RunLogs, committed, has_commit, has_learned, in_run, log_of, some_of, RunFacts, is_commit, marks}
 use Rattle.effect_form.specs.declared.effects.Effect.TheVariants as effect
-use Rattle.pseudo_time.specs.declared.decisions.Decision.{Decision}
 use Rattle.pseudo_time.specs.declared.decisions.Decision.TheVariants as decision
-use Rattle.message_form.specs.Posts.{Post}
 use Rattle.serial_law.proofs.LogLemmas.{SettledBy, OnlyLearns, settle-marks, has-commit, commit-has, has-learned, learned-has, in-low, in-high, in-both, some-yes, some-is}
-use Rattle.object_history.specs.History.{settle_of}
-use Rattle.pseudo_time.specs.Lists.{Has}
-use Rattle.world_core.specs.Deeds.{RunLogs, committed, has_commit, has_learned, in_run, log_of, some_of}
-use Rattle.serial_law.specs.Facts.{RunFacts}
-use Rattle.repository_core.specs.Logs.{is_commit, marks}
 
 if-true : (b x y : Bool) → b ≡ true → x ≡ true → (if b then x else y) ≡ true
 if-true true x y h k = k
@@ -55,8 +48,7 @@ committed-is k s h =
 
 commits : (d : Decision) → true ≡ is_commit d → d ≡ decision.Committed
 commits decision.Committed h = refl
-commits decision.Withdrawn h = absurd (true≢false h)
-commits (decision.Expired a b) h = absurd (true≢false h)
+commits _ h = absurd (true≢false h)
 
 commit-at : (k : RunLogs) (s : StampParts) (d : Decision) → Has (effect.Decide s d) (log_of k s.home) → true ≡ is_commit d →
     Has (effect.Decide s decision.Committed) (log_of k s.home)

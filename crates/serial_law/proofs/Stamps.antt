@@ -1,18 +1,9 @@
 -- the list of the stamps of deeds: rising, and complete
 use Rattle.std.proofs.Common.{◌≡◌, ℕ, ◌≤◌, zero, suc, Bool, true, false, List, [], ◌∷◌, refl, ◌∙◌, ap, subst, ◌⊎◌, inl, inr, arith, if◌then◌else◌}
 use Rattle.std.proofs.lemmas.Bool.{false≢true}
-use Rattle.pseudo_time.specs.TimeParts.{TimeParts}
-use Rattle.pseudo_time.specs.StampParts.{StampParts}
-use Rattle.value_form.specs.declared.objects.ObjectId.{ObjectId}
-use Rattle.value_form.specs.declared.values.Value.{Value}
-use Rattle.object_history.specs.declared.marks.Mark.{Mark}
-use Rattle.object_history.specs.declared.marks.Mark.TheVariants.{Put, Stretch, Settle, Floor}
+use Rattle.serial_law.proofs.Names.{TimeParts, StampParts, ObjectId, Value, Mark, Put, Stretch, Settle, Floor, same_stamp, stamp_lt, RunLogs, Try, deed_stamps, log_of, log_stamps, marks_at, put_stamps, stamp_if, stamp_in, try_stamps, marks, same_stamp-is}
 use Rattle.serial_law.proofs.LogLemmas.{le-cases, in-low, in-high, put-marks}
 use Rattle.serial_law.proofs.Premises.{put-at}
-use Rattle.pseudo_time.specs.Order.{same_stamp, stamp_lt}
-use Rattle.world_core.specs.Deeds.{RunLogs, Try, deed_stamps, log_of, log_stamps, marks_at, put_stamps, stamp_if, stamp_in, try_stamps}
-use Rattle.repository_core.specs.Logs.{marks}
-use Rattle.pseudo_time.proofs.OrderLemmas.{same_stamp-is}
 use Rattle.serial_law.proofs.Puts.{PutAt}
 use Rattle.serial_law.proofs.Times.{stamp_lt-else, stamp_lt-trans}
 

@@ -1,31 +1,10 @@
 -- What of a committed attempt, and of all that is committed, the logs as they stand tell.
 use Rattle.std.proofs.Common.{◌≡◌, ℕ, zero, suc, ◌≤◌, ◌+◌, Bool, true, false, List, [], ◌∷◌, ◌++◌, refl, sym, ◌∙◌, ap, subst, Option, Some, None, ◌⊎◌, inl, inr, ◌&&◌, arith, if◌then◌else◌}
 use Rattle.std.proofs.lemmas.Bool.{true≢false}
-use Rattle.pseudo_time.specs.Lists.{Every, Has}
-use Rattle.pseudo_time.specs.Nodes.{repository}
-use Rattle.pseudo_time.specs.StampParts.{StampParts}
-use Rattle.pseudo_time.specs.TimeParts.{TimeParts}
-use Rattle.pseudo_time.specs.declared.nodes.NodeId.{NodeId}
-use Rattle.value_form.specs.declared.objects.ObjectId.{ObjectId}
-use Rattle.value_form.specs.declared.values.Value.{Value}
-use Rattle.value_form.specs.Objects.{value_at}
-use Rattle.effect_form.specs.declared.effects.Effect.{Effect}
+use Rattle.serial_law.proofs.Names.{Every, Has, repository, StampParts, TimeParts, NodeId, ObjectId, Value, value_at, Effect, Post, Mark, Put, Stretch, Settle, Floor, Seen, pick, scan, settle_of, version_count, same_object, value_of, same_object-is, Gone, Same, marks, RunLogs, Try, Version, committed, finals, in_run, log_of, marks_at, written, last_put, last_values, marks_to, RunFacts, KeepsPuts, WasGivenUp, whole_run, wrote}
 use Rattle.effect_form.specs.declared.effects.Effect.TheVariants as effect
-use Rattle.message_form.specs.Posts.{Post}
-use Rattle.object_history.specs.declared.marks.Mark.{Mark}
-use Rattle.object_history.specs.declared.marks.Mark.TheVariants.{Put, Stretch, Settle, Floor}
-use Rattle.object_history.specs.History.{Seen, pick, scan, settle_of, version_count}
-use Rattle.object_history.specs.Objects.{same_object}
-use Rattle.object_history.specs.Views.{value_of}
-use Rattle.object_history.proofs.ObjectLemmas.{same_object-is}
-use Rattle.object_retirement.specs.Older.{Gone}
-use Rattle.object_retirement.specs.Retired.{Same}
-use Rattle.repository_core.specs.Logs.{marks}
-use Rattle.world_core.specs.Deeds.{RunLogs, Try, Version, committed, finals, in_run, log_of, marks_at, written}
-use Rattle.trace_report.specs.Finals.{all_marks, last_put, last_values, marks_to}
+use Rattle.trace_report.specs.Finals.{all_marks}
 use Rattle.trace_report.proofs.FinalLemmas.{last-value}
-use Rattle.serial_law.specs.Facts.{RunFacts}
-use Rattle.serial_law.specs.Wholes.{KeepsPuts, WasGivenUp, whole_run, wrote}
 use Rattle.serial_law.proofs.Before.{finals-hold}
 use Rattle.serial_law.proofs.Given.{In, in-to, to-in}
 use Rattle.serial_law.proofs.Lines.{puts-are-lines}

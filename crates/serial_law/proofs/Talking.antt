@@ -1,21 +1,12 @@
 -- answers that agree with a map give what the script does alone
 use Rattle.std.proofs.Common.{◌≡◌, Bool, List, [], ◌∷◌, ◌++◌, refl, sym, ◌∙◌, ap, subst, Option, Some, None}
-use Rattle.pseudo_time.specs.StampParts.{StampParts}
-use Rattle.value_form.specs.declared.objects.ObjectId.{ObjectId}
-use Rattle.value_form.specs.declared.values.Value.{Value}
-use Rattle.object_history.specs.declared.marks.Mark.{Mark}
+use Rattle.serial_law.proofs.Names.{StampParts, ObjectId, Value, Mark, left_after, Answer, Got, Over, Request, Stored, ToRead, ToWrite, asks, Ends, Reads, Says, Tree, Writes, after, left_by, talked, talked_alone, Objects, value_at, Ending, talked-stop}
 use Rattle.serial_law.proofs.Own.{Kinds, Kind_fits, assoc}
-use Rattle.serial_model.specs.Questions.{left_after}
 use Rattle.serial_law.proofs.Lone.{Lone, Holds_below, value}
-use Rattle.script_meaning.specs.Meaning.{Answer, Got, Over, Request, Stored, ToRead, ToWrite}
-use Rattle.serial_law.specs.Facts.{asks}
-use Rattle.serial_model.specs.Questions.{AnswersOf, Ends, IsFrontOf, Reads, Says, Talked, Tree, Writes, after, left_by, talked, talked_alone}
-use Rattle.value_form.specs.Objects.{Objects, value_at}
+use Rattle.serial_model.specs.Questions.{AnswersOf, IsFrontOf, Talked}
 use Rattle.value_form.specs.declared.transcripts.Line.TheVariants as line
 use Rattle.std.specs.FinMap as finite
-use Rattle.value_form.specs.declared.endings.Ending.{Ending}
 use Rattle.serial_model.proofs.AgreeLemmas.{agrees-whole}
-use Rattle.serial_model.proofs.AnswerLemmas.{talked-stop}
 
 -- one answer is right at this request and this map
 abbrev Right : Option Request → Answer → Objects → Type 0

@@ -5,10 +5,9 @@ use Rattle.std.specs.Ordering.{is_lt, is_eq, ordering_reverse}
 use Rattle.std.specs.declared.cmp.Ordering.{Ordering}
 use Rattle.std.specs.declared.cmp.Ordering.TheVariants.{Less, Equal, Greater}
 use Rattle.std.specs.Cmp.{tied_itself}
-use Rattle.pseudo_time.specs.StampParts.{StampParts, stamp_cmp}
-use Rattle.pseudo_time.specs.TimeParts.{TimeParts}
-use Rattle.pseudo_time.specs.Order.{same_stamp, stamp_lt, lt}
-use Rattle.pseudo_time.proofs.OrderLemmas.{is_less, stamp_cmp-total, same_stamp-of, lt-split, lt-stamps, lt-own, lt-steps, between}
+use Rattle.serial_law.proofs.Names.{StampParts, TimeParts, same_stamp, stamp_lt, lt, same_stamp-of, lt-stamps}
+use Rattle.pseudo_time.specs.StampParts.{stamp_cmp}
+use Rattle.pseudo_time.proofs.OrderLemmas.{is_less, stamp_cmp-total, lt-split, lt-own, lt-steps, between}
 use Rattle.object_history.proofs.BoolLemmas.{not-false, not-true}
 
 abbrev pub time : StampParts → ℕ → TimeParts

@@ -1,63 +1,25 @@
 -- The laws of legal traces, from the facts of their logs and messages.
 use Rattle.std.proofs.Common.{◌≡◌, inl, inr, ℕ, Bool, ◌≤◌, true, List, [], ◌∷◌, ◌++◌, map, reverse, refl, ◌∙◌, subst, is_some, nat_le}
 use Rattle.std.proofs.lemmas.Bool.{le-leb}
-use Rattle.pseudo_time.specs.Lists.{Every, Has}
-use Rattle.pseudo_time.specs.StampParts.{StampParts}
-use Rattle.pseudo_time.specs.TimeParts.{TimeParts}
-use Rattle.pseudo_time.specs.declared.decisions.Decision.{Decision}
+use Rattle.serial_law.proofs.Names.{Every, Has, StampParts, TimeParts, Decision, NodeId, every-has, has-either, has-left, has-right, and-both, ObjectId, Value, Effect, Message, Post, WasSent, each_below, book, tries, broker, repository, WriteSent, decide-home, decided-once, MayTry, IsPlayed, IsProven, distinct, played, proven, WriteStep, Entry, WasAnswered, WasRefused, Base, opened_log, sent_by, start_world, walk, Meets, base_of, fates_of, alike, Reason, meets-front, post-answered, write-sent, read-sent, node_facts, AreEarlier, Earlier, replaced, sent_earlier, Running, Retiring, logs_at, broker-post, older-facts, RunFacts, AnsweredBefore, InSome, Position, RefusedBefore, TickedBefore, happened_before, log_at, olds_at, run_at, sent_before, whole_at, world_at, Causes, IsSpent, Serial, KeepsPuts, last_values, value_at, committed, finals, each-has}
 use Rattle.pseudo_time.specs.declared.decisions.Decision.TheVariants as decision
-use Rattle.pseudo_time.specs.declared.nodes.NodeId.{NodeId}
-use Rattle.pseudo_time.proofs.ListLemmas.{every-has, every-left, has-either, has-left, has-right}
-use Rattle.object_history.proofs.BoolLemmas.{and-both}
-use Rattle.value_form.specs.declared.objects.ObjectId.{ObjectId}
-use Rattle.value_form.specs.declared.values.Value.{Value}
-use Rattle.effect_form.specs.declared.effects.Effect.{Effect}
+use Rattle.pseudo_time.proofs.ListLemmas.{every-left}
 use Rattle.effect_form.specs.declared.effects.Effect.TheVariants as effect
-use Rattle.message_form.specs.declared.messages.Message.{Message}
 use Rattle.message_form.specs.declared.messages.Message.TheVariants as message
 use Rattle.effect_form.specs.declared.outcomes.Outcome.TheVariants as outcome
-use Rattle.message_form.specs.Posts.{Post, WasSent}
-use Rattle.message_form.proofs.GrowthLemmas.{each_below}
-use Rattle.broker_core.specs.Book.{book, tries}
-use Rattle.pseudo_time.specs.Nodes.{broker, repository}
 use Rattle.repository_laws.specs.Facts as repositories
-use Rattle.repository_laws.specs.Facts.{IsDecidedAt, WriteSent}
-use Rattle.repository_laws.proofs.Logs.{decide-home, decided-once, learned-elsewhere}
+use Rattle.repository_laws.specs.Facts.{IsDecidedAt}
+use Rattle.repository_laws.proofs.Logs.{learned-elsewhere}
 use Rattle.broker_laws.specs.Fits as brokers
-use Rattle.broker_laws.specs.Fits.{MayTry}
-use Rattle.broker_laws.specs.Posts.{Distinct, IsPlayed, IsProven, IsWithinLimits, PostHolds}
-use Rattle.broker_laws.proofs.Moves.{distinct}
-use Rattle.broker_laws.proofs.Tries.{played, proven}
+use Rattle.broker_laws.specs.Posts.{Distinct, IsWithinLimits, PostHolds}
 use Rattle.broker_laws.proofs.Limits.{within}
-use Rattle.object_history.specs.declared.steps.WriteStep.{WriteStep}
 use Rattle.stream_port.specs.declared.fates.Fate.{Fate}
-use Rattle.world_core.specs.declared.entries.Entry.{Entry}
-use Rattle.world_core.specs.Answered.{WasAnswered, WasRefused}
-use Rattle.world_core.specs.Walks.{Base, opened_log, sent_by, start_world, walk}
-use Rattle.world_core.specs.Legal.{Meets, base_of, fates_of}
-use Rattle.world_core.specs.Pasts.{alike}
 use Rattle.world_core.proofs.Refusals.{Says, says-map}
-use Rattle.world_core.proofs.Answered.{Reason, meets-front, post-answered, write-sent, read-sent}
-use Rattle.world_facts.specs.NodeRules.{node_facts}
 use Rattle.world_facts.specs.Refines as refines
-use Rattle.world_facts.specs.Earlier.{AreEarlier, Earlier, replaced, sent_earlier}
-use Rattle.world_facts.specs.Earlier.Earlier.{Running, Retiring}
-use Rattle.world_facts.specs.Refines.{logs_at}
-use Rattle.world_facts.proofs.AnswerLemmas.{broker-post}
-use Rattle.world_facts.proofs.EarlierLemmas.{older-facts}
-use Rattle.serial_law.specs.Facts.{RunFacts}
-use Rattle.serial_law.specs.Runs.{AnsweredBefore, InSome, Position, RefusedBefore, TickedBefore, happened_before, log_at, olds_at, run_at, sent_before, whole_at, world_at}
 use Rattle.serial_law.proofs.RunFacts.{run-facts, run-causes, ToldRequest}
-use Rattle.serial_law.specs.Causes.{Causes, IsSpent}
-use Rattle.serial_law.specs.Serial.{Serial}
-use Rattle.serial_law.specs.Wholes.{KeepsPuts}
 use Rattle.serial_law.proofs.Main.{serial}
 use Rattle.serial_law.proofs.Standing.{finals-stand, no-here, puts-stand, yes-here}
 use Rattle.serial_law.proofs.WholeFacts.{kept-or-gone, same-last}
-use Rattle.trace_report.specs.Finals.{last_values}
-use Rattle.value_form.specs.Objects.{value_at}
-use Rattle.world_core.specs.Deeds.{committed, finals}
-use Rattle.world_facts.proofs.Growths.{each-has}
 
 module _ (p : Position) where
   -- all that holds of logs and messages there

@@ -1,36 +1,13 @@
 -- The versions that ever stood in the logs of a repository: which of them stand still, and which one is the last.
 use Rattle.std.proofs.Common.{◌≡◌, ℕ, Bool, true, false, List, ◌∷◌, ◌++◌, map, reverse, sym, subst, ◌⊎◌, inl, inr, Some}
-use Rattle.pseudo_time.specs.Lists.{Every, Has}
-use Rattle.pseudo_time.specs.Nodes.{repository}
-use Rattle.pseudo_time.specs.StampParts.{StampParts}
-use Rattle.pseudo_time.specs.TimeParts.{TimeParts}
-use Rattle.pseudo_time.specs.declared.nodes.NodeId.{NodeId}
-use Rattle.pseudo_time.proofs.ListLemmas.{every-has}
-use Rattle.value_form.specs.declared.objects.ObjectId.{ObjectId}
-use Rattle.value_form.specs.declared.values.Value.{Value}
-use Rattle.effect_form.specs.declared.effects.Effect.{Effect}
+use Rattle.serial_law.proofs.Names.{Every, Has, repository, StampParts, TimeParts, NodeId, every-has, ObjectId, Value, Effect, Post, Mark, scan, settle_of, Gone, Same, all_stood, WriteSent, put-logged, marks, Tree, Base, node_facts, OlderFacts, each-has, some-history, whole_log}
 use Rattle.effect_form.specs.declared.effects.Effect.TheVariants as effect
-use Rattle.message_form.specs.Posts.{Post}
-use Rattle.object_history.specs.declared.marks.Mark.{Mark}
 use Rattle.object_history.specs.declared.marks.Mark.TheVariants as mark
-use Rattle.object_history.specs.History.{scan, settle_of}
 use Rattle.object_retirement.specs.Chains as chains
-use Rattle.object_retirement.specs.Older.{Gone}
-use Rattle.object_retirement.specs.Retired.{Same}
-use Rattle.object_retirement.specs.Stood.{all_stood}
 use Rattle.object_retirement.proofs.ChainLemmas.{chain-given, last-stays, some-given}
-use Rattle.repository_laws.specs.Facts.{WriteSent}
-use Rattle.repository_laws.proofs.Logs.{put-logged}
-use Rattle.repository_core.specs.Logs.{marks}
-use Rattle.serial_model.specs.Questions.{Tree}
-use Rattle.world_core.specs.Walks.{Base}
-use Rattle.world_facts.specs.NodeRules.{node_facts}
-use Rattle.world_facts.specs.Refines.{OlderFacts}
 use Rattle.world_facts.specs.Soft.{OldOk}
 use Rattle.world_facts.proofs.AnswerLemmas.{all-of}
-use Rattle.world_facts.proofs.Growths.{each-has}
-use Rattle.world_facts.proofs.OldChains.{chain-of, some-history}
-use Rattle.serial_law.specs.Wholes.{whole_log}
+use Rattle.world_facts.proofs.OldChains.{chain-of}
 use Rattle.serial_law.proofs.LogLemmas.{put-marks}
 use Rattle.serial_law.proofs.Puts.{stands-put}
 use Rattle.serial_law.proofs.WholeLemmas.{marks-whole, put-once}

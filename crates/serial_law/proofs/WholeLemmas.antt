@@ -1,18 +1,10 @@
 -- A log with all versions that ever stood has the marks that its histories tell, and says of attempts what the log itself says.
 use Rattle.std.proofs.Common.{◌≡◌, ℕ, zero, suc, Bool, true, false, List, [], ◌∷◌, map, refl, ◌∙◌, ap, subst, ◌⊎◌, inl, inr, ◌||◌, if◌then◌else◌}
-use Rattle.pseudo_time.specs.Lists.{Has}
-use Rattle.pseudo_time.specs.Nodes.{repository}
-use Rattle.pseudo_time.specs.StampParts.{StampParts}
-use Rattle.pseudo_time.specs.declared.nodes.NodeId.{NodeId}
-use Rattle.effect_form.specs.declared.effects.Effect.{Effect}
+use Rattle.serial_law.proofs.Names.{Has, repository, StampParts, NodeId, Effect, settle_of, all_stood, has_start, knows, marks, RunLogs, committed, has_commit, has_learned, in_run, log_of, some_of, whole_log, whole_run, with_puts}
 use Rattle.effect_form.specs.declared.effects.Effect.TheVariants.{Put, Stretch, Begin, Decide, Learn}
 use Rattle.effect_form.specs.declared.effects.Effect.TheVariants as effect
 use Rattle.object_history.specs.declared.marks.Mark.TheVariants as mark
-use Rattle.object_history.specs.History.{settle_of}
-use Rattle.object_retirement.specs.Stood.{all_stood, has_start, with_old}
-use Rattle.repository_core.specs.Logs.{knows, marks}
-use Rattle.world_core.specs.Deeds.{RunLogs, committed, has_commit, has_learned, in_run, log_of, some_of}
-use Rattle.serial_law.specs.Wholes.{whole_log, whole_run, with_puts}
+use Rattle.object_retirement.specs.Stood.{with_old}
 
 -- ---- marks
 

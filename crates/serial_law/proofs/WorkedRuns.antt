@@ -2,32 +2,15 @@
 use Rattle.std.proofs.Common.{◌≡◌, ℕ, true, false, List, [], ◌∷◌, refl, ◌∙◌, ap, Some, ◌==◌, if◌then◌else◌}
 use Rattle.std.specs.Prelude.{pos}
 use Rattle.std.specs.Option.{unwrap_or}
-use Rattle.object_history.proofs.ObjectLemmas.{same_object-of}
+use Rattle.serial_law.proofs.Names.{same_object-of, StampParts, TimeParts, NodeKind, Repository, Broker, same_stamp, stamp_lt, lt, ObjectId, Line, Value, Nothing, Objects, object_cmp, value_at, Effect, Got, Stored, ToRead, Asks, Over, Tree, Ends, Says, Reads, Writes, talked, talked_alone, left_by, NodeId, Plan, book, knows, Try, RunLogs, some_of, has_commit, has_learned, committed, put_in, puts_of, puts_to, written, find, stamp_in, stamp_if, put_stamps, log_stamps, try_stamps, all_deeds, before, finals, lines_written}
 use Rattle.serial_law.proofs.Own.{value-insert}
 use Rattle.std.specs.FinMap as finite
-use Rattle.pseudo_time.specs.StampParts.{StampParts}
-use Rattle.pseudo_time.specs.TimeParts.{TimeParts}
 use Rattle.pseudo_time.specs.declared.decisions.Decision.TheVariants as decision
-use Rattle.pseudo_time.specs.declared.nodes.NodeKind.{NodeKind}
-use Rattle.pseudo_time.specs.declared.nodes.NodeKind.TheVariants.{Repository, Broker}
-use Rattle.pseudo_time.specs.Order.{same_stamp, stamp_lt, lt}
 use Rattle.value_form.specs.declared.endings.Ending.TheVariants as ending
-use Rattle.value_form.specs.declared.objects.ObjectId.{ObjectId}
-use Rattle.value_form.specs.declared.transcripts.Line.{Line}
 use Rattle.value_form.specs.declared.transcripts.Line.TheVariants as line
-use Rattle.value_form.specs.declared.values.Value.{Value}
-use Rattle.value_form.specs.declared.values.Value.TheVariants.{Nothing, Number}
-use Rattle.value_form.specs.Objects.{Objects, object_cmp, value_at}
-use Rattle.effect_form.specs.declared.effects.Effect.{Effect}
+use Rattle.value_form.specs.declared.values.Value.TheVariants.{Number}
 use Rattle.effect_form.specs.declared.effects.Effect.TheVariants as effect
 use Rattle.effect_form.specs.declared.outcomes.Outcome.TheVariants as outcome
-use Rattle.script_meaning.specs.Meaning.{Got, Stored, ToRead, Asks, Over}
-use Rattle.serial_model.specs.Questions.{Tree, Ends, Says, Reads, Writes, talked, talked_alone, left_by}
-use Rattle.pseudo_time.specs.declared.nodes.NodeId.{NodeId}
-use Rattle.plan_form.specs.declared.plans.Plan.{Plan}
-use Rattle.broker_core.specs.Book.{book}
-use Rattle.repository_core.specs.Logs.{knows}
-use Rattle.world_core.specs.Deeds.{Try, RunLogs, some_of, has_commit, has_learned, committed, put_in, puts_of, puts_to, written, find, stamp_in, stamp_if, put_stamps, log_stamps, try_stamps, all_deeds, before, finals, lines_written}
 use Rattle.serial_law.proofs.Attempts.{booked_tries}
 
 abbrev pub plan : ℕ → ℕ → ℕ → Plan

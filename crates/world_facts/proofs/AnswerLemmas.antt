@@ -1,46 +1,24 @@
 -- Whatever a node sent, its log, or an older one, keeps.
 use Rattle.std.proofs.Common.{◌≡◌, ℕ, ◌≤◌, ◌+◌, length, true, List, [], ◌∷◌, ◌++◌, map, reverse, sym, ◌∙◌, ap, subst, Some, ◌⊎◌, inl, inr, arith}
 use Rattle.std.proofs.lemmas.Bool.{true≢false}
-use Rattle.pseudo_time.specs.Lists.{Every, Has}
+use Rattle.world_facts.proofs.Names.{Every, Has, lt, TimeParts, Decision, NodeId, NodeKind, Repository, Broker, every-has, ObjectId, Value, Effect, Message, Post, floor_of, Gone, is_commit, marks, Tree, book, tries, repository, Base, StandsOrGone, ViewedOrBelow, kind_post, node_facts, node_turns, OlderFacts, SomeOf, Lineage, OldOk}
 use Rattle.pseudo_time.specs.Nodes.{broker}
-use Rattle.pseudo_time.specs.Order.{lt}
-use Rattle.pseudo_time.specs.TimeParts.{TimeParts}
-use Rattle.pseudo_time.specs.declared.decisions.Decision.{Decision}
-use Rattle.pseudo_time.specs.declared.nodes.NodeId.{NodeId}
-use Rattle.pseudo_time.specs.declared.nodes.NodeKind.{NodeKind}
-use Rattle.pseudo_time.specs.declared.nodes.NodeKind.TheVariants.{Repository, Broker}
-use Rattle.pseudo_time.proofs.ListLemmas.{every-has}
-use Rattle.value_form.specs.declared.objects.ObjectId.{ObjectId}
-use Rattle.value_form.specs.declared.values.Value.{Value}
-use Rattle.effect_form.specs.declared.effects.Effect.{Effect}
 use Rattle.effect_form.specs.declared.effects.Effect.TheVariants as effect
-use Rattle.message_form.specs.declared.messages.Message.{Message}
 use Rattle.message_form.specs.declared.messages.Message.TheVariants as message
-use Rattle.message_form.specs.Posts.{Post, WasSent}
+use Rattle.message_form.specs.Posts.{WasSent}
 use Rattle.object_history.specs.declared.marks.Mark as history
 use Rattle.object_history.specs.declared.marks.Mark.TheVariants as mark
-use Rattle.object_history.specs.History.{floor_of}
 use Rattle.object_history.specs.Views.{Firm, IsOnFloor, Viewed, value_of}
 use Rattle.object_history.proofs.ViewLemmas.{sees-views}
 use Rattle.object_retirement.specs.Chains as chains
-use Rattle.object_retirement.specs.Older.{Gone}
 use Rattle.object_retirement.specs.Stood.{all_stood}
 use Rattle.object_retirement.proofs.StoodLemmas.{all-stood}
 use Rattle.object_retirement.proofs.ChainLemmas.{Stays, chain-floor, chain-given, chain-view, one-side, some-given, stays}
-use Rattle.repository_log.specs.Logs.{is_commit, marks}
 use Rattle.repository_laws.specs.Facts.{WriteSent}
 use Rattle.repository_laws.proofs.Logs.{put-logged}
 use Rattle.script_meaning.specs.Meaning.{ToWrite}
-use Rattle.serial_model.specs.Questions.{Tree}
-use Rattle.broker_core.specs.Book.{book, tries}
 use Rattle.broker_laws.proofs.Found.{one-request}
-use Rattle.world_core.specs.Nodes.{repository}
-use Rattle.world_core.specs.Walks.{Base}
-use Rattle.world_facts.specs.Acknowledged.{Keeps, SeesAbove, SeesOverAll, SeesStill, StandsOrGone, ViewedOrBelow}
-use Rattle.world_facts.specs.NodeRules.{kind_post, node_facts, node_turns}
-use Rattle.world_facts.specs.Refines.{OlderFacts}
-use Rattle.world_facts.specs.Rules.{SomeOf}
-use Rattle.world_facts.specs.Soft.{Lineage, OldOk}
+use Rattle.world_facts.specs.Acknowledged.{Keeps, SeesAbove, SeesOverAll, SeesStill}
 use Rattle.world_facts.proofs.Growths.{each-has}
 use Rattle.world_facts.proofs.Keeps.{decided-still}
 use Rattle.world_facts.proofs.NodeLaws.{node-laws}

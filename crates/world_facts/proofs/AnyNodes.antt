@@ -1,25 +1,11 @@
 -- The rules of nodes keep over any logs what a run asks of them there; and so it is at each place of a legal trace over any logs.
 use Rattle.std.proofs.Common.{◌≡◌, ℕ, ◌≤◌, length, List, [], ◌∷◌, ◌++◌, reverse, refl, sym, ap, subst, arith}
 use Rattle.std.specs.Option.{unwrap_or}
-use Rattle.pseudo_time.specs.Lists.{Every, Has}
-use Rattle.pseudo_time.proofs.ListLemmas.{every-map}
-use Rattle.pseudo_time.specs.declared.nodes.NodeId.{NodeId}
-use Rattle.pseudo_time.specs.declared.nodes.NodeKind.{NodeKind}
-use Rattle.pseudo_time.specs.declared.nodes.NodeKind.TheVariants.{Repository, Broker}
-use Rattle.value_form.specs.declared.acts.ActSpec.{ActSpec}
-use Rattle.effect_form.specs.declared.effects.Effect.{Effect}
-use Rattle.message_form.specs.declared.turns.Out.{Out}
-use Rattle.message_form.specs.Growth.{Grew, Each}
-use Rattle.message_form.specs.Posts.{Post}
+use Rattle.world_facts.proofs.Names.{Every, Has, every-map, NodeId, NodeKind, Repository, Broker, ActSpec, Effect, Out, Grew, Each, Post, Asked, Tree, Plan, Hand, held-more, turn-added, cause-more, Entry, Trace, Mind, opened_mind, Input, repository, Going, Taking, Learning, Hearing, Base, sent_by, start_world, walk, Meets, Legal, base_of, fates_of, OpenedWith, meets-front, Around, Later, NodeFacts, MayInput, TurnGives, NodeLaws, Start, Left, LogFacts, logs_at, of_hand, of_desk, kind_turn, node_turns}
 use Rattle.message_form.proofs.GrowthLemmas.{grew_map}
-use Rattle.stream_port.specs.declared.fates.Asked.{Asked}
-use Rattle.serial_model.specs.Questions.{Tree}
-use Rattle.plan_form.specs.declared.plans.Plan.{Plan}
-use Rattle.repository_core.specs.Hands.{Hand}
 use Rattle.repository_core.specs.Turns as hands
 use Rattle.repository_laws.specs.Facts.{HeldHolds}
 use Rattle.repository_laws.specs.AnyLogs.{Refuses, RefusesRightly}
-use Rattle.repository_laws.proofs.Posts.{held-more}
 use Rattle.repository_laws.proofs.AnyTurns.{refuses-on, refuses-more, take-fine, on-learn-fine, hear-fine, begun-fine}
 use Rattle.broker_core.specs.Turns as desks
 use Rattle.broker_core.specs.Counted.{counted}
@@ -27,20 +13,7 @@ use Rattle.broker_laws.specs.AnyLogs.{Joins, Rests, Says, GoesOn}
 use Rattle.broker_laws.specs.Posts as broker_posts
 use Rattle.broker_laws.specs.Works as works
 use Rattle.broker_laws.proofs.AnyDesks.{says-on, turn-on}
-use Rattle.broker_laws.proofs.TurnLemmas.{turn-added, cause-more}
-use Rattle.world_core.specs.declared.entries.Entry.{Entry}
 use Rattle.world_core.specs.declared.entries.Entry.TheVariants.{Tick}
-use Rattle.world_core.specs.declared.traces.Trace.{Trace}
-use Rattle.world_core.specs.Nodes.{Mind, opened_mind, Input, repository}
-use Rattle.world_core.specs.Nodes.Input.{Going, Taking, Learning, Hearing}
-use Rattle.world_core.specs.Walks.{Base, sent_by, start_world, walk}
-use Rattle.world_core.specs.Legal.{Meets, Legal, base_of, fates_of}
-use Rattle.world_core.specs.Pasts.{OpenedWith}
-use Rattle.world_core.proofs.Rules.{meets-front}
-use Rattle.world_facts.specs.Rules.{Around, Later, NodeFacts, MayInput, TurnGives, NodeLaws}
-use Rattle.world_facts.specs.Soft.SoftEvent.{Start}
-use Rattle.world_facts.specs.Refines.{Left, LogFacts, logs_at}
-use Rattle.world_facts.specs.NodeRules.{of_hand, of_desk, kind_turn, node_turns}
 use Rattle.world_facts.specs.AnyRules.{tasks_of, any_fits, any_post, any_cause, any_mind, any_facts, log_opened, log_before}
 use Rattle.world_facts.proofs.NodeLaws.{gives-are}
 use Rattle.world_facts.proofs.Openings.{opens, facts-of}

@@ -1,29 +1,9 @@
 -- Runs and retirements, one after another; and the facts of a legal trace over the logs that they left.
 use Rattle.std.proofs.Common.{◌≡◌, ℕ, Bool, true, false, List, [], ◌∷◌, ◌++◌, map, reverse, if◌then◌else◌, refl, sym, ◌∙◌, ap, subst, inl, inr}
 use Rattle.std.proofs.lemmas.List.{reverse-reverse}
-use Rattle.pseudo_time.specs.Lists.{Has}
-use Rattle.pseudo_time.specs.Nodes.{repository, same_node}
-use Rattle.pseudo_time.specs.TimeParts.{TimeParts}
-use Rattle.pseudo_time.specs.declared.nodes.NodeId.{NodeId}
-use Rattle.effect_form.specs.declared.effects.Effect.{Effect}
-use Rattle.message_form.specs.Posts.{Post}
-use Rattle.message_core.proofs.NodeLemmas.{same_is}
-use Rattle.stream_port.specs.declared.fates.Asked.{Asked}
-use Rattle.serial_model.specs.Questions.{Tree}
-use Rattle.plan_form.specs.declared.plans.Plan.{Plan}
-use Rattle.object_retirement.specs.Forward.{MayRetire, forward, forwarded}
-use Rattle.world_core.specs.declared.entries.Entry.{Entry}
-use Rattle.world_core.specs.declared.traces.Trace.{Trace}
-use Rattle.world_core.specs.Walks.{sent_by, start_world, walk}
-use Rattle.world_core.specs.Legal.{Meets, Legal, base_of, fates_of, in_plan}
-use Rattle.world_core.specs.Pasts.{AreCalls, Call, IsCall, OpenedWith, alike, log_left, logs_after}
-use Rattle.world_core.proofs.Rules.{meets-front}
-use Rattle.world_facts.specs.Earlier.{AreEarlier, AreRuns, ComeFrom, Earlier, TickedBy, TickedEarlier, logs_left, older, replaced, sent_earlier}
-use Rattle.world_facts.specs.Earlier.Earlier.{Running, Retiring}
-use Rattle.world_facts.specs.NodeRules.{node_facts, node_turns}
-use Rattle.world_facts.specs.Refines.{Left, OlderFacts, logs_at, past_sent}
-use Rattle.world_facts.specs.Soft.{happened, opened_soft}
-use Rattle.world_facts.specs.Soft.SoftEvent.{Retire}
+use Rattle.world_facts.proofs.Names.{Has, same_node, TimeParts, NodeId, Effect, Post, same_is, Asked, Tree, Plan, MayRetire, forward, forwarded, Entry, Trace, sent_by, start_world, walk, Meets, Legal, base_of, fates_of, in_plan, AreCalls, Call, IsCall, OpenedWith, alike, log_left, logs_after, meets-front, AreEarlier, TickedBy, logs_left, older, replaced, sent_earlier, Running, Retiring, node_facts, node_turns, Left, OlderFacts, logs_at, past_sent, happened, opened_soft, Retire}
+use Rattle.pseudo_time.specs.Nodes.{repository}
+use Rattle.world_facts.specs.Earlier.{AreRuns, ComeFrom, Earlier, TickedEarlier}
 use Rattle.world_facts.proofs.NodeLaws.{node-laws, past-laws}
 use Rattle.world_facts.proofs.Openings.{call-left, older-of, left-nothing, left-same, over-left}
 

@@ -2,14 +2,7 @@
 use Rattle.std.proofs.Common.{◌≡◌, ℕ, zero, suc, ◌-◌, Bool, true, false, List, [], ◌∷◌, ◌++◌, length, drop, take, reverse, map, cond, if◌then◌else◌, refl, sym, ◌∙◌, ap, subst, Some, arith, ◌⊎◌, inl, inr, slice_get}
 use Rattle.std.specs.List.{filter}
 use Rattle.std.proofs.lemmas.List.{take-append-drop, reverse-append, length-append}
-use Rattle.pseudo_time.specs.Lists.{Every, Has}
-use Rattle.pseudo_time.specs.declared.nodes.NodeId.{NodeId}
-use Rattle.effect_form.specs.declared.effects.Effect.{Effect}
-use Rattle.message_form.specs.Growth.{Each}
-use Rattle.pseudo_time.specs.Nodes.{same_node}
-use Rattle.message_core.proofs.NodeLemmas.{same_is, same_node-refl}
-use Rattle.world_core.specs.Walks.{numbered}
-use Rattle.world_facts.specs.Soft.{put}
+use Rattle.world_facts.proofs.Names.{Every, Has, NodeId, Effect, Each, same_node, same_is, same_node-refl, numbered, put}
 
 -- ---- growth
 

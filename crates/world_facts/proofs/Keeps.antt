@@ -2,24 +2,12 @@
 use Rattle.std.proofs.Common.{◌≡◌, ℕ, ◌-◌, Bool, List, [], ◌∷◌, ◌++◌, length, refl, sym, ◌∙◌, ap, subst, append_assoc, inl, inr}
 use Rattle.std.specs.List.{filter}
 use Rattle.std.proofs.lemmas.List.{append-nil}
-use Rattle.pseudo_time.specs.Lists.{Every, Has}
-use Rattle.pseudo_time.specs.StampParts.{StampParts}
-use Rattle.pseudo_time.specs.declared.decisions.Decision.{Decision}
-use Rattle.pseudo_time.specs.declared.nodes.NodeId.{NodeId}
-use Rattle.pseudo_time.proofs.ListLemmas.{every-map, every-append, every-has, has-right}
-use Rattle.value_form.specs.declared.acts.ActSpec.{ActSpec}
-use Rattle.effect_form.specs.declared.effects.Effect.{Effect}
+use Rattle.world_facts.proofs.Names.{Every, Has, StampParts, Decision, NodeId, every-map, every-has, has-right, ActSpec, Effect, Out, Grew, Each, Post, posts, each_below, Tree, Input, Given, repository, Going, Taking, Learning, Hearing, Around, GrownFrom, Later, NodeFacts, SomeOf, Turns, MayInput, SenderOk, TurnGiven, TurnGives, NodeLaws, SoftNode, all_effects, gate, crash, opened_soft, Soft, put, around, SoftEvent, react, happened, Mays, Lineage, NodeOk, OldOk, SentOnce, Inv, Start, React, Gate, Crash, Retire, Tick}
+use Rattle.pseudo_time.proofs.ListLemmas.{every-append}
 use Rattle.effect_form.specs.declared.effects.Effect.TheVariants as effect
-use Rattle.message_form.specs.declared.turns.Out.{Out}
-use Rattle.message_form.specs.Growth.{Grew, Each}
-use Rattle.message_form.specs.Posts.{Post, post, posts}
-use Rattle.message_form.proofs.GrowthLemmas.{grew_keeps, grew_on, grew_drop, each_grew, each_below}
-use Rattle.serial_model.specs.Questions.{Tree}
-use Rattle.world_core.specs.Nodes.{Input, Given, repository}
-use Rattle.world_core.specs.Nodes.Input.{Going, Taking, Learning, Hearing}
-use Rattle.world_facts.specs.Rules.{Around, GrownFrom, Later, NodeFacts, SomeOf, Turns, MayInput, SenderOk, TurnGiven, TurnGives, NodeLaws}
-use Rattle.world_facts.specs.Soft.{SoftNode, all_effects, keep, gate, crash, opened_soft, Soft, put, around, SoftEvent, react, happens, nothing, happened, May, Mays, Lineage, NodeOk, OldOk, SentOnce, Inv}
-use Rattle.world_facts.specs.Soft.SoftEvent.{Start, React, Gate, Crash, Retire, Tick}
+use Rattle.message_form.specs.Posts.{post}
+use Rattle.message_form.proofs.GrowthLemmas.{grew_keeps, grew_on, grew_drop, each_grew}
+use Rattle.world_facts.specs.Soft.{keep, happens, nothing, May}
 use Rattle.world_facts.proofs.Growths.{each-map, each-drop, every-filter, every-of-map, or-left, put-all, put-both, put-here}
 
 module _ (script : List ℕ → Tree) (turns : Turns) (F : NodeFacts) (laws : NodeLaws script turns F) where

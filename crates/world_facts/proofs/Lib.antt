@@ -11,3 +11,4 @@ pub mod Refinements
 pub mod RetiredLogs
 pub mod Steps
 pub mod WorkedRetirements
+pub mod Names

@@ -1,31 +1,17 @@
 -- The rules of repositories and of brokers keep what a run asks of them.
 use Rattle.std.proofs.Common.{◌≡◌, ℕ, true, List, [], ◌∷◌, ◌++◌, reverse, refl, sym, subst, Option, Some, None, is_none}
-use Rattle.pseudo_time.specs.Lists.{Every, Has}
-use Rattle.pseudo_time.specs.StampParts.{StampParts}
-use Rattle.pseudo_time.specs.declared.decisions.Decision.{Decision}
+use Rattle.world_facts.proofs.Names.{Every, Has, StampParts, Decision, NodeId, NodeKind, Repository, Broker, every-map, ActSpec, Effect, Message, Out, Grew, Each, Post, Tree, Hand, held-more, book, tries, turn-added, cause-more, Mind, opened_mind, Input, gives, is_ready, repository, Going, Taking, Learning, Hearing, Around, Later, MayInput, SenderOk, TurnGiven, TurnGives, NodeLaws, PastLaws, of_hand, of_desk, kind_turn, node_turns, kind_post, node_facts}
 use Rattle.pseudo_time.specs.declared.decisions.Decision.TheVariants as decision
-use Rattle.pseudo_time.specs.declared.nodes.NodeId.{NodeId}
-use Rattle.pseudo_time.specs.declared.nodes.NodeKind.{NodeKind}
-use Rattle.pseudo_time.specs.declared.nodes.NodeKind.TheVariants.{Repository, Broker}
-use Rattle.pseudo_time.proofs.ListLemmas.{every-map, has-left}
-use Rattle.value_form.specs.declared.acts.ActSpec.{ActSpec}
-use Rattle.effect_form.specs.declared.effects.Effect.{Effect}
+use Rattle.pseudo_time.proofs.ListLemmas.{has-left}
 use Rattle.effect_form.specs.declared.effects.Effect.TheVariants as effect
-use Rattle.message_form.specs.declared.messages.Message.{Message}
 use Rattle.message_form.specs.declared.messages.Message.TheVariants as message
-use Rattle.message_form.specs.declared.turns.Out.{Out}
-use Rattle.message_form.specs.Growth.{Grew, Each}
-use Rattle.message_form.specs.Posts.{Post}
-use Rattle.serial_model.specs.Questions.{Tree}
 use Rattle.object_retirement.proofs.ForwardLemmas.{decide-forwarded}
-use Rattle.repository_core.specs.Hands.{Hand}
 use Rattle.repository_core.specs.Turns as hands
 use Rattle.repository_laws.specs.Facts as repositories
 use Rattle.repository_laws.specs.Givens.{IsGiven, Gives}
 use Rattle.repository_laws.proofs.Logs.{tidy-kept}
-use Rattle.repository_laws.proofs.Posts.{post-stays, post-more, held-more}
+use Rattle.repository_laws.proofs.Posts.{post-stays, post-more}
 use Rattle.repository_laws.proofs.Whole.{gives-taking, gives-learning, gives-hearing}
-use Rattle.broker_core.specs.Book.{book, tries}
 use Rattle.broker_core.specs.Fits.{resume_fault}
 use Rattle.broker_core.specs.Tasks.{tasks}
 use Rattle.broker_core.specs.Turns as desks
@@ -36,11 +22,10 @@ use Rattle.broker_laws.specs.Works as works
 use Rattle.broker_laws.proofs.Desks.{desk-ok}
 use Rattle.broker_laws.proofs.Moves.{post-kept}
 use Rattle.broker_laws.proofs.ReadyLemmas.{no-fault}
-use Rattle.broker_laws.proofs.TurnLemmas.{turn-added, ready-cut, cause-more}
-use Rattle.world_core.specs.Nodes.{Mind, opened_mind, Input, gives, kind_gives, is_ready, kind_ready, acts_of, repository}
-use Rattle.world_core.specs.Nodes.Input.{Going, Taking, Learning, Hearing}
-use Rattle.world_facts.specs.Rules.{Around, Later, forward, MayInput, SenderOk, TurnGiven, TurnGives, NodeLaws, PastLaws}
-use Rattle.world_facts.specs.NodeRules.{of_hand, of_desk, kind_turn, node_turns, kind_fits, kind_tidy, kind_post, kind_cause, kind_mind, kind_is_ready, kind_retires, node_facts}
+use Rattle.broker_laws.proofs.TurnLemmas.{ready-cut}
+use Rattle.world_core.specs.Nodes.{kind_gives, kind_ready, acts_of}
+use Rattle.world_facts.specs.Rules.{forward}
+use Rattle.world_facts.specs.NodeRules.{kind_fits, kind_tidy, kind_cause, kind_mind, kind_is_ready, kind_retires}
 use Rattle.world_facts.proofs.RetiredLogs.{each-forwarded, tidy-forwarded}
 
 none-is : {A : Type 0} (o : Option A) → is_none o ≡ true → o ≡ None

@@ -1,25 +1,16 @@
 -- The histories of a repository's logs, older and last, are a chain of growths and retirements.
 use Rattle.std.proofs.Common.{◌≡◌, ℕ, List, [], ◌∷◌, ◌++◌, map, refl, sym, ◌∙◌, ap, subst, append-nil, inl, inr, None}
-use Rattle.pseudo_time.specs.Lists.{Has}
-use Rattle.effect_form.specs.declared.effects.Effect.{Effect}
-use Rattle.effect_form.specs.declared.effects.Effect.TheVariants.{Put, Stretch, Begin, Decide, Learn}
+use Rattle.world_facts.proofs.Names.{Has, Effect, Put, Stretch, Begin, Decide, Learn, Grew, settle_of, is_commit, marks, Tree, repository, node_facts, GrownFrom, SomeOf, Lineage}
 use Rattle.effect_form.specs.declared.effects.Effect.TheVariants as effect
-use Rattle.message_form.specs.Growth.{Grew}
 use Rattle.object_history.specs.declared.marks.Mark as history
 use Rattle.object_history.specs.declared.marks.Mark.TheVariants as mark
-use Rattle.object_history.specs.History.{settle_of}
 use Rattle.object_history.specs.Views.{Fits}
 use Rattle.object_retirement.specs.Chains.{Chain, Follows_on, Grows}
 use Rattle.object_retirement.specs.Chains as chains
 use Rattle.object_retirement.proofs.ForwardLemmas.{marks-forwarded}
-use Rattle.repository_log.specs.Logs.{is_commit, marks}
 use Rattle.repository_log.proofs.LogLemmas.{unknown-unsettled}
 use Rattle.repository_laws.specs.Facts.{FitsLog}
-use Rattle.serial_model.specs.Questions.{Tree}
-use Rattle.world_core.specs.Nodes.{repository, broker}
-use Rattle.world_facts.specs.NodeRules.{node_facts}
-use Rattle.world_facts.specs.Rules.{GrownFrom, SomeOf}
-use Rattle.world_facts.specs.Soft.{Lineage}
+use Rattle.world_core.specs.Nodes.{broker}
 
 pub marks-append : (l k : List Effect) → marks (l ++ k) ≡ marks l ++ marks k
 marks-append [] k = refl

@@ -2,33 +2,14 @@
 use Rattle.std.proofs.Common.{◌≡◌, ℕ, ◌-◌, Bool, true, false, List, [], ◌∷◌, ◌++◌, drop, take, length, map, reverse, if◌then◌else◌, refl, sym, ◌∙◌, ap, subst, ◌⊎◌, inl, inr, Option, Some, None, is_some}
 use Rattle.std.specs.Option.{unwrap_or}
 use Rattle.std.proofs.lemmas.List.{append-nil, reverse-append}
-use Rattle.pseudo_time.specs.Lists.{Every, Has}
-use Rattle.pseudo_time.specs.declared.nodes.NodeId.{NodeId}
-use Rattle.pseudo_time.proofs.ListLemmas.{every-map}
-use Rattle.effect_form.specs.declared.effects.Effect.{Effect}
+use Rattle.world_facts.proofs.Names.{Every, Has, NodeId, every-map, Effect, Each, Post, each_below, Asked, Fate, same_node, same_is, Tree, Plan, Entry, Trace, repository, is_ready, Base, Life, World, opened_log, sent_by, start_world, walk, Meets, Legal, base_of, fates_of, in_plan, Call, IsCall, log_left, logs_after, OpenedWith, AreCalls, alike, meets-front, Around, Later, NodeFacts, SomeOf, Turns, NodeLaws, PastLaws, SoftNode, all_effects, put, crash, opened_soft, Soft, around, SoftEvent, happened, Mays, Lineage, NodeOk, OldOk, SentOnce, Inv, Crash, soft_of, past_sent, Refines, Left, logs_at, LogFacts, OlderFacts}
 use Rattle.effect_form.specs.declared.effects.Effect.TheVariants as effect
-use Rattle.message_form.specs.Growth.{Each}
-use Rattle.message_form.specs.Posts.{Post}
-use Rattle.message_form.proofs.GrowthLemmas.{each_below}
-use Rattle.stream_port.specs.declared.fates.Asked.{Asked}
-use Rattle.stream_port.specs.declared.fates.Fate.{Fate}
-use Rattle.pseudo_time.specs.Nodes.{same_node}
-use Rattle.message_core.proofs.NodeLemmas.{same_is}
-use Rattle.serial_model.specs.Questions.{Tree}
-use Rattle.plan_form.specs.declared.plans.Plan.{Plan}
-use Rattle.world_core.specs.declared.entries.Entry.{Entry}
 use Rattle.world_core.specs.declared.entries.Entry.TheVariants as entry
 use Rattle.world_core.specs.declared.traces.Opened.{Opened}
-use Rattle.world_core.specs.declared.traces.Trace.{Trace}
-use Rattle.world_core.specs.Nodes.{repository, is_ready}
-use Rattle.world_core.specs.Walks.{Base, Life, World, opened_log, sent_by, start_world, walk}
-use Rattle.world_core.specs.Legal.{Meets, AllReady, Legal, base_of, fates_of, in_plan}
-use Rattle.world_core.specs.Pasts.{Call, IsCall, log_left, logs_after, OpenedWith, AreCalls, HasPast, alike}
-use Rattle.world_core.proofs.Rules.{meets-front}
-use Rattle.world_facts.specs.Rules.{Around, Later, NodeFacts, SomeOf, Turns, NodeLaws, PastLaws}
-use Rattle.world_facts.specs.Soft.{SoftNode, all_effects, put, crash, kept_log, opened_soft, Soft, around, SoftEvent, happened, Mays, Lineage, NodeOk, OldOk, SentOk, SentOnce, Inv}
-use Rattle.world_facts.specs.Soft.SoftEvent.{Crash}
-use Rattle.world_facts.specs.Refines.{soft_of, past_sent, PastTick, Ticked, Refines, Left, LivesOk, logs_at, LogFacts, OlderFacts}
+use Rattle.world_core.specs.Legal.{AllReady}
+use Rattle.world_core.specs.Pasts.{HasPast}
+use Rattle.world_facts.specs.Soft.{kept_log, SentOk}
+use Rattle.world_facts.specs.Refines.{PastTick, Ticked, LivesOk}
 use Rattle.world_facts.proofs.Growths.{each-map, drop-none, length-reverse, take-back}
 use Rattle.world_facts.proofs.Keeps.{inv-reached, old-later}
 use Rattle.world_facts.proofs.Refinements.{ready-gated, walk-refines}

@@ -3,30 +3,16 @@ use Rattle.std.proofs.Common.{◌≡◌, ℕ, zero, suc, ◌-◌, Bool, true, fa
 use Rattle.std.specs.List.{filter}
 use Rattle.std.proofs.lemmas.List.{append-nil}
 use Rattle.std.proofs.lemmas.Option.{same_Some}
-use Rattle.pseudo_time.specs.Lists.{Has}
-use Rattle.pseudo_time.specs.StampParts.{StampParts}
-use Rattle.pseudo_time.specs.declared.nodes.NodeId.{NodeId}
-use Rattle.pseudo_time.proofs.ListLemmas.{has-right, has-reverse}
-use Rattle.value_form.specs.declared.acts.ActSpec.{ActSpec}
-use Rattle.effect_form.specs.declared.effects.Effect.{Effect}
+use Rattle.world_facts.proofs.Names.{Has, StampParts, NodeId, has-right, ActSpec, Effect, Out, Grew, Post, posts, Fate, same_node, Tree, Entry, Input, repository, Going, Taking, Learning, Hearing, Base, Life, Sending, World, opened_log, numbered, names, step, after_input, lives_on, gated_life, crashed_life, leaving, sent_by, start_world, walk_from, walk, Meets, NodeFacts, Turns, MayInput, TurnGives, NodeLaws, SoftNode, all_effects, put, gate, crash, Soft, around, SoftEvent, react, happened, Mays, Inv, React, Gate, Crash, Tick, soft_of, Refines}
+use Rattle.pseudo_time.proofs.ListLemmas.{has-reverse}
 use Rattle.effect_form.specs.declared.effects.Effect.TheVariants as effect
-use Rattle.message_form.specs.declared.turns.Out.{Out}
-use Rattle.message_form.specs.Growth.{Grew}
-use Rattle.message_form.specs.Posts.{Post, posts}
-use Rattle.stream_port.specs.declared.fates.Fate.{Fate}
-use Rattle.pseudo_time.specs.Nodes.{same_node}
-use Rattle.serial_model.specs.Questions.{Tree}
-use Rattle.world_core.specs.declared.entries.Entry.{Entry}
 use Rattle.world_core.specs.declared.entries.Entry.TheVariants as entry
-use Rattle.world_core.specs.Nodes.{Input, leaves, repository}
-use Rattle.world_core.specs.Nodes.Input.{Going, Taking, Learning, Hearing}
-use Rattle.world_core.specs.Walks.{Base, Life, Sending, World, opened_log, numbered, names, step, after_input, took, hears, lives_on, gated_life, crashed_life, opened_life, leaving, sent_by, start_world, walk_from, walk, last_after}
+use Rattle.world_core.specs.Nodes.{leaves}
+use Rattle.world_core.specs.Walks.{took, hears, opened_life, last_after}
 use Rattle.world_core.specs.Walks as walks
-use Rattle.world_core.specs.Legal.{MayTake, MayHear, MayGate, MayCrash, IsDecidedAs, Rule, Meets}
-use Rattle.world_facts.specs.Rules.{IsDecided, NodeFacts, Turns, MayInput, TurnGives, NodeLaws}
-use Rattle.world_facts.specs.Soft.{SoftNode, all_effects, put, gate, crash, Soft, around, SoftEvent, react, happened, Mays, Inv}
-use Rattle.world_facts.specs.Soft.SoftEvent.{React, Gate, Crash, Tick}
-use Rattle.world_facts.specs.Refines.{soft_of, Models, Refines}
+use Rattle.world_core.specs.Legal.{MayTake, MayHear, MayGate, MayCrash, IsDecidedAs, Rule}
+use Rattle.world_facts.specs.Rules.{IsDecided}
+use Rattle.world_facts.specs.Refines.{Models}
 use Rattle.world_facts.proofs.Growths.{none-has, numbered-has, put-all}
 use Rattle.world_facts.proofs.Keeps.{tidy-grown, turn-gives, inv-reached}
 use Rattle.world_facts.proofs.Steps.{step-known, both-changed, all-stay, unknown-stays, gated-soft, crashed-soft, told-soft, sent-gate}

@@ -1,17 +1,9 @@
 -- What a retirement leaves of a repository's log is tidy, each of its effects has what must have come before it, and each decision stands.
 use Rattle.std.proofs.Common.{◌≡◌, ◌≢◌, ℕ, Bool, true, false, List, [], ◌∷◌, if◌then◌else◌, sym, ◌∙◌, subst}
-use Rattle.pseudo_time.specs.TimeParts.{TimeParts}
-use Rattle.pseudo_time.specs.Order.{lt}
-use Rattle.value_form.specs.declared.objects.ObjectId.{ObjectId}
-use Rattle.value_form.specs.declared.values.Value.{Value}
-use Rattle.effect_form.specs.declared.effects.Effect.{Effect}
-use Rattle.effect_form.specs.declared.effects.Effect.TheVariants.{Put, Stretch, Begin, Decide, Learn, Mark, Whole}
-use Rattle.message_form.specs.Growth.{Each}
-use Rattle.object_history.specs.History.{version_count}
+use Rattle.world_facts.proofs.Names.{TimeParts, lt, ObjectId, Value, Effect, Put, Stretch, Begin, Decide, Learn, Mark, Whole, Each, version_count, marks, forwarded}
 use Rattle.object_history.specs.Views.{Starts}
-use Rattle.repository_log.specs.Logs.{marks}
 use Rattle.object_retirement.specs.Retired.{stays_put}
-use Rattle.object_retirement.specs.Forward.{carried, forwarded}
+use Rattle.object_retirement.specs.Forward.{carried}
 use Rattle.object_retirement.proofs.RetiredLemmas.{starts-kept}
 use Rattle.object_retirement.proofs.ForwardLemmas.{known-carried, marks-carried, record-carried}
 use Rattle.repository_laws.specs.Facts.{IsTidy}

@@ -1,21 +1,12 @@
 -- One entry of a trace, node by node.
 use Rattle.std.proofs.Common.{◌≡◌, ℕ, Bool, true, false, ◌&&◌, List, [], ◌∷◌, ◌++◌, map, take, drop, reverse, if◌then◌else◌, refl, sym, ap, subst, ◌∙◌, Option, Some, None, ◌-◌}
 use Rattle.std.proofs.lemmas.List.{map-append, reverse-append, reverse-reverse}
-use Rattle.pseudo_time.specs.declared.nodes.NodeId.{NodeId}
-use Rattle.pseudo_time.specs.declared.nodes.NodeKind.{NodeKind}
-use Rattle.pseudo_time.specs.declared.nodes.NodeKind.TheVariants.{Repository, Broker}
-use Rattle.message_form.specs.Posts.{Post}
-use Rattle.pseudo_time.specs.Nodes.{same_node}
-use Rattle.message_core.proofs.NodeLemmas.{same_is}
-use Rattle.serial_model.specs.Questions.{Tree}
-use Rattle.world_core.specs.declared.entries.Entry.{Entry}
+use Rattle.world_facts.proofs.Names.{NodeId, NodeKind, Repository, Broker, Post, same_node, same_is, Tree, Entry, Input, Given, gives, Base, Life, Sending, World, names, step, after_input, lives_on, gated_life, crashed_life, leaving, sent_by, walk_from, NodeFacts, Turns, NodeLaws, SoftNode, all_effects, put, gate, crash, react, opened_soft, soft_of}
 use Rattle.world_core.specs.declared.entries.Entry.TheVariants.{Go, Learn, Hear, Gate, Down}
-use Rattle.world_core.specs.Nodes.{Input, Given, gives}
 use Rattle.world_core.specs.Walks as walks
-use Rattle.world_core.specs.Walks.{Base, Life, Flags, Sending, World, names, step, after_input, lives_on, gated_life, crashed_life, flagged, went, learned, has_heard, leaving, sent_by, with_given, walk_from, sendings_after}
-use Rattle.world_facts.specs.Rules.{NodeFacts, Turns, forward, NodeLaws}
-use Rattle.world_facts.specs.Soft.{SoftNode, all_effects, put, gate, crash, react, with_turn, opened_soft}
-use Rattle.world_facts.specs.Refines.{soft_of}
+use Rattle.world_core.specs.Walks.{Flags, flagged, went, learned, has_heard, with_given, sendings_after}
+use Rattle.world_facts.specs.Rules.{forward}
+use Rattle.world_facts.specs.Soft.{with_turn}
 use Rattle.world_facts.proofs.Growths.{take-back, length-reverse}
 
 -- ---- flags

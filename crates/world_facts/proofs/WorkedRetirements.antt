@@ -1,29 +1,13 @@
 -- A retirement worked by hand: three acts, then a retirement at 3.1.1/1. The definitions compute what it comes to.
 use Rattle.std.proofs.Common.{◌≡◌, ℕ, true, false, List, [], ◌∷◌, reverse, if◌then◌else◌, refl, sym, ◌∙◌, ap, subst, Some, inl, inr}
 use Rattle.std.specs.Prelude.{pos}
-use Rattle.pseudo_time.specs.StampParts.{StampParts}
-use Rattle.pseudo_time.specs.TimeParts.{TimeParts}
+use Rattle.world_facts.proofs.Names.{StampParts, TimeParts, lt, ObjectId, Value, Effect, Put, Stretch, Begin, Decide, Mark, Whole, same_node-refl, floor_of, settle_of, version_count, MayRetire, forward, forwarded, Gone, marks, Plan, Tree, in_plan, Call, log_left, StandsOrGone, ViewedOrBelow, AreEarlier, logs_left, older, replaced, Running, Retiring}
 use Rattle.pseudo_time.specs.Nodes.{repository}
-use Rattle.pseudo_time.specs.Order.{lt, same_stamp}
+use Rattle.pseudo_time.specs.Order.{same_stamp}
 use Rattle.pseudo_time.specs.declared.decisions.Decision.TheVariants.{Committed}
-use Rattle.value_form.specs.declared.objects.ObjectId.{ObjectId}
-use Rattle.value_form.specs.declared.values.Value.{Value}
 use Rattle.value_form.specs.declared.values.Value.TheVariants.{Number}
-use Rattle.effect_form.specs.declared.effects.Effect.{Effect}
-use Rattle.effect_form.specs.declared.effects.Effect.TheVariants.{Put, Stretch, Begin, Decide, Mark, Whole}
-use Rattle.message_core.proofs.NodeLemmas.{same_node-refl}
 use Rattle.object_history.specs.Objects.{same_object}
-use Rattle.object_history.specs.History.{floor_of, pick, scan, settle_of, version_count}
-use Rattle.object_retirement.specs.Forward.{MayRetire, forward, forwarded}
-use Rattle.object_retirement.specs.Older.{Gone}
-use Rattle.repository_log.specs.Logs.{marks}
-use Rattle.plan_form.specs.declared.plans.Plan.{Plan}
-use Rattle.serial_model.specs.Questions.{Tree}
-use Rattle.world_core.specs.Legal.{in_plan}
-use Rattle.world_core.specs.Pasts.{Call, log_left}
-use Rattle.world_facts.specs.Acknowledged.{StandsOrGone, ViewedOrBelow}
-use Rattle.world_facts.specs.Earlier.{AreEarlier, logs_left, older, replaced}
-use Rattle.world_facts.specs.Earlier.Earlier.{Running, Retiring}
+use Rattle.object_history.specs.History.{pick, scan}
 
 -- the stamp c.1.1, and its first pseudotime
 abbrev stamp : ℕ → StampParts

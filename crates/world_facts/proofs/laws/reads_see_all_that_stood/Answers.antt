@@ -1,8 +1,4 @@
-use Rattle.world_core.specs.Legal.{base_of}
-use Rattle.world_core.specs.Pasts.{alike}
-use Rattle.world_core.specs.Walks.{sent_by, walk}
-use Rattle.world_facts.specs.Earlier.{TickedBy, replaced, sent_earlier}
-use Rattle.world_facts.specs.Refines.{logs_at}
+use Rattle.world_facts.proofs.Names.{base_of, alike, sent_by, walk, TickedBy, replaced, sent_earlier, logs_at}
 use Rattle.world_facts.proofs.AnswerLemmas.{all-of, all-read}
 use Rattle.world_facts.proofs.EarlierLemmas.{older-facts}
 use Rattle.world_facts.proofs.laws.reads_see_all_that_stood.Goals as goal
