@@ -66,6 +66,10 @@ looked-owner p = ap (λ (k : Sight). k.owner) p.kept
 pub begins-joins : (a b c : List Entry) → Begins a b → Begins b c → Begins a c
 begins-joins a b c x y = (x.0 ++ y.0, sym (append_assoc a x.0 y.0) ∙ (ap (λ (l : List Entry). l ++ y.0) x.1 ∙ y.1))
 
+whole-ok : {E : Type 0} (r : Result Turned E) (c : Condition) (P : Type 0) → IsCondition r c → c ≢ condition.Wanting → OnOk r P → P
+whole-ok (Ok t) c P is ne p = p
+whole-ok (Err e) c P is ne p = absurd (ne is)
+
 module _ {M : Type 0} where
   -- ---- all entries of a node
 
@@ -98,10 +102,6 @@ module _ {M : Type 0} where
     apart e = cc
 
   -- ---- turns
-
-  whole-ok : {E : Type 0} (r : Result Turned E) (c : Condition) (P : Type 0) → IsCondition r c → c ≢ condition.Wanting → OnOk r P → P
-  whole-ok (Ok t) c P is ne p = p
-  whole-ok (Err e) c P is ne p = absurd (ne is)
 
   pub goes-turned : {E : Type 0} (w : Media M) (old new : NodeParts M) (r : Result Turned E) → TurnsTo w old new r → GoesOn w.tells w.faults w.reads old new
   goes-turned {E} w old new r t = record {
