@@ -40,6 +40,11 @@ up-else condition.AtWork memory up = refl
 up-else (condition.Down cause) memory up = absurd (up cause refl)
 up-else condition.Wanting memory up = absurd (memory refl)
 
+-- an answer that found memory
+whole-ok : {E : Type 0} (r : Result Turned E) (c : Condition) (P : Type 0) → IsCondition r c → c ≢ condition.Wanting → OnOk r P → P
+whole-ok (Ok t) c P is ne p = p
+whole-ok (Err e) c P is ne p = absurd (ne is)
+
 -- ---- looks
 
 -- a second look joins the first
@@ -98,10 +103,6 @@ module _ {M : Type 0} where
     apart e = cc
 
   -- ---- turns
-
-  whole-ok : {E : Type 0} (r : Result Turned E) (c : Condition) (P : Type 0) → IsCondition r c → c ≢ condition.Wanting → OnOk r P → P
-  whole-ok (Ok t) c P is ne p = p
-  whole-ok (Err e) c P is ne p = absurd (ne is)
 
   pub goes-turned : {E : Type 0} (w : Media M) (old new : NodeParts M) (r : Result Turned E) → TurnsTo w old new r → GoesOn w.tells w.faults w.reads old new
   goes-turned {E} w old new r t = record {
