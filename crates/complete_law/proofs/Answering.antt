@@ -1,39 +1,12 @@
 -- Each request that a repository takes is answered, but for a read that is held; and the broker heeds each of these answers while the request stands.
 use Rattle.std.proofs.Common.{◌≡◌, ◌⊎◌, ℕ, ◌+◌, Bool, true, false, List, refl, subst, Option, Some, None, inl, inr}
 use Rattle.std.proofs.lemmas.Bool.{false≢true}
-use Rattle.pseudo_time.specs.Lists.{Has}
-use Rattle.pseudo_time.specs.StampParts.{StampParts}
-use Rattle.pseudo_time.specs.TimeParts.{TimeParts}
-use Rattle.pseudo_time.specs.Order.{same_stamp, same_time}
-use Rattle.pseudo_time.proofs.OrderLemmas.{same_stamp-self, same_time-of}
-use Rattle.pseudo_time.specs.declared.decisions.Decision.{Decision}
+use Rattle.complete_law.proofs.Names.{Has, StampParts, TimeParts, same_stamp, same_time, same_stamp-self, same_time-of, Decision, NodeId, RecordState, ObjectId, Value, Effect, Message, ToRead, ToWrite, Tree, WriteStep, is_settled, stands_written, write_step, Hand, note, now, send, is_commit, known, marks, record_of, begin_as, close_as, on_begin, on_close, on_write, tell_askers, write_as, Heard, Reply, Adds, Hears, Ignored, Try, time_of, stop_of, news, row, when, Asking, Closing, Finishing, Opening, is_finished, Answers}
 use Rattle.pseudo_time.specs.declared.decisions.Decision.TheVariants as decision
-use Rattle.pseudo_time.specs.declared.nodes.NodeId.{NodeId}
-use Rattle.commit_record.specs.declared.states.RecordState.{RecordState}
 use Rattle.commit_record.specs.declared.states.RecordState.TheVariants as state
-use Rattle.value_form.specs.declared.objects.ObjectId.{ObjectId}
-use Rattle.value_form.specs.declared.values.Value.{Value}
-use Rattle.effect_form.specs.declared.effects.Effect.{Effect}
 use Rattle.effect_form.specs.declared.effects.Effect.TheVariants as effect
-use Rattle.message_form.specs.declared.messages.Message.{Message}
 use Rattle.message_form.specs.declared.messages.Message.TheVariants as message
-use Rattle.script_meaning.specs.Meaning.{ToRead, ToWrite}
-use Rattle.serial_model.specs.Questions.{Tree}
-use Rattle.object_history.specs.declared.steps.WriteStep.{WriteStep}
 use Rattle.object_history.specs.declared.steps.WriteStep.TheVariants as write
-use Rattle.object_history.specs.History.{is_settled}
-use Rattle.object_history.specs.Answers.{stands_written, write_step}
-use Rattle.repository_core.specs.Hands.{Hand, note, now, send}
-use Rattle.repository_log.specs.Logs.{is_commit, known, marks, record_of}
-use Rattle.repository_core.specs.Rows.{begin_as, close_as, on_begin, on_close, on_write, tell_askers, write_as}
-use Rattle.broker_core.specs.declared.heards.Heard.{Heard}
-use Rattle.broker_core.specs.declared.replies.Reply.{Reply}
-use Rattle.broker_core.specs.declared.replies.Reply.TheVariants.{Adds, Hears, Ignored}
-use Rattle.broker_core.specs.Book.{Try, time_of}
-use Rattle.broker_core.specs.Fits.{stop_of}
-use Rattle.broker_core.specs.Rows.{news, row, when}
-use Rattle.broker_core.specs.Stages.{Asking, Closing, Finishing, Opening, is_finished}
-use Rattle.repository_laws.proofs.ReadSteps.{Answers}
 use Rattle.repository_laws.proofs.ServedLemmas.{sent-here, release-grows, tell-askers-grow}
 
 -- ---- answers to a Write, a Begin, a Commit and a Withdraw
@@ -124,9 +97,8 @@ module _ (script : List ℕ → Tree) where
 
   -- a Commit is decided so, or has expired; it wasn't withdrawn
   pub heeds-commit : (t : Try) (h : Heard) (d : Decision) → (d ≡ decision.Withdrawn → ⊥) → row script (Finishing t) h (news (message.Decided t.stamp d)) ≡ Ignored → ⊥
-  heeds-commit t h decision.Committed n q = when-not (same_stamp t.stamp t.stamp) _ (same_stamp-self t.stamp) (adds-not _) q
   heeds-commit t h decision.Withdrawn n q = n refl
-  heeds-commit t h (decision.Expired x m) n q = when-not (same_stamp t.stamp t.stamp) _ (same_stamp-self t.stamp) (adds-not _) q
+  heeds-commit t h _ n q = when-not (same_stamp t.stamp t.stamp) _ (same_stamp-self t.stamp) (adds-not _) q
 
   pub heeds-close : (t : Try) (h : Heard) (d : Decision) → row script (Closing t) h (news (message.Decided t.stamp d)) ≡ Ignored → ⊥
   heeds-close t h d q = when-not (same_stamp t.stamp t.stamp) _ (same_stamp-self t.stamp) (hears-not _) q

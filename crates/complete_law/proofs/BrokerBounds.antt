@@ -1,26 +1,11 @@
 -- A calm broker's log has no more effects than its acts allow, and fills no more pages.
 use Rattle.std.proofs.Common.{◌≡◌, ℕ, ◌+◌, ◌*◌, ◌≤◌, ◌==◌, nat_lt, Bool, true, false, length, List, [], ◌∷◌, ◌++◌, reverse, refl, sym, ◌∙◌, ap, subst, append-nil, arith}
-use Rattle.pseudo_time.specs.Lists.{Every}
-use Rattle.pseudo_time.proofs.ListLemmas.{every-left, every-right}
-use Rattle.value_form.specs.declared.acts.ActSpec.{ActSpec}
-use Rattle.effect_form.specs.declared.effects.Effect.{Effect}
-use Rattle.serial_model.specs.Questions.{Tree, stop}
+use Rattle.complete_law.proofs.Names.{Every, every-left, every-right, ActSpec, Effect, Tree, stop, Act, Book, Try, book, tries_of, broker, Task, task_of, tasks, state, Started, IsPlayed, TurnHolds, kept, played, acts_of, Base, Life, World, sent_by, AskAtMost, AsksAtMost, CalmPlace, filled_by, log_at, tries_in, world_at, every-at, every-filter}
 use Rattle.plan_form.specs.PlanTexts.{EachAct}
-use Rattle.broker_core.specs.Book.{Act, Book, Try, book, tries_of}
-use Rattle.pseudo_time.specs.Nodes.{broker}
-use Rattle.broker_core.specs.Tasks.{Task, task_of, tasks}
-use Rattle.broker_core.specs.Turns.{state}
-use Rattle.broker_core.specs.Sound.{Started}
-use Rattle.broker_laws.specs.Posts.{IsPlayed}
 use Rattle.broker_core.specs.Sound.{OfAct}
-use Rattle.broker_laws.specs.Works.{TurnHolds}
 use Rattle.broker_laws.proofs.Found.{kin}
-use Rattle.broker_laws.proofs.Kept.{kept, started}
-use Rattle.broker_laws.proofs.Tries.{played}
-use Rattle.world_core.specs.Nodes.{acts_of}
-use Rattle.world_core.specs.Walks.{Base, Life, World, sent_by}
+use Rattle.broker_laws.proofs.Kept.{started}
 use Rattle.world_core.specs.Walks as walks
-use Rattle.complete_law.specs.Calm.{AskAtMost, AsksAtMost, CalmPlace, filled_by, log_at, tries_in, world_at}
 use Rattle.complete_law.proofs.BrokerMoves.{turn-there}
 use Rattle.complete_law.proofs.BrokerRuns.{only-runs}
 use Rattle.complete_law.proofs.Outcomes.{own-tries}
@@ -30,7 +15,6 @@ use Rattle.complete_law.proofs.Shares.{act-size, acts-share, answers-few, asking
 use Rattle.complete_law.proofs.Sizes.{IsSpare, begun-run, log-pages, log-size, one-if, size-act, size-acts, spare}
 use Rattle.complete_law.proofs.Steps as steps
 use Rattle.complete_law.proofs.Steps.{calm-there, facts-there}
-use Rattle.serial_law.proofs.Growths.{every-at, every-filter}
 
 -- a task of the plan may be tried, and its script makes few requests
 abbrev pub IsAllowed : (List ℕ → Tree) → ℕ → Task → Type 0

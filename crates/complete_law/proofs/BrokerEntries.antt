@@ -1,51 +1,18 @@
 -- An entry at which a broker takes a turn keeps what always holds.
 use Rattle.std.proofs.Common.{◌≡◌, ◌≢◌, ◌⊎◌, ℕ, ◌==◌, true, false, List, [], ◌∷◌, ◌++◌, map, reverse, refl, sym, ◌∙◌, ap, subst, Option, Some, None, inl, inr}
 use Rattle.std.proofs.lemmas.Bool.{true≢false}
-use Rattle.pseudo_time.specs.Lists.{Has}
-use Rattle.pseudo_time.proofs.ListLemmas.{every-map, has-left, has-right, has-either}
-use Rattle.pseudo_time.specs.StampParts.{StampParts}
-use Rattle.pseudo_time.specs.TimeParts.{TimeParts}
-use Rattle.pseudo_time.specs.declared.decisions.Decision.{Decision}
-use Rattle.pseudo_time.specs.declared.nodes.NodeId.{NodeId}
+use Rattle.complete_law.proofs.Names.{Has, every-map, has-right, has-either, StampParts, TimeParts, Decision, NodeId, Effect, Outcome, Message, Out, Grew, Post, post, Tree, HeldRead, Asker, waits_for, Heard, Ignored, Act, Book, Try, book, find, last_try, tries, tries_of, is_none, row, news, stage, standing, repository, broker, Task, Desk, desk_at, desk_turn, state, FitsLog, IsTidy, IsRested, grown, same_stamp-self, Base, Life, Sending, World, sent_by, all_effects, Waits, standing_at, read_to, older, BookSound, HasSettled, Trail, DeskSound, ask_of, tell_of}
 use Rattle.pseudo_time.specs.declared.nodes.NodeKind.TheVariants as kind
-use Rattle.effect_form.specs.declared.effects.Effect.{Effect}
 use Rattle.effect_form.specs.declared.effects.Effect.TheVariants as effect
-use Rattle.effect_form.specs.declared.outcomes.Outcome.{Outcome}
-use Rattle.message_form.specs.declared.messages.Message.{Message}
 use Rattle.message_form.specs.declared.messages.Message.TheVariants as message
-use Rattle.message_form.specs.declared.turns.Out.{Out}
-use Rattle.message_form.specs.Growth.{Grew}
-use Rattle.message_form.specs.Posts.{Post, post}
-use Rattle.serial_model.specs.Questions.{Tree}
-use Rattle.repository_core.specs.declared.waits.HeldRead.{HeldRead}
-use Rattle.repository_core.specs.declared.waits.Asker.{Asker}
-use Rattle.repository_core.specs.Rows.{waits_for}
-use Rattle.broker_core.specs.declared.heards.Heard.{Heard}
-use Rattle.broker_core.specs.declared.replies.Reply.TheVariants.{Ignored}
-use Rattle.broker_core.specs.Book.{Act, Book, Try, book, find, last_try, tries, tries_of}
-use Rattle.broker_core.specs.Fits.{is_none}
-use Rattle.broker_core.specs.Rows.{row, news}
-use Rattle.broker_core.specs.Stages.{stage, standing}
-use Rattle.pseudo_time.specs.Nodes.{repository, broker}
-use Rattle.broker_core.specs.Tasks.{Task}
 use Rattle.broker_core.specs.Turns as desks
-use Rattle.broker_core.specs.Turns.{Desk, desk_at, desk_turn, state}
-use Rattle.broker_laws.specs.Fits.{FitsLog, IsTidy}
 use Rattle.broker_laws.specs.Posts.{IsLater}
-use Rattle.broker_laws.specs.Works.{IsRested}
 use Rattle.broker_laws.proofs.Desks.{last-first}
-use Rattle.broker_laws.proofs.Moves.{grown, later-kept}
-use Rattle.pseudo_time.proofs.OrderLemmas.{same_stamp-self}
-use Rattle.world_core.specs.Walks.{Base, Life, Sending, World, numbered, opened_life, sent_by, all_effects}
-use Rattle.world_core.specs.Legal.{times_taken}
-use Rattle.repository_laws.specs.Waits.{Waits}
-use Rattle.complete_law.specs.AtRest.{standing_at, read_to}
-use Rattle.broker_laws.specs.Waits.{older}
-use Rattle.broker_laws.proofs.BookSteps.{BookSound, HasSettled, HasStarted, Trail}
-use Rattle.broker_laws.proofs.BookTurns.{DeskSound, OutSound, standing-sound, stands-to}
-use Rattle.repository_laws.specs.Waits.{ask_of, tell_of}
+use Rattle.broker_laws.proofs.Moves.{later-kept}
+use Rattle.broker_laws.proofs.BookSteps.{HasStarted}
+use Rattle.broker_laws.proofs.BookTurns.{OutSound, standing-sound, stands-to}
 use Rattle.complete_law.proofs.Places.{log_of, held_of, IsBegun, IsDecided, Flying, AskedFor, tasks_of, desk_of, standing_in, Placed, SaidOf, CalmWorld}
-use Rattle.complete_law.proofs.Frames.{life-with}
+use Rattle.complete_law.proofs.Frames.{OneTurn, life-with, turn-flies}
 
 -- what is sound stays sound as more has begun and is decided
 module _ (script : List ℕ → Tree) (me run : ℕ) (acts : List Task) (Begun Decided Begun' Decided' : StampParts → Type 0) (f : (s : StampParts) → Begun s → Begun' s) (g : (s : StampParts) → Decided s → Decided' s) where
@@ -82,19 +49,9 @@ module _ (script : List ℕ → Tree) (me : ℕ) where
       let l = later-kept script me (fresh ++ log) f s k.0 (grown script me log fresh tidy grew.0) grew.1 k.1 in
       (l.0, l.1, ended-later k.0 l.0 l.2 k.2)
 
--- one broker's turn: `d` is its desk after it, and `gone` is a message that it took
-pub record Moved (b : Base) (w w' : World) (n : ℕ) (d : Desk) (from0 : NodeId) (m0 : Message) : Type 0 where
-  pub here : w'.life (broker n) ≡ life-with b (w.life (broker n)) d
-  pub there : (m : NodeId) → (m ≡ broker n) ⊎ ((m ≢ broker n) × (w'.life m ≡ w.life m))
-  pub sendings : w'.sendings ≡ w.sendings
-  pub ticks : w'.ticks ≡ w.ticks
-  pub ups : (m : NodeId) → (w'.flags m).up ≡ (w.flags m).up
-  pub knowns : (m : NodeId) → (w'.flags m).known ≡ (w.flags m).known
-  pub mine : (w.flags (broker n)).known ≡ true
-  pub due : (w'.flags (broker n)).due ≡ true
-  pub dues : (m : NodeId) → m ≢ broker n → (w'.flags m).due ≡ (w.flags m).due
-  pub gones : (m : NodeId) → m ≢ broker n → (w'.flags m).gone ≡ (w.flags m).gone
-  pub copies : (k : ℕ) (s : Sending) → numbered w.sendings k ≡ Some s → times_taken w k ≡ 0 → (times_taken w' k ≡ 0) ⊎ (s.post ≡ record { from = from0; to = broker n; message = m0 })
+-- one broker's turn: `d` is its desk after it, and it took this message
+abbrev pub Moved : Base → World → World → ℕ → Desk → NodeId → Message → Type 0
+Moved b w w' n d from0 m0 = OneTurn w w' (broker n) (life-with b (w.life (broker n)) d) (λ p. p ≡ record { from = from0; to = broker n; message = m0 })
 
 broker-same : (i n : ℕ) → broker i ≡ broker n → i ≡ n
 broker-same i n e = ap (λ (x : NodeId). x.number) e
@@ -132,21 +89,8 @@ module _ (b : Base) (w w' : World) (n : ℕ) (d : Desk) (from0 : NodeId) (m0 : M
       go (inl e) = subst (λ z. P z (log_of w' (broker z)) (w'.life (broker z)).mind.heard) (sym (broker-same i n e)) mine
       go (inr e) = subst (λ (l : Life). P i (reverse (all_effects l)) l.mind.heard) (sym e.1) (others i (λ q. e.0 (ap broker q)))
 
-  outs-more : (m : NodeId) (o : Out) → Has o (w.life m).outs → Has o (w'.life m).outs
-  outs-more m o h = go (mv.there m)
-    where
-      go : (m ≡ broker n) ⊎ ((m ≢ broker n) × (w'.life m ≡ w.life m)) → Has o (w'.life m).outs
-      go (inl e) = subst (λ z. Has o (w'.life z).outs) (sym e) (subst (λ (l : Life). Has o l.outs) (sym mv.here) (has-left (w.life (broker n)).outs d.outs o (subst (λ z. Has o (w.life z).outs) e h)))
-      go (inr e) = subst (λ (l : Life). Has o l.outs) (sym e.1) h
-
-  -- a message on its way stays so, unless it was the one that was taken
   flies : (from : NodeId) (o : Out) → Flying w from o → Flying w' from o ⊎ (post from o ≡ record { from = from0; to = broker n; message = m0 })
-  flies from o (inl h) = inl (inl (outs-more from o h))
-  flies from o (inr (k, s, at, is, none)) = go (mv.copies k s at none)
-    where
-      go : (times_taken w' k ≡ 0) ⊎ (s.post ≡ record { from = from0; to = broker n; message = m0 }) → Flying w' from o ⊎ (post from o ≡ record { from = from0; to = broker n; message = m0 })
-      go (inl z) = inl (inr (k, s, subst (λ l. numbered l k ≡ Some s) (sym mv.sendings) at, is, z))
-      go (inr e) = inr (sym is ∙ e)
+  flies = turn-flies w w' (broker n) (life-with b (w.life (broker n)) d) (λ p. p ≡ record { from = from0; to = broker n; message = m0 }) mv
 
   to-of : (from : NodeId) (o : Out) → post from o ≡ record { from = from0; to = broker n; message = m0 } → o.to ≡ broker n
   to-of from o e = ap (λ (p : Post). p.to) e
@@ -159,26 +103,6 @@ module _ (b : Base) (w w' : World) (n : ℕ) (d : Desk) (from0 : NodeId) (m0 : M
       go (inr e) = absurd (not-repository r n (sym to ∙ to-of from o e))
 
   -- ---- what is the same for each turn of a broker
-
-  pub moved-ups : (m : NodeId) → (w'.flags m).up ≡ (w'.flags m).known
-  moved-ups m = mv.ups m ∙ calm.ups m ∙ sym (mv.knowns m)
-
-  pub moved-outside : (m : NodeId) → (w'.flags m).known ≡ false → w'.life m ≡ opened_life b.start []
-  moved-outside m e = go (mv.there m)
-    where
-      was : (w.flags m).known ≡ false
-      was = sym (mv.knowns m) ∙ e
-
-      go : (m ≡ broker n) ⊎ ((m ≢ broker n) × (w'.life m ≡ w.life m)) → w'.life m ≡ opened_life b.start []
-      go (inl q) = absurd (true≢false (sym mv.mine ∙ subst (λ z. (w.flags z).known ≡ false) q was))
-      go (inr q) = q.1 ∙ calm.outside m was
-
-  pub moved-shut : (m : NodeId) → (w'.flags m).due ≡ false → ((w'.life m).fresh ≡ []) × ((w'.life m).outs ≡ [])
-  moved-shut m e = go (mv.there m)
-    where
-      go : (m ≡ broker n) ⊎ ((m ≢ broker n) × (w'.life m ≡ w.life m)) → ((w'.life m).fresh ≡ []) × ((w'.life m).outs ≡ [])
-      go (inl q) = absurd (true≢false (sym mv.due ∙ subst (λ z. (w'.flags z).due ≡ false) q e))
-      go (inr q) = subst (λ (l : Life). (l.fresh ≡ []) × (l.outs ≡ [])) (sym q.1) (calm.shut m (sym (mv.dues m q.0) ∙ e))
 
   pub moved-waits : (r : ℕ) (e : TimeParts × HeldRead) → Has e (held_of w' r) → Waits (log_of w' (repository r)) e
   moved-waits r e h = subst (λ (l : Life). Waits (reverse (all_effects l)) e) (sym (repo-same r)) (calm.waits r e (subst (λ (l : Life). Has e l.mind.hands.held) (repo-same r) h))

@@ -1,33 +1,14 @@
 -- What a broker has sent and owes is paid by its attempts, and those have no more than the plan allows.
 use Rattle.std.proofs.Common.{◌≡◌, ℕ, ◌+◌, ◌*◌, ◌≤◌, max, Bool, true, false, length, List, [], ◌∷◌, ◌++◌, reverse, refl, sym, ◌∙◌, ap, Option, Some, None, inl, inr, if◌then◌else◌, arith}
 use Rattle.std.proofs.lemmas.Bool.{true≢false}
-use Rattle.pseudo_time.specs.Lists.{Every}
-use Rattle.effect_form.specs.declared.effects.Effect.{Effect}
-use Rattle.effect_form.specs.declared.outcomes.Outcome.{Outcome}
+use Rattle.complete_law.proofs.Names.{Every, Effect, Outcome, Answer, Stop, Asks, Over, Tree, Heard, Act, Book, Try, book, tries_of, keep, stop_of, broker, Desk, desk_at, desk_turn, state, ToRead, ToWrite, EndsBy, IsPlayed, Entry, Going, Taking, Base, Life, World, opened_life, sent_by, start_world, step, after_input, Rule, MayGo, MayTake, AskAtMost, CalmPlace, CalmRun, IsUnstopped, log_at, world_at}
 use Rattle.effect_form.specs.declared.outcomes.Outcome.TheVariants as outcome
-use Rattle.message_form.specs.declared.messages.Message.{Message}
-use Rattle.message_form.specs.declared.turns.Out.{Out}
-use Rattle.script_meaning.specs.Meaning.{Answer, Stop, Asks, Over}
-use Rattle.serial_model.specs.Questions.{Tree}
-use Rattle.broker_core.specs.declared.heards.Heard.{Heard}
-use Rattle.broker_core.specs.Book.{Act, Book, Try, book, tries_of}
-use Rattle.broker_core.specs.Fits.{keep, stop_of}
-use Rattle.pseudo_time.specs.Nodes.{broker}
 use Rattle.broker_core.specs.Turns as desks
-use Rattle.broker_core.specs.Turns.{Desk, desk_at, desk_turn, state}
-use Rattle.script_meaning.specs.Meaning.{ToRead, ToWrite}
-use Rattle.broker_laws.specs.Fits.{EndsBy}
-use Rattle.broker_laws.specs.Posts.{IsPlayed}
-use Rattle.world_core.specs.declared.entries.Entry.{Entry}
-use Rattle.world_core.specs.Nodes.Input.{Going, Taking}
-use Rattle.world_core.specs.Walks.{Base, Life, World, opened_life, sent_by, start_world, step, after_input}
 use Rattle.world_core.specs.Walks as walks
-use Rattle.world_core.specs.Legal.{Rule, MayGo, MayTake}
-use Rattle.complete_law.specs.Calm.{AskAtMost, CalmPlace, CalmRun, IsUnstopped, log_at, world_at}
 use Rattle.complete_law.proofs.BrokerBounds.{IsAllowed, IsLed, all-led, few-answers, state-is}
 use Rattle.complete_law.proofs.BrokerMoves as moves
 use Rattle.complete_law.proofs.Costs as costs
-use Rattle.complete_law.proofs.Costs.{ac, is-fresh, at-stop, old, pos, pos-by, rank, refused, weigh, weight}
+use Rattle.complete_law.proofs.Costs.{ac, is-fresh, at-stop, old, pos, pos-by, rank, refused, weight}
 use Rattle.complete_law.proofs.Frames.{desk-after, goes, life-with, takes, turned}
 use Rattle.complete_law.proofs.Loads.{Fed, Kept, by-entry, issued, load, load-append, sent-load}
 use Rattle.complete_law.proofs.Places.{CalmWorld, IsBegun, IsDecided, desk_of, log_of, tasks_of}
@@ -40,20 +21,13 @@ module _ (u v z : ℕ) (r : CalmRun) where
   abbrev b : Base
   b = steps.b r
 
-  abbrev pub wt : Message → ℕ
-  wt = weight u v z b.script
-
-  weigh-load : (os : List Out) → weigh u v z b.script os ≡ load wt os
-  weigh-load [] = refl
-  weigh-load (o ∷ os) = ap (λ k. wt o.message + k) (weigh-load os)
-
   -- what the attempts of a log have paid
   abbrev pub paid-of : ℕ → List Effect → Heard → ℕ
   paid-of n log h = rank u v z b.script h (tries_of (state b.script n b.run (tasks_of b n) (desk_at log h)).acts)
 
   -- THE INVARIANT: what a broker has sent and owes is paid
   abbrev pub IsPaid : World → ℕ → Type 0
-  IsPaid w n = ((w.flags (broker n)).gone ≡ false → (log_of w (broker n) ≡ []) × (issued wt w (broker n) ≡ 0)) × (issued wt w (broker n) ≤ paid-of n (log_of w (broker n)) (w.life (broker n)).mind.heard)
+  IsPaid w n = ((w.flags (broker n)).gone ≡ false → (log_of w (broker n) ≡ []) × (issued (weight u v z) w (broker n) ≡ 0)) × (issued (weight u v z) w (broker n) ≤ paid-of n (log_of w (broker n)) (w.life (broker n)).mind.heard)
 
   no-acts : (n : ℕ) (log : List Effect) (h : Heard) → log ≡ [] → (state b.script n b.run (tasks_of b n) (desk_at log h)).acts ≡ []
   unfolding keep book
@@ -62,46 +36,37 @@ module _ (u v z : ℕ) (r : CalmRun) where
   pub empty-paid : (n : ℕ) (log : List Effect) (h : Heard) → log ≡ [] → paid-of n log h ≡ 0
   empty-paid n log h e = ap (λ as'. rank u v z b.script h (tries_of as')) (no-acts n log h e)
 
-  below-zero : (x y : ℕ) → x ≤ y → y ≡ 0 → x ≡ 0
-  below-zero x y h k = omega (arith, h, k)
-
-  up-to : (x y k l : ℕ) → x ≤ y → y ≤ k → l ≡ k → x ≤ l
-  up-to x y k l h i e = omega (arith, h, i, e)
-
   module _ (w : World) (e : Entry) (f : Facts-at r w) (c : CalmWorld b w) (n : ℕ) (k : IsPaid w n) where
     abbrev w' : World
     w' = step b w e
 
     kept-paid : Kept w w' (broker n) → IsPaid w' n
-    kept-paid same = (
-      (λ g. let x = k.0 (sym same.gone ∙ g) in (same.log ∙ x.0, below-zero (issued wt w' (broker n)) (issued wt w (broker n)) (same.issued wt) x.1)),
-      up-to (issued wt w' (broker n)) (issued wt w (broker n)) (paid-of n (log_of w (broker n)) (w.life (broker n)).mind.heard) (paid-of n (log_of w' (broker n)) (w'.life (broker n)).mind.heard) (same.issued wt) k.1
-          (ap (λ log. paid-of n log (w'.life (broker n)).mind.heard) same.log ∙ ap (λ m. paid-of n (log_of w (broker n)) m.heard) same.mind),
-    )
+    kept-paid same =
+        let sent = same.issued (weight u v z) in
+        let due = k.1 in
+        let p : paid-of n (log_of w' (broker n)) (w'.life (broker n)).mind.heard ≡ paid-of n (log_of w (broker n)) (w.life (broker n)).mind.heard =
+        ap (λ log. paid-of n log (w'.life (broker n)).mind.heard) same.log ∙ ap (λ m. paid-of n (log_of w (broker n)) m.heard) same.mind in
+        ((λ g. let x = k.0 (sym same.gone ∙ g) in let y = x.1 in (same.log ∙ x.0, omega (arith, sent, y))), omega (arith, sent, due, p))
 
     -- a turn pays what it says
     turn-paid : (i : desks.Input) (l : Life) → l ≡ life-with b (w.life (broker n)) (turned b w n i) → Fed w w' (broker n) l →
-        issued wt w (broker n) + weigh u v z b.script (turned b w n i).outs ≤ rank u v z b.script (turned b w n i).heard (tries_of (state b.script n b.run (tasks_of b n) (turned b w n i)).acts) →
-        issued wt w' (broker n) ≤ paid-of n (log_of w' (broker n)) (w'.life (broker n)).mind.heard
+        issued (weight u v z) w (broker n) + load (weight u v z) (turned b w n i).outs ≤ rank u v z b.script (turned b w n i).heard (tries_of (state b.script n b.run (tasks_of b n) (turned b w n i)).acts) →
+        issued (weight u v z) w' (broker n) ≤ paid-of n (log_of w' (broker n)) (w'.life (broker n)).mind.heard
     turn-paid i l is fed paid =
         let now : w'.life (broker n) ≡ life-with b (w.life (broker n)) (turned b w n i) = fed.life ∙ is in
-        let after = desk-after b w n i in
-        let x : load wt (w'.life (broker n)).outs ≡ load wt ((w.life (broker n)).outs ++ (turned b w n i).outs) = ap (λ (y : Life). load wt y.outs) now in
-        let y = load-append wt (w.life (broker n)).outs (turned b w n i).outs in
-        let t = weigh-load (turned b w n i).outs in
-        let s : sent-load wt (broker n) w'.sendings ≡ sent-load wt (broker n) w.sendings = ap (sent-load wt (broker n)) fed.sendings in
-        let log : log_of w' (broker n) ≡ desks.all_effects (turned b w n i) = ap (λ (y : Life). reverse (walks.all_effects y)) now ∙ after.0 in
-        let heard : (w'.life (broker n)).mind.heard ≡ (turned b w n i).heard = ap (λ (y : Life). y.mind.heard) now in
+        let x : load (weight u v z) (w'.life (broker n)).outs ≡ load (weight u v z) ((w.life (broker n)).outs ++ (turned b w n i).outs) = ap (λ (y : Life). load (weight u v z) y.outs) now in
+        let y = load-append (weight u v z) (w.life (broker n)).outs (turned b w n i).outs in
+        let s : sent-load (weight u v z) (broker n) w'.sendings ≡ sent-load (weight u v z) (broker n) w.sendings = ap (sent-load (weight u v z) (broker n)) fed.sendings in
         let p : paid-of n (log_of w' (broker n)) (w'.life (broker n)).mind.heard ≡ paid-of n (desks.all_effects (turned b w n i)) (turned b w n i).heard =
-        ap (λ z'. paid-of n z' (w'.life (broker n)).mind.heard) log ∙ ap (paid-of n (desks.all_effects (turned b w n i))) heard in
-        omega (arith, paid, x, y, t, s, p)
+        ap (λ (y : Life). paid-of n (reverse (walks.all_effects y)) y.mind.heard) now ∙ ap (λ z'. paid-of n z' (turned b w n i).heard) (desk-after b w n i).0 in
+        omega (arith, paid, x, y, s, p)
 
     take-case : (number : ℕ) (may : MayTake (steps.fates r) w (broker n) number) → w'.taken ≡ number ∷ w.taken → (w'.flags (broker n)).gone ≡ (w.flags (broker n)).gone →
         Fed w w' (broker n) (after_input b (broker n) (w.life (broker n)) (Taking may.sending.post.from may.sending.post.message)) → IsPaid w' n
     take-case number may taken gone fed = (
       (λ g. absurd (true≢false (sym (may.gone refl) ∙ sym gone ∙ g))),
       turn-paid (desks.Take may.sending.post.from may.sending.post.message) (after_input b (broker n) (w.life (broker n)) (Taking may.sending.post.from may.sending.post.message)) (takes b w n may.sending.post.from may.sending.post.message) fed
-          (costs.take-paid u v z b.script n b.run (tasks_of b n) (IsBegun w) (IsDecided w) (issued wt w (broker n)) (sent_by w) (desk_of b w n) may.sending.post.from may.sending.post.message refl
+          (costs.take-paid u v z b.script n b.run (tasks_of b n) (IsBegun w) (IsDecided w) (issued (weight u v z) w (broker n)) (sent_by w) (desk_of b w n) may.sending.post.from may.sending.post.message refl
           (may.sending.post.from, moves.was-sent b w c f n number (steps.fates r) may) (moves.tells b w c f n number (steps.fates r) may) (c.sound n) k.1),
     )
 
@@ -118,7 +83,7 @@ module _ (u v z : ℕ) (r : CalmRun) where
 
   start-paid : (n : ℕ) → IsPaid (start_world b) n
   start-paid n =
-      let x : load wt ((start_world b).life (broker n)).outs ≡ 0 = ap (λ (l : Life). load wt l.outs) (steps.empty-life r (broker n)) in
+      let x : load (weight u v z) ((start_world b).life (broker n)).outs ≡ 0 = ap (λ (l : Life). load (weight u v z) l.outs) (steps.empty-life r (broker n)) in
       ((λ g. (ap (λ (l : Life). reverse (walks.all_effects l)) (steps.empty-life r (broker n)), omega (arith, x))), omega (arith, x))
 
 -- at each place
@@ -197,10 +162,10 @@ module _ (u v z most : ℕ) (script : List ℕ → Tree) where
       omega (arith, x, y)
 
 -- a broker sends no more than its acts allow
-pub broker-issues : (u v z : ℕ) (p : CalmPlace) (most : ℕ) → AskAtMost p.run most → (n : ℕ) → issued (wt u v z p.run) (world_at p) (broker n) ≤ tries-given (tasks_of (steps.b p.run) n) * fee u v z most (steps.b p.run).script
+pub broker-issues : (u v z : ℕ) (p : CalmPlace) (most : ℕ) → AskAtMost p.run most → (n : ℕ) → issued (weight u v z) (world_at p) (broker n) ≤ tries-given (tasks_of (steps.b p.run) n) * fee u v z most (steps.b p.run).script
 broker-issues u v z p most asks n = go ((world_at p).flags (broker n)).known refl
   where
-    go : (c : Bool) → ((world_at p).flags (broker n)).known ≡ c → issued (wt u v z p.run) (world_at p) (broker n) ≤ tries-given (tasks_of (steps.b p.run) n) * fee u v z most (steps.b p.run).script
+    go : (c : Bool) → ((world_at p).flags (broker n)).known ≡ c → issued (weight u v z) (world_at p) (broker n) ≤ tries-given (tasks_of (steps.b p.run) n) * fee u v z most (steps.b p.run).script
     go true known =
         let led = all-led p most asks n known in
         let paid = (all-paid u v z p n).1 in

@@ -1,34 +1,14 @@
 -- The only Run in a calm broker's log is that of its run. So its log has no more effects than its acts and their attempts may have.
 use Rattle.std.proofs.Common.{◌≡◌, ℕ, zero, suc, nat_lt, Bool, true, false, ◌&&◌, length, List, [], ◌∷◌, ◌++◌, reverse, refl, sym, ap, subst, Option, Some, None, if◌then◌else◌, append-nil, slice_get}
-use Rattle.pseudo_time.specs.Lists.{Every}
-use Rattle.pseudo_time.specs.declared.decisions.Decision.{Decision}
+use Rattle.complete_law.proofs.Names.{Every, Decision, Effect, same_stamp, same_time, Got, Stored, ToRead, ToWrite, Tree, Heard, Reply, Adds, Hears, Ignored, Act, Book, Try, time_of, another, next_clock, shown_to, stop_of, after_act, after_tries, by_clock, by_stage, due, owed, start, try_or_spent, ends, News, Begun, Answered, Refusal, Over_there, Decided, row, news, when, decided_commit, decided_early, Stage, Refused, Opening, Asking, Finishing, Stopping, Closing, is_closed, is_finished, stage, standing, broker, Task, Desk, desk_at, desk_turn, fuel, hears, note_if, reply, say, settle_up, state, Out, Entry, gives, Learning, Base, Life, Sending, World, gated_life, lives_on, names, numbered, opened_life, start_world, step, after_input, took, all_effects, CalmPlace, IsUnstopped, world_at}
 use Rattle.pseudo_time.specs.declared.decisions.Decision.TheVariants as decision
-use Rattle.effect_form.specs.declared.effects.Effect.{Effect}
 use Rattle.effect_form.specs.declared.effects.Effect.TheVariants as effect
 use Rattle.effect_form.specs.declared.outcomes.Outcome.TheVariants as outcome
-use Rattle.pseudo_time.specs.Order.{same_stamp, same_time}
-use Rattle.script_meaning.specs.Meaning.{Got, Stored, ToRead, ToWrite}
-use Rattle.serial_model.specs.Questions.{Tree}
-use Rattle.broker_core.specs.declared.heards.Heard.{Heard}
-use Rattle.broker_core.specs.declared.replies.Reply.{Reply}
-use Rattle.broker_core.specs.declared.replies.Reply.TheVariants.{Adds, Hears, Ignored}
-use Rattle.broker_core.specs.Book.{Act, Book, Try, time_of}
-use Rattle.broker_core.specs.Fits.{another, next_clock, shown_to, stop_of}
-use Rattle.broker_core.specs.Owed.{after_act, after_tries, by_clock, by_stage, due, owed, start, try_or_spent}
-use Rattle.broker_core.specs.Rows.{ends, News, Begun, Answered, Refusal, Over_there, Decided, row, news, when, decided_commit, decided_early}
-use Rattle.broker_core.specs.Stages.{Stage, Refused, Opening, Asking, Finishing, Stopping, Closing, is_closed, is_finished, stage, standing}
-use Rattle.pseudo_time.specs.Nodes.{broker}
-use Rattle.broker_core.specs.Tasks.{Task}
 use Rattle.broker_core.specs.Turns as desks
-use Rattle.broker_core.specs.Turns.{Desk, desk_at, desk_turn, fuel, hears, note, note_if, reply, say, send, settle_up, state}
-use Rattle.message_form.specs.declared.turns.Out.{Out}
-use Rattle.world_core.specs.declared.entries.Entry.{Entry}
+use Rattle.broker_core.specs.Turns.{note, send}
 use Rattle.world_core.specs.declared.entries.Entry.TheVariants as entry
-use Rattle.world_core.specs.Nodes.{gives}
-use Rattle.world_core.specs.Nodes.Input.{Hearing, Learning}
+use Rattle.world_core.specs.Nodes.Input.{Hearing}
 use Rattle.world_core.specs.Walks as walks
-use Rattle.world_core.specs.Walks.{Base, Life, Sending, World, gated_life, lives_on, names, numbered, opened_life, start_world, step, after_input, took, all_effects}
-use Rattle.complete_law.specs.Calm.{CalmPlace, IsUnstopped, world_at}
 use Rattle.complete_law.proofs.Frames.{desk-after, goes, life-with, takes, turned}
 use Rattle.complete_law.proofs.Places.{desk_of, log_of, tasks_of}
 use Rattle.complete_law.proofs.Sizes.{IsOfRun}
@@ -95,9 +75,8 @@ module _ (script : List ℕ → Tree) (me run : ℕ) (acts : List Task) where
       go (Some o) = k
 
   abbrev ReplyOf : Reply → Type 0
-  ReplyOf Ignored = Unit {0}
-  ReplyOf (Hears h) = Unit {0}
   ReplyOf (Adds f) = IsOfRun run f
+  ReplyOf _ = Unit {0}
 
   when-of : (c : Bool) (r : Reply) → ReplyOf r → ReplyOf (when c r)
   when-of true r k = k
@@ -105,13 +84,11 @@ module _ (script : List ℕ → Tree) (me run : ℕ) (acts : List Task) where
 
   commit-of : (t : Try) (d : Decision) → ReplyOf (decided_commit t d)
   commit-of t decision.Committed = tt
-  commit-of t decision.Withdrawn = tt
-  commit-of t (decision.Expired x m) = tt
+  commit-of t _ = tt
 
   early-of : (c : Bool) (t : Try) (d : Decision) → ReplyOf (decided_early c t d)
   early-of c t decision.Committed = when-of c (ends t outcome.Committed) tt
-  early-of c t decision.Withdrawn = tt
-  early-of c t (decision.Expired x m) = tt
+  early-of c t _ = tt
 
   row-of : (st : Stage) (h : Heard) (n : News) → ReplyOf (row script st h n)
   row-of (Opening t) h (Begun s) = when-of (same_stamp t.stamp s) (Hears (record h { begun = Some t.stamp })) tt

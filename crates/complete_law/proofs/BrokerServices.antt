@@ -2,59 +2,19 @@
 use Rattle.std.proofs.Common.{◌≡◌, ℕ, ◌==◌, Bool, true, false, [], ◌∷◌, ◌++◌, reverse, refl, sym, ◌∙◌, ap, subst, Some, None, if◌then◌else◌, inl, inr}
 use Rattle.std.proofs.lemmas.List.{reverse-append}
 use Rattle.std.proofs.lemmas.Option.{same_Some}
-use Rattle.pseudo_time.specs.Lists.{Has}
-use Rattle.pseudo_time.proofs.ListLemmas.{has-right}
-use Rattle.pseudo_time.specs.StampParts.{StampParts}
-use Rattle.pseudo_time.specs.TimeParts.{TimeParts}
-use Rattle.pseudo_time.proofs.OrderLemmas.{same_stamp-self}
-use Rattle.pseudo_time.specs.declared.decisions.Decision.{Decision}
-use Rattle.pseudo_time.specs.declared.nodes.NodeId.{NodeId}
+use Rattle.complete_law.proofs.Names.{Has, has-right, StampParts, TimeParts, same_stamp-self, Decision, NodeId, ObjectId, Message, Out, Grew, ToRead, ToWrite, HeldRead, Hand, record_of, accepts, on_message, hand_at, tidy-through, Heard, Ignored, Book, Try, book, find, open_try, time_of, tries, keep, news, row, Stage, Idle, Refused, Opening, Asking, Finishing, Stopping, Closing, is_finished, nothing_heard, stage, standing, repository, broker, state, FitsLog, IsTidy, Clocks, IsBelow, PostHolds, TurnHolds, StageOk, open-first, stage-ok, each-found, kept, clocks, Base, Life, World, sent_by, all_effects, Refines, logs_at, soft_of, node_turns, node_facts, NodeOk, around, happened, node-laws, facts-of, read_to, standing_at, has-record, StageSound, stage-sound, Keeps, Serves, each-has}
 use Rattle.commit_record.specs.declared.states.RecordState.TheVariants as records
-use Rattle.value_form.specs.declared.objects.ObjectId.{ObjectId}
 use Rattle.effect_form.specs.declared.effects.Effect.TheVariants as effect
-use Rattle.message_form.specs.declared.messages.Message.{Message}
 use Rattle.message_form.specs.declared.messages.Message.TheVariants as message
-use Rattle.message_form.specs.declared.turns.Out.{Out}
-use Rattle.message_form.specs.Growth.{Grew}
-use Rattle.script_meaning.specs.Meaning.{ToRead, ToWrite}
-use Rattle.repository_core.specs.declared.waits.HeldRead.{HeldRead}
-use Rattle.repository_core.specs.Hands.{Hand}
-use Rattle.repository_log.specs.Logs.{record_of}
-use Rattle.repository_core.specs.Rows.{accepts, on_message}
-use Rattle.repository_core.specs.Turns.{hand_at}
 use Rattle.repository_laws.specs.Facts as repositories
-use Rattle.repository_laws.proofs.Logs.{decided-stands, tidy-through}
-use Rattle.broker_core.specs.declared.heards.Heard.{Heard}
-use Rattle.broker_core.specs.declared.replies.Reply.TheVariants.{Ignored}
-use Rattle.broker_core.specs.Book.{Book, Try, book, find, open_try, time_of, tries}
-use Rattle.broker_core.specs.Fits.{keep}
-use Rattle.broker_core.specs.Rows.{news, row}
-use Rattle.broker_core.specs.Stages.{Stage, Idle, Refused, Opening, Asking, Finishing, Stopping, Closing, is_finished, nothing_heard, stage, standing}
-use Rattle.pseudo_time.specs.Nodes.{repository, broker}
-use Rattle.broker_core.specs.Turns.{state}
-use Rattle.broker_laws.specs.Fits.{FitsLog, IsTidy}
-use Rattle.broker_laws.specs.Posts.{Clocks, IsBelow, PostHolds}
-use Rattle.broker_laws.specs.Works.{TurnHolds}
-use Rattle.broker_laws.proofs.Desks.{PostOk, StageOk, open-first, stage-ok, standing-ok}
-use Rattle.broker_laws.proofs.Found.{each-found}
-use Rattle.broker_laws.proofs.Kept.{kept}
-use Rattle.broker_laws.proofs.Moves.{clocks}
-use Rattle.world_core.specs.Walks.{Base, Life, World, sent_by, all_effects}
-use Rattle.serial_law.specs.Refines.{Refines, logs_at, soft_of}
-use Rattle.serial_law.specs.NodeRules.{node_turns, node_facts}
-use Rattle.serial_law.specs.Soft.{NodeOk, around, happened}
-use Rattle.serial_law.proofs.NodeLaws.{node-laws}
-use Rattle.serial_law.proofs.Openings.{facts-of}
-use Rattle.complete_law.specs.AtRest.{read_to, standing_at}
-use Rattle.repository_laws.proofs.AskServices.{has-record}
+use Rattle.repository_laws.proofs.Logs.{decided-stands}
+use Rattle.broker_laws.proofs.Desks.{PostOk, standing-ok}
 use Rattle.complete_law.proofs.BrokerMoves.{node-there, turn-there}
-use Rattle.broker_laws.proofs.BookSteps.{StageSound, stage-sound}
-use Rattle.repository_laws.proofs.ReadSteps.{Keeps, Serves, on-message-serves}
+use Rattle.repository_laws.proofs.ReadSteps.{on-message-serves}
 use Rattle.complete_law.proofs.Answering.{heeds-read}
 use Rattle.complete_law.proofs.Hearings.{open-closed}
 use Rattle.complete_law.proofs.Places.{log_of, gated_of, Heeds, IsBegun, IsDecided, desk_of, standing_in, tasks_of, CalmWorld}
 use Rattle.complete_law.proofs.RequestServices.{AnsweredBy, OpenDecided, accepted, begin-served, commit-served, withdraw-served, write-served}
-use Rattle.serial_law.proofs.Growths.{each-has}
 
 module _ (b : Base) (w : World) (calm : CalmWorld b w) (f : Refines (node_turns b.script) (node_facts b.script) b (λ n. []) (λ n. []) [] (λ t. ⊥) w) (n : ℕ) (known-n : (w.flags (repository n)).known ≡ true) (i : ℕ) (o : Out) (stands : standing_in b w i ≡ Some o) (at-n : o.to ≡ repository n)
     (R : TimeParts → ObjectId → NodeId → Type 0) (agree : (t : TimeParts) (o p : ObjectId) (f g : NodeId) → R t o f → R t p g → (o ≡ p) × (f ≡ g)) where

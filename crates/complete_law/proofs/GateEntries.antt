@@ -1,32 +1,14 @@
 -- A gate moves what is open: messages that were owed were sent, and all else stands as it stood.
-use Rattle.std.proofs.Common.{◌≡◌, ◌⊎◌, ℕ, zero, suc, Bool, true, false, ◌||◌, not, List, [], ◌∷◌, ◌++◌, reverse, refl, sym, ◌∙◌, ap, subst, Option, Some, None, slice_get, if◌then◌else◌, inl, inr}
+use Rattle.std.proofs.Common.{◌≡◌, ◌⊎◌, ℕ, zero, suc, Bool, true, false, ◌||◌, not, List, [], ◌∷◌, ◌++◌, reverse, refl, sym, ◌∙◌, subst, Option, Some, None, slice_get, if◌then◌else◌, inl, inr}
 use Rattle.std.proofs.lemmas.Bool.{false≢true}
-use Rattle.pseudo_time.specs.Lists.{Has}
+use Rattle.complete_law.proofs.Names.{Has, StampParts, same_stamp, same_stamp-self, NodeId, Effect, Message, Out, Tree, or_else, settle_of, known, marks, Ignored, Heard, time_of, news, row, Stage, Idle, Refused, Opening, Asking, Finishing, Stopping, Closing, standing, repository, ToRead, ToWrite, decide-settles, settled-log, leaves, numbered}
 use Rattle.pseudo_time.proofs.ListLemmas.{has-reverse}
-use Rattle.pseudo_time.specs.StampParts.{StampParts}
-use Rattle.pseudo_time.specs.Order.{same_stamp}
-use Rattle.pseudo_time.proofs.OrderLemmas.{same_stamp-is, same_stamp-self}
-use Rattle.pseudo_time.specs.declared.decisions.Decision.{Decision}
-use Rattle.pseudo_time.specs.declared.nodes.NodeId.{NodeId}
-use Rattle.effect_form.specs.declared.effects.Effect.{Effect}
 use Rattle.effect_form.specs.declared.effects.Effect.TheVariants as effect
-use Rattle.message_form.specs.declared.messages.Message.{Message}
 use Rattle.message_form.specs.declared.messages.Message.TheVariants as message
-use Rattle.message_form.specs.declared.turns.Out.{Out}
-use Rattle.serial_model.specs.Questions.{Tree}
-use Rattle.object_history.specs.History.{or_else, settle_of}
-use Rattle.repository_log.specs.Logs.{known, knows, marks}
-use Rattle.broker_core.specs.declared.replies.Reply.TheVariants.{Ignored}
-use Rattle.broker_core.specs.declared.heards.Heard.{Heard}
-use Rattle.broker_core.specs.Book.{time_of}
-use Rattle.broker_core.specs.Rows.{Nothing_new, news, row}
-use Rattle.broker_core.specs.Stages.{Stage, Idle, Refused, Opening, Asking, Finishing, Stopping, Closing, standing}
-use Rattle.pseudo_time.specs.Nodes.{repository}
-use Rattle.script_meaning.specs.Meaning.{ToRead, ToWrite}
-use Rattle.repository_laws.proofs.Logs.{decide-settles, settled-log}
-use Rattle.world_core.specs.Nodes.{leaves}
-use Rattle.world_core.specs.Walks.{numbered}
+use Rattle.repository_log.specs.Logs.{knows}
+use Rattle.broker_core.specs.Rows.{Nothing_new}
 use Rattle.serial_law.proofs.Growths.{has-at}
+use Rattle.serial_law.proofs.LogLemmas.{Known, knows-has}
 
 -- ---- places in a list
 
@@ -58,25 +40,8 @@ pub answer-leaves : (script : List ℕ → Tree) (st : Stage) (h : Heard) (log :
 answer-leaves script st h log to (message.Ask s) n = absurd (n (nothing-new script st h))
 answer-leaves script st h log to _ n = refl
 
--- an Ask leaves where its stamp isn't known
-settled-by : (l : List Effect) (s : StampParts) → knows l s ≡ true → (f : Effect) × Has f l × (((d : Decision) × (f ≡ effect.Decide s d)) ⊎ ((c : Bool) × (f ≡ effect.Learn s c)))
-unfolding knows
-settled-by [] s e = absurd (false≢true e)
-settled-by (effect.Decide p d ∷ l) s e = go (λ k. settled-by l s k) (same_stamp p s) refl e
-  where
-    go : (knows l s ≡ true → (f : Effect) × Has f l × (((d : Decision) × (f ≡ effect.Decide s d)) ⊎ ((c : Bool) × (f ≡ effect.Learn s c)))) → (b : Bool) → same_stamp p s ≡ b → (b || knows l s) ≡ true →
-        (f : Effect) × Has f (effect.Decide p d ∷ l) × (((d : Decision) × (f ≡ effect.Decide s d)) ⊎ ((c : Bool) × (f ≡ effect.Learn s c)))
-    go again true q e = (effect.Decide p d, inl refl, inl (d, ap (λ z. effect.Decide z d) (same_stamp-is p s q)))
-    go again false q e = let k = again e in (k.0, inr k.1, k.2)
-settled-by (effect.Learn p x ∷ l) s e = go (λ k. settled-by l s k) (same_stamp p s) refl e
-  where
-    go : (knows l s ≡ true → (f : Effect) × Has f l × (((d : Decision) × (f ≡ effect.Decide s d)) ⊎ ((c : Bool) × (f ≡ effect.Learn s c)))) → (b : Bool) → same_stamp p s ≡ b → (b || knows l s) ≡ true →
-        (f : Effect) × Has f (effect.Learn p x ∷ l) × (((d : Decision) × (f ≡ effect.Decide s d)) ⊎ ((c : Bool) × (f ≡ effect.Learn s c)))
-    go again true q e = (effect.Learn p x, inl refl, inr (x, ap (λ z. effect.Learn z x) (same_stamp-is p s q)))
-    go again false q e = let k = again e in (k.0, inr k.1, k.2)
-settled-by (f ∷ l) s e = let k = settled-by l s e in (k.0, inr k.1, k.2)
-
-learn-settles : (l : List Effect) (s : StampParts) (c : Bool) → Has (effect.Learn s c) l → (x : Bool) × (settle_of (marks l) s ≡ Some x)
+-- what a log learned of, it knows
+pub learn-settles : (l : List Effect) (s : StampParts) (c : Bool) → Has (effect.Learn s c) l → (x : Bool) × (settle_of (marks l) s ≡ Some x)
 unfolding settle_of
 learn-settles [] s c h = absurd h
 learn-settles (f ∷ l) s c (inr h) = let k = learn-settles l s c h in (k.0, settled-log l f s k.0 k.1)
@@ -87,16 +52,20 @@ learn-settles (f ∷ l) s c (inl e) = subst (λ g. (x : Bool) × (settle_of (mar
     go (Some y) true q = (y, refl)
     go u false q = absurd (false≢true q)
 
+-- an Ask leaves where its stamp isn't known
 pub ask-leaves : (l : List Effect) (s : StampParts) (to : NodeId) → known (reverse l) s ≡ None → leaves l (record { to = to; message = message.Ask s }) ≡ true
 ask-leaves l s to none = go (knows l s) refl
   where
+    never : (x : Bool) → known (reverse l) s ≡ Some x → ⊥
+    never x e = let no : Some x ≡ None = sym e ∙ none in cc no
+
+    by : Known l s → ⊥
+    by (inl (d, h)) = let k = decide-settles (reverse l) s d (has-reverse l (effect.Decide s d) h) in never k.0 k.1
+    by (inr (c, h)) = let k = learn-settles (reverse l) s c (has-reverse l (effect.Learn s c) h) in never k.0 k.1
+
     go : (k : Bool) → knows l s ≡ k → not k ≡ true
     go false e = refl
-    go true e = absurd (by-effect (settled-by l s e))
-      where
-        by-effect : ((f : Effect) × Has f l × (((d : Decision) × (f ≡ effect.Decide s d)) ⊎ ((c : Bool) × (f ≡ effect.Learn s c)))) → ⊥
-        by-effect (f, h, inl (d, e)) = let k = decide-settles (reverse l) s d (subst (λ g. Has g (reverse l)) e (has-reverse l f h)) in let no : Some k.0 ≡ None = sym k.1 ∙ none in absurd (cc no)
-        by-effect (f, h, inr (c, e)) = let k = learn-settles (reverse l) s c (subst (λ g. Has g (reverse l)) e (has-reverse l f h)) in let no : Some k.0 ≡ None = sym k.1 ∙ none in absurd (cc no)
+    go true e = absurd (by (knows-has l s e))
 
 pub numbered-kept : {X : Type 0} (xs ys : List X) (k : ℕ) (x : X) → numbered xs k ≡ Some x → numbered (xs ++ ys) k ≡ Some x
 numbered-kept xs ys zero x e = absurd (cc e)

@@ -2,51 +2,17 @@
 use Rattle.std.proofs.Common.{◌≡◌, ◌⊎◌, ℕ, suc, ◌≤◌, ◌==◌, Bool, true, false, ◌&&◌, List, [], map, reverse, refl, sym, ◌∙◌, ap, subst, Some, None, if◌then◌else◌, inl, inr, append-nil, arith}
 use Rattle.std.proofs.lemmas.List.{reverse-append}
 use Rattle.std.specs.List.{filter}
-use Rattle.pseudo_time.specs.Lists.{Has}
-use Rattle.pseudo_time.proofs.ListLemmas.{has-either, has-right}
-use Rattle.pseudo_time.specs.StampParts.{StampParts}
-use Rattle.pseudo_time.specs.TimeParts.{TimeParts}
-use Rattle.pseudo_time.specs.declared.decisions.Decision.{Decision}
-use Rattle.pseudo_time.specs.declared.nodes.NodeId.{NodeId}
-use Rattle.effect_form.specs.declared.effects.Effect.{Effect}
+use Rattle.complete_law.proofs.Names.{Has, has-either, has-right, StampParts, TimeParts, Decision, NodeId, Effect, Message, Out, Post, post, posts, same_node, same_node-refl, HeldRead, Asker, known, waits_for, Heard, Try, book, find, tries, is_none, Ignored, row, news, stage, repository, broker, desk_at, state, IsRested, leaves, Base, Flags, Life, Sending, World, flagged, gated_life, leaving, lives_on, numbered, sent_by, step, all_effects, MayGate, times_taken, Refines, node_turns, node_facts, sent-gate, Waits, read_to, standing_at, DeskSound, filter-has, ask_of, tell_of, map-has}
 use Rattle.effect_form.specs.declared.effects.Effect.TheVariants as effect
-use Rattle.message_form.specs.declared.messages.Message.{Message}
 use Rattle.message_form.specs.declared.messages.Message.TheVariants as message
-use Rattle.message_form.specs.declared.turns.Out.{Out}
-use Rattle.message_form.specs.Posts.{Post, post, posts}
-use Rattle.pseudo_time.specs.Nodes.{same_node}
-use Rattle.message_core.proofs.NodeLemmas.{same_node-refl}
-use Rattle.repository_core.specs.declared.waits.HeldRead.{HeldRead}
-use Rattle.repository_core.specs.declared.waits.Asker.{Asker}
-use Rattle.repository_log.specs.Logs.{known}
-use Rattle.repository_core.specs.Rows.{waits_for}
-use Rattle.broker_core.specs.declared.heards.Heard.{Heard}
-use Rattle.broker_core.specs.Book.{Try, book, find, tries}
-use Rattle.broker_core.specs.Fits.{is_none}
-use Rattle.broker_core.specs.declared.replies.Reply.TheVariants.{Ignored}
-use Rattle.broker_core.specs.Rows.{row, news}
-use Rattle.broker_core.specs.Stages.{stage}
-use Rattle.pseudo_time.specs.Nodes.{repository, broker}
-use Rattle.broker_core.specs.Turns.{desk_at, state}
-use Rattle.broker_laws.specs.Works.{IsRested}
 use Rattle.world_core.specs.declared.entries.Entry.TheVariants as entry
-use Rattle.world_core.specs.Nodes.{leaves}
-use Rattle.world_core.specs.Walks.{Base, Flags, Life, Sending, World, flagged, gated_life, leaving, lives_on, numbered, sent_by, step, all_effects}
-use Rattle.world_core.specs.Legal.{MayGate, times_taken}
-use Rattle.serial_law.specs.Refines.{Refines}
-use Rattle.serial_law.specs.NodeRules.{node_turns, node_facts}
-use Rattle.serial_law.proofs.Steps.{sent-gate, step-known, unknown-stays}
-use Rattle.repository_laws.specs.Waits.{Waits}
-use Rattle.complete_law.specs.AtRest.{read_to, standing_at}
+use Rattle.serial_law.proofs.Steps.{step-known, unknown-stays}
 use Rattle.complete_law.proofs.BrokerEntries.{sound-more}
-use Rattle.complete_law.proofs.BrokerMoves.{not-same, parted}
-use Rattle.broker_laws.proofs.BookTurns.{DeskSound}
+use Rattle.complete_law.proofs.Frames.{not-same, parted}
 use Rattle.complete_law.proofs.GateEntries.{answer-leaves, ask-leaves, at-end, numbered-before, numbered-kept, request-leaves}
-use Rattle.repository_laws.proofs.HeldLemmas.{filter-has}
-use Rattle.repository_laws.specs.Waits.{ask_of, tell_of}
 use Rattle.complete_law.proofs.Idles.{waits-has}
 use Rattle.complete_law.proofs.Places.{log_of, gated_of, held_of, IsBegun, IsDecided, Flying, AskedFor, tasks_of, desk_of, standing_in, Placed, SaidOf, CalmWorld, all-off, both-on}
-use Rattle.serial_law.proofs.Growths.{has-filter, has-map, map-has}
+use Rattle.serial_law.proofs.Growths.{has-filter, has-map}
 
 module _ (b : Base) (w : World) (calm : CalmWorld b w) (f : Refines (node_turns b.script) (node_facts b.script) b (λ n. []) (λ n. []) [] (λ t. ⊥) w) (n : NodeId) (may : MayGate w n) where
   abbrev w' : World
@@ -56,9 +22,9 @@ module _ (b : Base) (w : World) (calm : CalmWorld b w) (f : Refines (node_turns 
   mine = sym (calm.ups n) ∙ may.up
 
   lifes : (m : NodeId) → (w'.life m ≡ w.life m) ⊎ ((m ≡ n) × (w'.life m ≡ gated_life (w.life m)))
-  lifes m = elim (parted b w calm f n m) [
+  lifes m = elim (parted n m) [
     | inl e ↦ inr (e, both-on (same_node n m) (w.flags m).known (lives_on b w m (w.life m) (entry.Gate n)) (w.life m) (subst (λ z. same_node n z ≡ true) (sym e) (same_node-refl n)) (subst (λ z. (w.flags z).known ≡ true) (sym e) mine))
-    | inr ne ↦ inl (all-off (same_node n m) (w.flags m).known (lives_on b w m (w.life m) (entry.Gate n)) (w.life m) (not-same b w calm f n m ne))
+    | inr ne ↦ inl (all-off (same_node n m) (w.flags m).known (lives_on b w m (w.life m) (entry.Gate n)) (w.life m) (not-same n m ne))
   ]
 
   log-same : (m : NodeId) → log_of w' m ≡ log_of w m
@@ -202,10 +168,10 @@ module _ (b : Base) (w : World) (calm : CalmWorld b w) (f : Refines (node_turns 
   life-mine = both-on (same_node n n) (w.flags n).known (lives_on b w n (w.life n) (entry.Gate n)) (w.life n) (same_node-refl n) mine
 
   shut : (m : NodeId) → (w'.flags m).due ≡ false → ((w'.life m).fresh ≡ []) × ((w'.life m).outs ≡ [])
-  shut m e = elim (parted b w calm f n m) [
+  shut m e = elim (parted n m) [
     | inl q ↦ subst (λ z. ((w'.life z).fresh ≡ []) × ((w'.life z).outs ≡ [])) (sym q) (ap (λ (x : Life). x.fresh) life-mine, ap (λ (x : Life). x.outs) life-mine)
-    | inr ne ↦ subst (λ (l : Life). (l.fresh ≡ []) × (l.outs ≡ [])) (sym (all-off (same_node n m) (w.flags m).known (lives_on b w m (w.life m) (entry.Gate n)) (w.life m) (not-same b w calm f n m ne)))
-        (calm.shut m (sym (ap (λ (x : Flags). x.due) (all-off (same_node n m) (w.flags m).known (flagged w.last m.kind (w.flags m) (entry.Gate n)) (w.flags m) (not-same b w calm f n m ne))) ∙ e))
+    | inr ne ↦ subst (λ (l : Life). (l.fresh ≡ []) × (l.outs ≡ [])) (sym (all-off (same_node n m) (w.flags m).known (lives_on b w m (w.life m) (entry.Gate n)) (w.life m) (not-same n m ne)))
+        (calm.shut m (sym (ap (λ (x : Flags). x.due) (all-off (same_node n m) (w.flags m).known (flagged w.last m.kind (w.flags m) (entry.Gate n)) (w.flags m) (not-same n m ne))) ∙ e))
   ]
 
   still : (s : Sending) → Has s w'.sendings → s.ticks ≤ w'.ticks

@@ -1,46 +1,17 @@
 -- What a message that comes to a broker tells is so: no Ended comes for a request that stands.
 use Rattle.std.proofs.Common.{◌≡◌, ℕ, Bool, true, false, List, [], ◌∷◌, ◌++◌, reverse, refl, sym, ◌∙◌, ap, subst, Some, None, if◌then◌else◌, inl, inr}
 use Rattle.std.proofs.lemmas.Bool.{true≢false}
-use Rattle.pseudo_time.specs.Lists.{Has}
-use Rattle.pseudo_time.proofs.ListLemmas.{every-has}
-use Rattle.pseudo_time.specs.StampParts.{StampParts}
-use Rattle.pseudo_time.specs.TimeParts.{TimeParts}
-use Rattle.pseudo_time.specs.Order.{same_time}
-use Rattle.pseudo_time.proofs.OrderLemmas.{same_stamp-self, same_time-is}
-use Rattle.pseudo_time.specs.declared.decisions.Decision.{Decision}
+use Rattle.complete_law.proofs.Names.{Has, every-has, StampParts, TimeParts, same_time, same_stamp-self, Decision, NodeId, NodeKind, Effect, Message, Grew, Request, Asks, Over, known, WasSent, Book, Try, book, find, open_try, time_of, tries, is_none, stop_of, news, repository, broker, Task, IsTidy, FitsLog, open-first, each-found, clocks, grown, post-grown, Clocks, IsBelow, Base, Life, World, sent_by, LogFacts, logs_at, kind_post, node_facts, SentOk, Tells, each-has}
+use Rattle.pseudo_time.proofs.OrderLemmas.{same_time-is}
 use Rattle.pseudo_time.specs.declared.decisions.Decision.TheVariants as decision
-use Rattle.pseudo_time.specs.declared.nodes.NodeId.{NodeId}
-use Rattle.pseudo_time.specs.declared.nodes.NodeKind.{NodeKind}
 use Rattle.pseudo_time.specs.declared.nodes.NodeKind.TheVariants as kind
 use Rattle.value_form.specs.declared.endings.Ending.TheVariants as ending
-use Rattle.effect_form.specs.declared.effects.Effect.{Effect}
 use Rattle.effect_form.specs.declared.effects.Effect.TheVariants as effect
-use Rattle.message_form.specs.declared.messages.Message.{Message}
 use Rattle.message_form.specs.declared.messages.Message.TheVariants as message
-use Rattle.message_form.specs.Growth.{Grew}
-use Rattle.script_meaning.specs.Meaning.{Request, Asks, Over}
-use Rattle.repository_log.specs.Logs.{known}
 use Rattle.repository_laws.specs.Facts as repositories
-use Rattle.message_form.specs.Posts.{WasSent}
 use Rattle.repository_laws.proofs.Logs.{begin-home, decide-home, decide-cause}
-use Rattle.broker_core.specs.Book.{Book, Try, book, find, open_try, time_of, tries}
-use Rattle.broker_core.specs.Fits.{is_none, stop_of}
-use Rattle.broker_core.specs.Rows.{news}
-use Rattle.pseudo_time.specs.Nodes.{repository, broker}
-use Rattle.broker_core.specs.Tasks.{Task}
-use Rattle.broker_laws.specs.Fits.{IsTidy, FitsLog}
-use Rattle.broker_laws.proofs.Desks.{open-first}
-use Rattle.broker_laws.proofs.Found.{each-found}
-use Rattle.broker_laws.proofs.Moves.{clocks, grown, post-grown}
-use Rattle.broker_laws.specs.Posts.{Clocks, IsBelow}
-use Rattle.world_core.specs.Walks.{Base, Life, World, sent_by}
-use Rattle.serial_law.specs.Refines.{LogFacts, logs_at}
-use Rattle.serial_law.specs.NodeRules.{kind_post, node_facts}
-use Rattle.serial_law.specs.Soft.{SentOk}
 use Rattle.complete_law.proofs.Places.{log_of, gated_of, IsBegun, IsDecided, SaidOf, CalmWorld}
-use Rattle.broker_laws.proofs.BookTurns.{Tells}
 use Rattle.serial_law.proofs.LogLemmas.{SettledBy, settle-marks}
-use Rattle.serial_law.proofs.Growths.{each-has}
 
 found-same : (s : StampParts) (ts : List Try) (t u : Try) → find s ts ≡ Some t → find s ts ≡ Some u → t ≡ u
 found-same s ts t u h k = let e : Some t ≡ Some u = sym h ∙ k in cc e

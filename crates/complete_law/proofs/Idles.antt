@@ -1,67 +1,18 @@
 -- At an idle place the nodes rest, so every broker is done.
 use Rattle.std.proofs.Common.{◌≡◌, ◌⊎◌, ℕ, zero, suc, ◌+◌, ◌==◌, ◌≤◌, nat_lt, Bool, true, false, ◌||◌, List, [], ◌∷◌, ◌++◌, reverse, min, refl, sym, ◌∙◌, ap, subst, Some, None, is_some, if◌then◌else◌, inl, inr, append-nil, arith}
 use Rattle.std.proofs.lemmas.Bool.{false≢true}
-use Rattle.pseudo_time.specs.Lists.{Every, Has}
-use Rattle.pseudo_time.proofs.ListLemmas.{every-append, every-has}
-use Rattle.pseudo_time.specs.StampParts.{StampParts}
-use Rattle.pseudo_time.specs.TimeParts.{TimeParts}
-use Rattle.pseudo_time.specs.Order.{same_stamp}
-use Rattle.pseudo_time.proofs.OrderLemmas.{same_stamp-is}
-use Rattle.pseudo_time.specs.declared.nodes.NodeId.{NodeId}
-use Rattle.value_form.specs.declared.objects.ObjectId.{ObjectId}
-use Rattle.value_form.specs.declared.values.Value.{Value}
-use Rattle.effect_form.specs.declared.effects.Effect.{Effect}
+use Rattle.complete_law.proofs.Names.{Every, Has, every-append, every-has, StampParts, TimeParts, same_stamp, same_stamp-is, NodeId, ObjectId, Value, Effect, Out, Post, Fate, copies_of, Tree, Plan, InRange, IsOfLanguage, asked_of, Inside, IsReady, StageOk, stage-ok, stop_of, HeldRead, known, waits_for, WriteSent, WasSent, decide-settles, Heard, eq-from, Request, Asks, ToRead, ToWrite, Act, Book, Try, book, find, front, last_try, open_try, tries, tries_of, Stage, Idle, Refused, Opening, Asking, Finishing, Stopping, Closing, stage, standing, repository, broker, Scripted, Task, tasks, desk_at, state, TurnHolds, IsRested, IsAskOf, kept, acts_of, Base, Life, World, numbered, opened_log, sent_by, times_taken, LogFacts, logs_at, node_facts, SentOk, each-has, Waits, DecidedAt, standing_at, is_done, read_to, AtRest, IsPlain, older, BookSound, HasSettled, Trail, ask_of, tell_of, found-in, in-range}
 use Rattle.effect_form.specs.declared.effects.Effect.TheVariants as effect
 use Rattle.message_form.specs.declared.messages.Message.TheVariants as message
-use Rattle.message_form.specs.declared.turns.Out.{Out}
-use Rattle.message_form.specs.Posts.{Post}
-use Rattle.stream_port.specs.declared.fates.Fate.{Fate}
-use Rattle.stream_port.specs.Fates.{copies_of}
-use Rattle.serial_model.specs.Questions.{Tree}
-use Rattle.plan_form.specs.declared.plans.Plan.{Plan}
-use Rattle.plan_form.specs.Plans.{InRange}
-use Rattle.plan_form.specs.PlanTexts.{IsOfLanguage}
-use Rattle.serial_law.specs.Facts.{asked_of}
-use Rattle.serial_law.proofs.Inside.{Inside}
 use Rattle.complete_law.proofs.Ranges.{asks-kept, same-run, try-kept}
-use Rattle.broker_laws.specs.Fits.{IsReady}
-use Rattle.broker_laws.proofs.Desks.{StageOk, stage-ok}
-use Rattle.broker_core.specs.Fits.{stop_of}
-use Rattle.repository_core.specs.declared.waits.HeldRead.{HeldRead}
-use Rattle.repository_log.specs.Logs.{known}
-use Rattle.repository_core.specs.Rows.{waits_for}
-use Rattle.repository_laws.specs.Facts.{WriteSent}
-use Rattle.message_form.specs.Posts.{WasSent}
-use Rattle.repository_laws.proofs.Logs.{decide-settles}
-use Rattle.broker_core.specs.declared.heards.Heard.{Heard}
-use Rattle.object_history.proofs.ObjectLemmas.{eq-from}
-use Rattle.script_meaning.specs.Meaning.{Request, Asks, ToRead, ToWrite}
-use Rattle.broker_core.specs.Book.{Act, Book, Try, book, find, front, last_try, open_try, tries, tries_of}
-use Rattle.broker_core.specs.Stages.{Stage, Idle, Refused, Opening, Asking, Finishing, Stopping, Closing, is_settled, stage, standing}
-use Rattle.pseudo_time.specs.Nodes.{repository, broker}
-use Rattle.broker_core.specs.Tasks.{Scripted, Task, tasks}
-use Rattle.broker_core.specs.Turns.{desk_at, state}
-use Rattle.broker_laws.specs.Works.{TurnHolds, IsRested}
-use Rattle.broker_laws.specs.Posts.{IsAskOf}
-use Rattle.broker_laws.proofs.Kept.{kept}
-use Rattle.world_core.specs.Nodes.{acts_of}
-use Rattle.world_core.specs.Walks.{Base, Life, World, numbered, opened_log, sent_by}
+use Rattle.broker_core.specs.Stages.{is_settled}
 use Rattle.world_core.specs.Legal as legal
-use Rattle.world_core.specs.Legal.{IsIdle, JustNodes, in_plan, times_taken}
-use Rattle.serial_law.specs.Refines.{LogFacts, logs_at}
-use Rattle.serial_law.specs.NodeRules.{node_facts}
-use Rattle.serial_law.specs.Soft.{SentOk}
-use Rattle.serial_law.proofs.Growths.{none-has, each-has}
-use Rattle.repository_laws.specs.Waits.{Waits}
-use Rattle.complete_law.specs.AtRest.{DecidedAt, standing_at, is_done, read_to, AtRest}
-use Rattle.complete_law.specs.Calm.{IsPlain}
-use Rattle.broker_laws.specs.Waits.{older}
-use Rattle.broker_laws.proofs.BookSteps.{AllDecided, BookSound, HasSettled, Trail, last-among, open-among}
-use Rattle.repository_laws.specs.Waits.{ask_of, tell_of}
+use Rattle.world_core.specs.Legal.{IsIdle, JustNodes, in_plan}
+use Rattle.serial_law.proofs.Growths.{none-has}
+use Rattle.broker_laws.proofs.BookSteps.{AllDecided, last-among, open-among}
 use Rattle.complete_law.proofs.Places.{log_of, gated_of, held_of, IsBegun, IsDecided, Flying, AskedFor, tasks_of, standing_in, Placed, CalmWorld}
 use Rattle.complete_law.proofs.Rests.{all-done}
-use Rattle.serial_law.proofs.Attempts.{found-in}
-use Rattle.serial_law.proofs.Ranges.{in-range, within}
+use Rattle.serial_law.proofs.Ranges.{within}
 
 -- a numbered element stands in the list
 numbered-in : {X : Type 0} (xs : List X) (k : ℕ) (x : X) → numbered xs k ≡ Some x → Has x xs

@@ -3,41 +3,23 @@ use Rattle.std.proofs.Common.{◌≡◌, ◌⊎◌, ℕ, zero, suc, ◌+◌, ◌
 use Rattle.std.proofs.lemmas.Bool.{false≢true}
 use Rattle.std.proofs.lemmas.List.{reverse-append}
 use Rattle.std.specs.List.{filter}
-use Rattle.pseudo_time.specs.Lists.{Has}
-use Rattle.pseudo_time.specs.Order.{same_stamp}
-use Rattle.pseudo_time.proofs.OrderLemmas.{same_stamp-is, same_stamp-self}
-use Rattle.pseudo_time.specs.StampParts.{StampParts}
-use Rattle.pseudo_time.specs.declared.decisions.Decision.{Decision}
+use Rattle.complete_law.proofs.Names.{Has, same_stamp, same_stamp-is, same_stamp-self, StampParts, Decision, Effect, Message, is_settled, known, is_broker, settled-log, tidy-through, broker, repository, Post, Base, Life, Sending, World, AskAtMost, CalmPlace, filled_by, log_at, most_filled, tries_in, world_at, has-right, node_turns, node_facts, soft_of, NodeOk, around, happened, each-has}
 use Rattle.pseudo_time.specs.declared.decisions.Decision.TheVariants as decision
-use Rattle.effect_form.specs.declared.effects.Effect.{Effect}
 use Rattle.effect_form.specs.declared.effects.Effect.TheVariants as effect
-use Rattle.message_form.specs.declared.messages.Message.{Message}
 use Rattle.message_form.specs.declared.messages.Message.TheVariants as message
-use Rattle.object_history.specs.History.{or_else, settle_of}
-use Rattle.repository_log.specs.Logs.{known, marks}
-use Rattle.pseudo_time.specs.Nodes.{is_broker}
 use Rattle.repository_laws.specs.Facts.{IsTidy}
-use Rattle.repository_laws.proofs.Logs.{settled-log, tidy-through}
-use Rattle.pseudo_time.specs.Nodes.{broker, repository}
-use Rattle.message_form.specs.Posts.{Post}
-use Rattle.world_core.specs.Walks.{Base, Life, Sending, World, sent_by}
-use Rattle.complete_law.specs.Calm.{AskAtMost, CalmPlace, CalmRun, filled_by, log_at, most_filled, tries_in, world_at}
-use Rattle.complete_law.proofs.BrokerLoads.{wt}
+use Rattle.complete_law.proofs.AskLoads.{Single}
+use Rattle.complete_law.proofs.Costs.{weight}
 use Rattle.complete_law.proofs.Loads.{if-from}
 use Rattle.complete_law.proofs.RepositoryLoads.{all}
-use Rattle.complete_law.proofs.Totals.{by-broker, stores, stored-few}
-use Rattle.complete_law.proofs.HandLoads.{stored-load}
-use Rattle.complete_law.proofs.Totals.{brokers-few}
+use Rattle.complete_law.proofs.HandLoads.{learn-known, stored}
+use Rattle.complete_law.proofs.Totals.{brokers-few, by-broker, stored-few}
 use Rattle.complete_law.proofs.BrokerMoves.{node-there}
-use Rattle.pseudo_time.proofs.ListLemmas.{has-right}
 use Rattle.complete_law.proofs.Steps as steps
 use Rattle.complete_law.proofs.Steps.{calm-there, facts-there}
 use Rattle.repository_laws.specs.Facts as repositories
 use Rattle.world_core.specs.Walks as walks
-use Rattle.serial_law.specs.NodeRules.{node_turns, node_facts}
-use Rattle.serial_law.specs.Refines.{soft_of}
-use Rattle.serial_law.specs.Soft.{NodeOk, SoftNode, Soft, around, happened}
-use Rattle.serial_law.proofs.Growths.{each-has}
+use Rattle.serial_law.specs.Soft.{SoftNode, Soft}
 
 -- ---- the attempts that a log learned of
 
@@ -46,45 +28,31 @@ learned [] = []
 learned (effect.Learn s c ∷ l) = s ∷ learned l
 learned (f ∷ l) = learned l
 
-pub stored-all : (l : List Effect) → length l ≡ stored-load stores l + length (learned l)
+pub stored-all : (l : List Effect) → length l ≡ stored 1 l + length (learned l)
 stored-all [] = refl
 stored-all (effect.Got k v ∷ l) = let j = stored-all l in omega (arith, j)
 stored-all (effect.Acked k ∷ l) = let j = stored-all l in omega (arith, j)
 stored-all (effect.End i e ∷ l) = let k = stored-all l in omega (arith, k)
 stored-all (f ∷ l) = let k = stored-all l in omega (arith, k)
 
-abbrev pub Single : List StampParts → Type 0
-Single [] = Unit {0}
-Single (s ∷ ss) = (Has s ss → ⊥) × Single ss
-
-learn-known : (l : List Effect) (s : StampParts) (c : Bool) → known (effect.Learn s c ∷ l) s ≡ None → ⊥
-unfolding settle_of
-learn-known l s c e = go (same_stamp s s) (same_stamp-self s) (settle_of (marks l) s) e
+known-on : (f : Effect) (l : List Effect) (s : StampParts) → is_settled (known l s) ≡ true → is_settled (known (f ∷ l) s) ≡ true
+known-on f l s e = go (known l s) refl e
   where
-    go : (t : Bool) → t ≡ true → (u : Option Bool) → (if t then or_else u c else u) ≡ None → ⊥
-    go true q None e = absurd (cc e)
-    go true q (Some x) e = absurd (cc e)
-    go false q u e = false≢true q
-
-known-before : (f : Effect) (l : List Effect) (s : StampParts) → known (f ∷ l) s ≡ None → known l s ≡ None
-known-before f l s e = go (known l s) refl
-  where
-    go : (u : Option Bool) → known l s ≡ u → u ≡ None
-    go None q = refl
-    go (Some x) q = let no : Some x ≡ None = sym (settled-log l f s x q) ∙ e in absurd (cc no)
+    go : (u : Option Bool) → known l s ≡ u → is_settled u ≡ true → is_settled (known (f ∷ l) s) ≡ true
+    go None q e = absurd (false≢true e)
+    go (Some x) q e = ap is_settled (settled-log l f s x q)
 
 -- what a log learned of, it knows
-has-known : (l : List Effect) (s : StampParts) → Has s (learned l) → known l s ≡ None → ⊥
-has-known [] s h e = h
-has-known (effect.Learn p c ∷ l) s (inl q) e = learn-known l p c (subst (λ x. known (effect.Learn p c ∷ l) x ≡ None) (sym q) e)
-has-known (effect.Learn p c ∷ l) s (inr h) e = has-known l s h (known-before (effect.Learn p c) l s e)
-has-known (effect.Put o x v ∷ l) s h e = has-known l s h (known-before (effect.Put o x v) l s e)
-has-known (f ∷ l) s h e = has-known l s h (known-before f l s e)
+has-known : (l : List Effect) (s : StampParts) → Has s (learned l) → is_settled (known l s) ≡ true
+has-known [] s h = absurd h
+has-known (effect.Learn p c ∷ l) s (inl q) = subst (λ x. is_settled (known (effect.Learn p c ∷ l) x) ≡ true) q (learn-known l p c)
+has-known (effect.Learn p c ∷ l) s (inr h) = known-on (effect.Learn p c) l s (has-known l s h)
+has-known (f ∷ l) s h = known-on f l s (has-known l s h)
 
 -- each attempt once
 learned-single : (r : ℕ) (l : List Effect) → IsTidy r l → Single (learned l)
 learned-single r [] t = tt
-learned-single r (effect.Learn s c ∷ l) t = ((λ h. has-known l s h t.1), learned-single r l t.2)
+learned-single r (effect.Learn s c ∷ l) t = ((λ h. false≢true (sym (ap is_settled t.1) ∙ has-known l s h)), learned-single r l t.2)
 learned-single r (effect.Put o x v ∷ l) t = learned-single r l t.2
 learned-single r (effect.Stretch o x ∷ l) t = learned-single r l t.1
 learned-single r (effect.Begin s d ∷ l) t = learned-single r l t.1
@@ -97,7 +65,6 @@ has-learned : (l : List Effect) (s : StampParts) → Has s (learned l) → (c : 
 has-learned [] s h = absurd h
 has-learned (effect.Learn p c ∷ l) s (inl q) = (c, inl (ap (λ x. effect.Learn x c) q))
 has-learned (effect.Learn p c ∷ l) s (inr h) = let k = has-learned l s h in (k.0, inr k.1)
-has-learned (effect.Put o x v ∷ l) s h = let k = has-learned l s h in (k.0, inr k.1)
 has-learned (f ∷ l) s h = let k = has-learned l s h in (k.0, inr k.1)
 
 -- ---- as many messages
@@ -147,37 +114,36 @@ without-length s (x ∷ ss) k = go (same_stamp s x) refl (without-length s ss k.
     go true e h = let a = without-absent s ss (λ i. k.0 (subst (λ y. Has y ss) (same_stamp-is s x e) i)) in omega (arith, a)
     go false e h = omega (arith, h)
 
-module _ (r : CalmRun) where
-  abbrev g : Sending → ℕ
-  g = by-broker (wt 0 0 1 r)
+abbrev g : Sending → ℕ
+g = by-broker (weight 0 0 1)
 
-  ends-one : (m : Message) (s : StampParts) → ender-of m ≡ Some s → wt 0 0 1 r m ≡ 1
-  ends-one (message.Commit t) s e = refl
-  ends-one (message.Withdraw t) s e = refl
-  ends-one m s e = absurd (cc e)
+ends-one : (m : Message) (s : StampParts) → ender-of m ≡ Some s → weight 0 0 1 m ≡ 1
+ends-one (message.Commit t) s e = refl
+ends-one (message.Withdraw t) s e = refl
+ends-one m s e = absurd (cc e)
 
-  pigeons : (xs : List Sending) (ss : List StampParts) → Single ss → ((s : StampParts) → Has s ss → Named s xs) → length ss ≤ all g xs
-  pigeons [] [] single named = omega arith
-  pigeons [] (s ∷ ss) single named = absurd (named s (inl refl))
-  pigeons (x ∷ xs) ss single named = go (λ us h i. pigeons xs us h i) (is_broker x.post.from.kind) refl (ender-of x.post.message) refl
-    where
-      rest : (s : StampParts) → ((is_broker x.post.from.kind ≡ true) × (ender-of x.post.message ≡ Some s) → ⊥) → Has s ss → Named s xs
-      rest s never h = elim (named s h) [
-        | inl e ↦ absurd (never e)
-        | inr k ↦ k
-      ]
+pigeons : (xs : List Sending) (ss : List StampParts) → Single ss → ((s : StampParts) → Has s ss → Named s xs) → length ss ≤ all g xs
+pigeons [] [] single named = omega arith
+pigeons [] (s ∷ ss) single named = absurd (named s (inl refl))
+pigeons (x ∷ xs) ss single named = go (λ us h i. pigeons xs us h i) (is_broker x.post.from.kind) refl (ender-of x.post.message) refl
+  where
+    rest : (s : StampParts) → ((is_broker x.post.from.kind ≡ true) × (ender-of x.post.message ≡ Some s) → ⊥) → Has s ss → Named s xs
+    rest s never h = elim (named s h) [
+      | inl e ↦ absurd (never e)
+      | inr k ↦ k
+    ]
 
-      go : ((us : List StampParts) → Single us → ((s : StampParts) → Has s us → Named s xs) → length us ≤ all g xs) → (b : Bool) → is_broker x.post.from.kind ≡ b → (o : Option StampParts) → ender-of x.post.message ≡ o → length ss ≤ g x + all g xs
-      go again false e o q = let k = again ss single (λ s. rest s (λ i. false≢true (sym e ∙ i.0))) in omega (arith, k)
-      go again true e None q = let k = again ss single (λ s. rest s (λ i. (let no : None ≡ Some s = sym q ∙ i.1 in absurd (cc no)))) in omega (arith, k)
-      go again true e (Some t) q =
-          let k = again (without t ss) (without-single t ss single) (λ s h. (let i = without-has t s ss h in rest s (λ j. other s i.1 j.1) i.0)) in
-          let l = without-length t ss single in
-          let one : g x ≡ 1 = ap (λ c. if-from c (wt 0 0 1 r x.post.message)) e ∙ ends-one x.post.message t q in
-          omega (arith, k, l, one)
-        where
-          other : (s : StampParts) → same_stamp t s ≡ false → ender-of x.post.message ≡ Some s → ⊥
-          other s off at = let no : Some t ≡ Some s = sym q ∙ at in let is : t ≡ s = cc no in false≢true (sym off ∙ subst (λ y. same_stamp t y ≡ true) is (same_stamp-self t))
+    go : ((us : List StampParts) → Single us → ((s : StampParts) → Has s us → Named s xs) → length us ≤ all g xs) → (b : Bool) → is_broker x.post.from.kind ≡ b → (o : Option StampParts) → ender-of x.post.message ≡ o → length ss ≤ g x + all g xs
+    go again false e o q = let k = again ss single (λ s. rest s (λ i. false≢true (sym e ∙ i.0))) in omega (arith, k)
+    go again true e None q = let k = again ss single (λ s. rest s (λ i. (let no : None ≡ Some s = sym q ∙ i.1 in absurd (cc no)))) in omega (arith, k)
+    go again true e (Some t) q =
+        let k = again (without t ss) (without-single t ss single) (λ s h. (let i = without-has t s ss h in rest s (λ j. other s i.1 j.1) i.0)) in
+        let l = without-length t ss single in
+        let one : g x ≡ 1 = ap (λ c. if-from c (weight 0 0 1 x.post.message)) e ∙ ends-one x.post.message t q in
+        omega (arith, k, l, one)
+      where
+        other : (s : StampParts) → same_stamp t s ≡ false → ender-of x.post.message ≡ Some s → ⊥
+        other s off at = let no : Some t ≡ Some s = sym q ∙ at in let is : t ≡ s = cc no in false≢true (sym off ∙ subst (λ y. same_stamp t y ≡ true) is (same_stamp-self t))
 
 named-by : (s : StampParts) (xs : List Sending) (i n : ℕ) (m : Message) → ender-of m ≡ Some s → Has (record { from = broker i; to = repository n; message = m }) (map (λ (x : Sending). x.post) xs) → Named s xs
 named-by s [] i n m e h = absurd h
@@ -189,18 +155,7 @@ named-by s (x ∷ xs) i n m e (inr h) = inr (named-by s xs i n m e h)
 
 filled-one : (e : Effect) → most_filled e ≤ 17
 filled-one (effect.Run number) = omega arith
-filled-one (effect.Put object start value) = omega arith
-filled-one (effect.Stretch object end) = omega arith
-filled-one (effect.Begin stamp deadline) = omega arith
-filled-one (effect.Decide stamp decision) = omega arith
-filled-one (effect.Learn stamp committed) = omega arith
-filled-one (effect.Act index home timeout tries clock script) = omega arith
-filled-one (effect.Try index stamp) = omega arith
-filled-one (effect.Got step value) = omega arith
-filled-one (effect.Acked step) = omega arith
-filled-one (effect.End index outcome) = omega arith
-filled-one (effect.Mark at) = omega arith
-filled-one effect.Whole = omega arith
+filled-one e = omega arith
 
 filled-most : (es : List Effect) → filled_by es ≤ 17 * length es
 filled-most [] = omega arith
@@ -254,8 +209,8 @@ module _ (p : CalmPlace) where
         let cause = (each-has _ (reverse l.fresh ++ reverse l.gated) (effect.Learn s k.0) ok.proofs there).1 in
         decided-named s cause.0 cause.1
 
-    few-learned : length (learned (log_at p (repository n))) ≤ all (g p.run) w.sendings
-    few-learned = pigeons p.run w.sendings (learned (log_at p (repository n))) (learned-single n (log_at p (repository n)) tidy) learned-named
+    few-learned : length (learned (log_at p (repository n))) ≤ all g w.sendings
+    few-learned = pigeons w.sendings (learned (log_at p (repository n))) (learned-single n (log_at p (repository n)) tidy) learned-named
 
   module _ (most : ℕ) (asks : AskAtMost p.run most) where
     known-few : (n : ℕ) → (w.flags (repository n)).known ≡ true → length (log_at p (repository n)) ≤ tries_in p.run.plan.acts * (most + 3)

@@ -32,9 +32,9 @@ pub mod Stucks
 pub mod Totals
 pub mod Learnings
 pub mod AskLoads
-pub mod Messages
 pub mod Rising
 pub mod Refusals
 pub mod OneBroker
 pub use Rattle.serial_law.proofs.Growths
 pub use Rattle.serial_law.proofs.Ranges as SerialRanges
+pub mod Names

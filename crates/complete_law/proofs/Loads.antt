@@ -2,24 +2,9 @@
 use Rattle.std.proofs.Common.{◌≡◌, ℕ, ◌+◌, ◌≤◌, Bool, true, false, List, [], ◌∷◌, ◌++◌, map, reverse, refl, sym, ◌∙◌, ap, subst, if◌then◌else◌, append-nil, arith}
 use Rattle.std.proofs.lemmas.Bool.{false≢true}
 use Rattle.std.specs.List.{filter}
-use Rattle.pseudo_time.specs.StampParts.{StampParts}
-use Rattle.pseudo_time.specs.declared.nodes.NodeId.{NodeId}
-use Rattle.pseudo_time.specs.declared.nodes.NodeKind.{NodeKind}
+use Rattle.complete_law.proofs.Names.{StampParts, NodeId, NodeKind, Message, same_node, same_is, Fate, Out, Post, posts, Entry, leaves, Going, Taking, Learning, Base, Flags, Life, Sending, World, flagged, gated_life, leaving, lives_on, names, step, after_input, took, went, all_effects, MayGate, MayGo, MayLearn, MayTake, Rule, is_broker, CalmRun, IsUnstopped}
 use Rattle.pseudo_time.specs.declared.nodes.NodeKind.TheVariants as kind
-use Rattle.message_form.specs.declared.messages.Message.{Message}
-use Rattle.pseudo_time.specs.Nodes.{same_node}
-use Rattle.message_core.proofs.NodeLemmas.{same_is}
-use Rattle.stream_port.specs.declared.fates.Fate.{Fate}
-use Rattle.message_form.specs.declared.turns.Out.{Out}
-use Rattle.message_form.specs.Posts.{Post, posts}
-use Rattle.world_core.specs.declared.entries.Entry.{Entry}
 use Rattle.world_core.specs.declared.entries.Entry.TheVariants as entry
-use Rattle.world_core.specs.Nodes.{leaves}
-use Rattle.world_core.specs.Nodes.Input.{Going, Taking, Learning}
-use Rattle.world_core.specs.Walks.{Base, Flags, Life, Sending, World, flagged, gated_life, leaving, lives_on, names, step, after_input, took, went, all_effects}
-use Rattle.world_core.specs.Legal.{MayGate, MayGo, MayLearn, MayTake, Rule}
-use Rattle.pseudo_time.specs.Nodes.{is_broker}
-use Rattle.complete_law.specs.Calm.{CalmRun, IsUnstopped}
 use Rattle.complete_law.proofs.Places.{CalmWorld, log_of, all-off, both-on}
 use Rattle.complete_law.proofs.Steps as steps
 use Rattle.complete_law.proofs.Steps.{Facts-at}

@@ -4,76 +4,27 @@ use Rattle.std.proofs.lemmas.Grind.{common_steps}
 use Rattle.std.proofs.lemmas.Bool.{false≢true, true≢false}
 use Rattle.std.proofs.lemmas.List.{reverse-append}
 use Rattle.std.specs.List.{filter}
-use Rattle.pseudo_time.specs.Lists.{Every, Has}
-use Rattle.pseudo_time.proofs.ListLemmas.{every-has, has-either, has-right}
-use Rattle.pseudo_time.specs.StampParts.{StampParts}
-use Rattle.pseudo_time.specs.TimeParts.{TimeParts}
-use Rattle.pseudo_time.specs.Order.{lt}
+use Rattle.complete_law.proofs.Names.{Every, Has, every-has, has-either, has-right, StampParts, TimeParts, lt, NodeId, NodeKind, broker, repository, same_node, ObjectId, Value, Effect, Outcome, Message, same_node-refl, Out, Grew, Post, WasSent, post, posts, Fate, Answer, Asks, Got, Over, Request, Stored, ToRead, ToWrite, stop, WriteStep, floor_of, stands_written, write_step, and-left, and-right, eq-from, Hand, accepts, is_broker_of, on_learn, on_message, hand_at, known, marks, tidy-through, broker-is, filter-has, Book, Try, book, find, tries, tries_of, state, EndsBy, FitsLog, IsTidy, EndCame, IsAskOf, IsPlayed, IsProven, PostHolds, TurnHolds, each-found, one-request, kept, post-grown, played, proven, Entry, gives, leaves, Learning, Taking, Base, Life, Sending, World, after_input, all_effects, leaving, lives_on, sent_by, start_world, step, took, MayGate, MayGo, MayLearn, MayTake, Rule, base_of, LogFacts, Refines, logs_at, soft_of, kind_post, node_facts, node_turns, NodeOk, around, happened, numbered-has, each-has, map-has, node-laws, facts-of, sent-gate, CalmPlace, IsUnstopped, IsRefusal, book_at, log_at, sent_at, world_at, found-in}
 use Rattle.pseudo_time.proofs.OrderLemmas.{lt-asymmetric, lt-irreflexive}
 use Rattle.pseudo_time.specs.declared.decisions.Decision.TheVariants as decision
-use Rattle.pseudo_time.specs.declared.nodes.NodeId.{NodeId}
-use Rattle.pseudo_time.specs.declared.nodes.NodeKind.{NodeKind}
 use Rattle.pseudo_time.specs.declared.nodes.NodeKind.TheVariants as kind
-use Rattle.pseudo_time.specs.Nodes.{broker, repository, same_node}
 use Rattle.value_form.specs.declared.endings.Ending.{Ending}
-use Rattle.value_form.specs.declared.objects.ObjectId.{ObjectId}
-use Rattle.value_form.specs.declared.values.Value.{Value}
-use Rattle.effect_form.specs.declared.effects.Effect.{Effect}
 use Rattle.effect_form.specs.declared.effects.Effect.TheVariants as effect
-use Rattle.effect_form.specs.declared.outcomes.Outcome.{Outcome}
 use Rattle.effect_form.specs.declared.outcomes.Outcome.TheVariants as outcome
-use Rattle.message_form.specs.declared.messages.Message.{Message}
 use Rattle.message_form.specs.declared.messages.Message.TheVariants as message
-use Rattle.message_core.proofs.NodeLemmas.{same_node-refl}
-use Rattle.message_form.specs.declared.turns.Out.{Out}
-use Rattle.message_form.specs.Growth.{Grew}
-use Rattle.message_form.specs.Posts.{Post, WasSent, post, posts}
-use Rattle.stream_port.specs.declared.fates.Fate.{Fate}
-use Rattle.script_meaning.specs.Meaning.{Answer, Asks, Got, Over, Request, Stored, ToRead, ToWrite}
-use Rattle.serial_model.specs.Questions.{stop}
-use Rattle.object_history.specs.declared.steps.WriteStep.{WriteStep}
 use Rattle.object_history.specs.declared.steps.WriteStep.TheVariants as write
 use Rattle.object_history.specs.declared.marks.Mark.TheVariants as mark
-use Rattle.object_history.specs.History.{floor_of}
-use Rattle.object_history.specs.Answers.{stands_written, write_step}
 use Rattle.object_history.proofs.AnswerLemmas.{later-read, later-version}
-use Rattle.object_history.proofs.BoolLemmas.{and-left, and-right}
-use Rattle.object_history.proofs.ObjectLemmas.{eq-from}
-use Rattle.repository_core.specs.Hands.{Hand}
-use Rattle.repository_core.specs.Rows.{accepts, is_broker_of, on_learn, on_message}
 use Rattle.repository_core.specs.Turns as hands
-use Rattle.repository_core.specs.Turns.{hand_at}
-use Rattle.repository_log.specs.Logs.{known, marks}
 use Rattle.repository_laws.specs.Facts as repositories
-use Rattle.repository_laws.proofs.Logs.{put-logged, grown-floor, grown-floors, tidy-through}
-use Rattle.repository_laws.proofs.Turns.{broker-is}
-use Rattle.repository_laws.proofs.HeldLemmas.{filter-has}
-use Rattle.broker_core.specs.Book.{Book, Try, book, find, tries, tries_of}
-use Rattle.broker_core.specs.Turns.{state}
-use Rattle.broker_laws.specs.Fits.{EndsBy, FitsLog, IsTidy}
-use Rattle.broker_laws.specs.Posts.{EndCame, IsAskOf, IsFitting, IsPlayed, IsProven, PostHolds, at}
+use Rattle.repository_laws.proofs.Logs.{put-logged, grown-floor, grown-floors}
+use Rattle.broker_laws.specs.Posts.{IsFitting, at}
 use Rattle.broker_laws.specs.Waits.{Trail}
-use Rattle.broker_laws.specs.Works.{TurnHolds}
-use Rattle.broker_laws.proofs.Found.{each-found, one-request}
-use Rattle.broker_laws.proofs.Kept.{kept}
-use Rattle.broker_laws.proofs.Moves.{post-grown}
-use Rattle.broker_laws.proofs.Tries.{played, proven}
-use Rattle.world_core.specs.declared.entries.Entry.{Entry}
 use Rattle.world_core.specs.declared.entries.Entry.TheVariants as entry
-use Rattle.world_core.specs.Nodes.{gives, leaves}
-use Rattle.world_core.specs.Nodes.Input.{Learning, Taking}
-use Rattle.world_core.specs.Walks.{Base, Life, Sending, World, after_input, all_effects, leaving, lives_on, sent_by, start_world, step, took}
-use Rattle.world_core.specs.Legal.{MayGate, MayGo, MayLearn, MayTake, Rule, base_of}
-use Rattle.serial_law.specs.Refines.{LogFacts, Refines, logs_at, soft_of}
-use Rattle.serial_law.specs.NodeRules.{kind_post, node_facts, node_turns}
-use Rattle.serial_law.specs.Soft.{NodeOk, around, happened}
-use Rattle.serial_law.proofs.Growths.{numbered-has, each-has, map-has}
-use Rattle.serial_law.proofs.NodeLaws.{node-laws}
 use Rattle.serial_law.proofs.OldChains.{grown-alone, grown-more}
-use Rattle.serial_law.proofs.Openings.{facts-of}
-use Rattle.serial_law.proofs.Steps.{sent-gate}
-use Rattle.complete_law.specs.Calm.{CalmPlace, IsUnstopped, IsRefusal, WasRefused, book_at, log_at, sent_at, world_at}
-use Rattle.complete_law.proofs.BrokerMoves.{node-there, not-same, parted, turn-there}
+use Rattle.complete_law.specs.Calm.{WasRefused}
+use Rattle.complete_law.proofs.BrokerMoves.{node-there, turn-there}
+use Rattle.complete_law.proofs.Frames.{not-same, parted}
 use Rattle.complete_law.proofs.Hearings.{asking-undecided, gated-same, says}
 use Rattle.complete_law.proofs.Outcomes.{book-is, own-tries, unknown-book}
 use Rattle.complete_law.proofs.Places.{CalmWorld, IsBegun, IsDecided, desk_of, log_of, tasks_of, all-off, both-on}
@@ -82,7 +33,6 @@ use Rattle.complete_law.proofs.RepositoryEntries.{life-hand}
 use Rattle.complete_law.proofs.Rising.{asked-before, falling, undecided-last}
 use Rattle.complete_law.proofs.Steps.{Facts-at, fates, always, calm-there, empty-life, facts-there, no-moment}
 use Rattle.serial_law.proofs.CauseLemmas.{stretch-logged}
-use Rattle.serial_law.proofs.Attempts.{found-in}
 
 -- no repository says, or owes, that a write is refused
 abbrev pub NoRefusal : World → Type 0
@@ -307,8 +257,7 @@ module _ (b : Base) (w : World) (calm : CalmWorld b w) (f : Refines (node_turns 
             go : (s : WriteStep) → write_step (marks log) o x v ≡ s → IsRefusing s → ⊥
             go (write.LaterRead e) h is = no-later-read e h
             go (write.LaterVersion y) h is = no-later-version y off unknown h
-            go write.Put h is = is
-            go write.Again h is = is
+            go _ h is = is
 
       pub not-refused : IsNotRefused log x o v
       not-refused = go ask.2.1 ask.2.2
@@ -367,9 +316,9 @@ module _ (b : Base) (w : World) (calm : CalmWorld b w) (f : Refines (node_turns 
         ∙ ap (took b (repository i) (w.life (repository i))) may.sent ∙ takes)
 
     lives : (r : ℕ) → (tw.life (repository r) ≡ w.life (repository r)) ⊎ ((tw.life (repository r)).outs ≡ (w.life (repository r)).outs ++ h.outs)
-    lives r = elim (parted b w calm f (repository i) (repository r)) [
+    lives r = elim (parted (repository i) (repository r)) [
       | inl e ↦ inr (subst (λ z. (tw.life z).outs ≡ (w.life z).outs ++ h.outs) (sym e) here)
-      | inr ne ↦ inl (all-off (same_node (repository i) (repository r)) (w.flags (repository r)).known (lives_on b w (repository r) (w.life (repository r)) (entry.Take (repository i) k)) (w.life (repository r)) (not-same b w calm f (repository i) (repository r) ne))
+      | inr ne ↦ inl (all-off (same_node (repository i) (repository r)) (w.flags (repository r)).known (lives_on b w (repository r) (w.life (repository r)) (entry.Take (repository i) k)) (w.life (repository r)) (not-same (repository i) (repository r) ne))
     ]
 
     was-sent : Has (record { from = from0; to = repository i; message = m0 }) (sent_by w)
@@ -391,7 +340,7 @@ module _ (b : Base) (w : World) (calm : CalmWorld b w) (f : Refines (node_turns 
     where
       go : (kd : NodeKind) (i : ℕ) → MayTake fates w (record { kind = kd; number = i }) k → NoRefusal (step b w (entry.Take (record { kind = kd; number = i }) k))
       go kind.Broker i may = stays (entry.Take (broker i) k) [] refl
-          (λ r. inl (all-off (same_node (broker i) (repository r)) (w.flags (repository r)).known (lives_on b w (repository r) (w.life (repository r)) (entry.Take (broker i) k)) (w.life (repository r)) (not-same b w calm f (broker i) (repository r) (not-broker i r)))) tt
+          (λ r. inl (all-off (same_node (broker i) (repository r)) (w.flags (repository r)).known (lives_on b w (repository r) (w.life (repository r)) (entry.Take (broker i) k)) (w.life (repository r)) (not-same (broker i) (repository r) (not-broker i r)))) tt
       go kind.Repository i may = take-there i k fates may
 
   pub go-keeps : (n : NodeId) → MayGo w n → NoRefusal (step b w (entry.Go n))
@@ -400,7 +349,7 @@ module _ (b : Base) (w : World) (calm : CalmWorld b w) (f : Refines (node_turns 
       go : (kd : NodeKind) (i : ℕ) → MayGo w (record { kind = kd; number = i }) → NoRefusal (step b w (entry.Go (record { kind = kd; number = i })))
       go kind.Repository i may = absurd (false≢true may.broker)
       go kind.Broker i may = stays (entry.Go (broker i)) [] refl
-          (λ r. inl (all-off (same_node (broker i) (repository r)) (w.flags (repository r)).known (lives_on b w (repository r) (w.life (repository r)) (entry.Go (broker i))) (w.life (repository r)) (not-same b w calm f (broker i) (repository r) (not-broker i r)))) tt
+          (λ r. inl (all-off (same_node (broker i) (repository r)) (w.flags (repository r)).known (lives_on b w (repository r) (w.life (repository r)) (entry.Go (broker i))) (w.life (repository r)) (not-same (broker i) (repository r) (not-broker i r)))) tt
 
   module _ (i : ℕ) (s : StampParts) (c : Bool) (may : MayLearn w (repository i) s c) where
     abbrev learned-hand : Hand
@@ -420,9 +369,9 @@ module _ (b : Base) (w : World) (calm : CalmWorld b w) (f : Refines (node_turns 
     learned-here = ap (λ (l : Life). l.outs) (both-on (same_node (repository i) (repository i)) (w.flags (repository i)).known (lives_on b w (repository i) (w.life (repository i)) (entry.Learn (repository i) s c)) (w.life (repository i)) (same_node-refl (repository i)) up-there ∙ learns)
 
     learned-lives : (r : ℕ) → (lw.life (repository r) ≡ w.life (repository r)) ⊎ ((lw.life (repository r)).outs ≡ (w.life (repository r)).outs ++ learned-hand.outs)
-    learned-lives r = elim (parted b w calm f (repository i) (repository r)) [
+    learned-lives r = elim (parted (repository i) (repository r)) [
       | inl e ↦ inr (subst (λ z. (lw.life z).outs ≡ (w.life z).outs ++ learned-hand.outs) (sym e) learned-here)
-      | inr ne ↦ inl (all-off (same_node (repository i) (repository r)) (w.flags (repository r)).known (lives_on b w (repository r) (w.life (repository r)) (entry.Learn (repository i) s c)) (w.life (repository r)) (not-same b w calm f (repository i) (repository r) ne))
+      | inr ne ↦ inl (all-off (same_node (repository i) (repository r)) (w.flags (repository r)).known (lives_on b w (repository r) (w.life (repository r)) (entry.Learn (repository i) s c)) (w.life (repository r)) (not-same (repository i) (repository r) ne))
     ]
 
     learn-there : NoRefusal lw
@@ -442,10 +391,10 @@ module _ (b : Base) (w : World) (calm : CalmWorld b w) (f : Refines (node_turns 
       mine = sym (calm.ups n) ∙ may.up
 
       owes : Has o ((step b w (entry.Gate n)).life (repository r)).outs → ⊥
-      owes h = elim (parted b w calm f n (repository r)) [
+      owes h = elim (parted n (repository r)) [
         | inl e ↦ subst (λ (l : Life). Has o l.outs) (both-on (same_node n (repository r)) (w.flags (repository r)).known (lives_on b w (repository r) (w.life (repository r)) (entry.Gate n)) (w.life (repository r))
             (subst (λ z. same_node n z ≡ true) (sym e) (same_node-refl n)) (subst (λ z. (w.flags z).known ≡ true) (sym e) mine)) h
-        | inr ne ↦ (none r o is).0 (subst (λ (l : Life). Has o l.outs) (all-off (same_node n (repository r)) (w.flags (repository r)).known (lives_on b w (repository r) (w.life (repository r)) (entry.Gate n)) (w.life (repository r)) (not-same b w calm f n (repository r) ne)) h)
+        | inr ne ↦ (none r o is).0 (subst (λ (l : Life). Has o l.outs) (all-off (same_node n (repository r)) (w.flags (repository r)).known (lives_on b w (repository r) (w.life (repository r)) (entry.Gate n)) (w.life (repository r)) (not-same n (repository r) ne)) h)
       ]
 
       leaving-is : leaving w n ≡ posts n (filter (leaves (all_effects (w.life n))) (w.life n).outs)

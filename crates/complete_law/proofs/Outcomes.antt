@@ -2,43 +2,21 @@
 use Rattle.std.proofs.Common.{◌≡◌, ℕ, ◌≤◌, ◌==◌, nat_lt, Bool, true, false, ◌&&◌, length, List, [], ◌∷◌, ◌++◌, reverse, refl, sym, ◌∙◌, ap, subst, Option, Some, None, if◌then◌else◌, inl, inr, arith}
 use Rattle.std.proofs.lemmas.Grind.{common_steps}
 use Rattle.std.proofs.lemmas.Bool.{false≢true, ltb-false}
-use Rattle.pseudo_time.specs.Lists.{Every, Has}
-use Rattle.pseudo_time.proofs.ListLemmas.{every-append, every-left, every-right, every-has}
-use Rattle.pseudo_time.specs.StampParts.{StampParts}
+use Rattle.complete_law.proofs.Names.{Every, Has, every-append, every-left, every-right, every-has, StampParts, NodeId, NodeKind, Outcome, InRange, Act, Book, Try, book, tries, tries_of, calls_again, is_none, keep, stage, standing, broker, repository, EndsBy, EndCame, IsPlayed, IsProven, TurnHolds, kept, played, proven, Base, Life, World, sent_by, base_of, LogFacts, logs_at, kind_post, node_turns, node_facts, node-laws, facts-of, CalmPlace, AllDone, book_at, log_at, world_at, each-has, in-range}
 use Rattle.pseudo_time.specs.declared.decisions.Decision.TheVariants as decision
-use Rattle.pseudo_time.specs.declared.nodes.NodeId.{NodeId}
-use Rattle.pseudo_time.specs.declared.nodes.NodeKind.{NodeKind}
 use Rattle.pseudo_time.specs.declared.nodes.NodeKind.TheVariants as kind
 use Rattle.effect_form.specs.declared.effects.Effect.TheVariants as effect
-use Rattle.effect_form.specs.declared.outcomes.Outcome.{Outcome}
 use Rattle.effect_form.specs.declared.outcomes.Outcome.TheVariants as outcome
 use Rattle.message_form.specs.declared.messages.Message.TheVariants as message
-use Rattle.plan_form.specs.Plans.{InRange}
-use Rattle.broker_core.specs.Book.{Act, Book, Try, book, tries, tries_of}
-use Rattle.broker_core.specs.Fits.{calls_again, has_outcome, is_none, keep, outcome_by}
+use Rattle.broker_core.specs.Fits.{has_outcome, outcome_by}
 use Rattle.broker_core.specs.Owed.{all_over}
-use Rattle.broker_core.specs.Stages.{stage, standing}
-use Rattle.pseudo_time.specs.Nodes.{broker, repository}
-use Rattle.broker_laws.specs.Fits.{EndsBy}
-use Rattle.broker_laws.specs.Posts.{EndCame, IsPlayed, IsProven}
-use Rattle.broker_laws.specs.Works.{TurnHolds}
-use Rattle.broker_laws.proofs.Kept.{kept}
 use Rattle.broker_laws.proofs.TestLemmas.{and-left, and-right}
-use Rattle.broker_laws.proofs.Tries.{played, proven}
-use Rattle.world_core.specs.Walks.{Base, Life, World, sent_by}
 use Rattle.world_core.specs.Walks as walks
-use Rattle.world_core.specs.Legal.{base_of}
-use Rattle.serial_law.specs.Refines.{LogFacts, logs_at}
-use Rattle.serial_law.specs.NodeRules.{kind_post, node_turns, node_facts}
-use Rattle.serial_law.proofs.NodeLaws.{node-laws}
-use Rattle.serial_law.proofs.Openings.{facts-of}
-use Rattle.complete_law.specs.Calm.{CalmPlace, AllDone, HasOutcome, IsOver, book_at, log_at, tasks_at, world_at}
+use Rattle.complete_law.specs.Calm.{HasOutcome, IsOver, tasks_at}
 use Rattle.complete_law.proofs.BrokerMoves.{turn-there}
 use Rattle.complete_law.proofs.Hearings.{says}
 use Rattle.complete_law.proofs.Places.{desk_of, tasks_of}
 use Rattle.complete_law.proofs.Steps.{calm-there, facts-there}
-use Rattle.serial_law.proofs.Growths.{each-has}
-use Rattle.serial_law.proofs.Ranges.{in-range}
 
 -- ---- of plain books
 

@@ -1,37 +1,9 @@
 -- What always holds at a calm place: where each request that stands is, and what keeps it from being lost.
 use Rattle.std.proofs.Common.{◌≡◌, ◌⊎◌, ℕ, ◌≤◌, ◌==◌, Bool, true, false, List, [], reverse, Option, Some, None, ◌&&◌, if◌then◌else◌, refl}
 use Rattle.std.proofs.lemmas.Bool.{false≢true, true≢false}
-use Rattle.pseudo_time.specs.Lists.{Has}
-use Rattle.pseudo_time.specs.StampParts.{StampParts}
-use Rattle.pseudo_time.specs.TimeParts.{TimeParts}
-use Rattle.pseudo_time.specs.declared.decisions.Decision.{Decision}
-use Rattle.pseudo_time.specs.declared.nodes.NodeId.{NodeId}
-use Rattle.effect_form.specs.declared.effects.Effect.{Effect}
+use Rattle.complete_law.proofs.Names.{Has, StampParts, TimeParts, Decision, NodeId, Effect, Message, Out, post, HeldRead, Asker, waits_for, HasBegun, Ignored, Try, book, find, tries, is_none, row, news, stage, repository, broker, Task, tasks, Desk, desk_at, state, IsRested, acts_of, Base, Sending, World, numbered, opened_life, sent_by, all_effects, times_taken, Waits, DecidedAt, read_to, standing_at, ask_of, tell_of, DeskSound}
 use Rattle.effect_form.specs.declared.effects.Effect.TheVariants as effect
-use Rattle.message_form.specs.declared.messages.Message.{Message}
 use Rattle.message_form.specs.declared.messages.Message.TheVariants as message
-use Rattle.message_form.specs.declared.turns.Out.{Out}
-use Rattle.message_form.specs.Posts.{post}
-use Rattle.repository_core.specs.declared.waits.HeldRead.{HeldRead}
-use Rattle.repository_core.specs.declared.waits.Asker.{Asker}
-use Rattle.repository_core.specs.Rows.{waits_for}
-use Rattle.repository_laws.specs.Facts.{HasBegun}
-use Rattle.broker_core.specs.declared.replies.Reply.TheVariants.{Ignored}
-use Rattle.broker_core.specs.Book.{Try, book, find, tries}
-use Rattle.broker_core.specs.Fits.{is_none}
-use Rattle.broker_core.specs.Rows.{row, news}
-use Rattle.broker_core.specs.Stages.{stage}
-use Rattle.pseudo_time.specs.Nodes.{repository, broker}
-use Rattle.broker_core.specs.Tasks.{Task, tasks}
-use Rattle.broker_core.specs.Turns.{Desk, desk_at, state}
-use Rattle.broker_laws.specs.Works.{IsRested}
-use Rattle.world_core.specs.Nodes.{acts_of}
-use Rattle.world_core.specs.Walks.{Base, Sending, World, numbered, opened_life, sent_by, all_effects}
-use Rattle.world_core.specs.Legal.{times_taken}
-use Rattle.repository_laws.specs.Waits.{Waits}
-use Rattle.complete_law.specs.AtRest.{DecidedAt, read_to, standing_at}
-use Rattle.repository_laws.specs.Waits.{ask_of, tell_of}
-use Rattle.broker_laws.proofs.BookTurns.{DeskSound}
 
 -- what an entry of a node changes, and what it leaves
 pub both-on : {X : Type 0} (s c : Bool) (x z : X) → s ≡ true → c ≡ true → (if s && c then x else z) ≡ x

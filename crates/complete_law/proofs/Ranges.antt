@@ -1,26 +1,13 @@
 -- Homes and objects of attempts lie within the plan's repositories, also of the request that stands.
 use Rattle.std.proofs.Common.{◌≡◌, ℕ, ◌==◌, nat_lt, false, List, sym, ap, subst, arith}
 use Rattle.std.proofs.lemmas.Grind.{common_steps}
-use Rattle.pseudo_time.specs.Lists.{Has}
-use Rattle.pseudo_time.proofs.ListLemmas.{every-has}
-use Rattle.value_form.specs.declared.acts.ActSpec.{ActSpec}
-use Rattle.effect_form.specs.declared.effects.Effect.{Effect}
-use Rattle.script_meaning.specs.Meaning.{Request, Asks}
-use Rattle.serial_model.specs.Questions.{Tree, after}
-use Rattle.plan_form.specs.declared.plans.Plan.{Plan}
-use Rattle.plan_form.specs.Plans.{InRange}
-use Rattle.plan_form.specs.PlanTexts.{IsOfLanguage}
-use Rattle.broker_core.specs.Tasks.{task_of, tasks, Scripted}
-use Rattle.broker_core.specs.Book.{Try, book, tries_of}
-use Rattle.broker_core.specs.Fits.{stop_of}
-use Rattle.broker_laws.specs.Fits.{IsReady, IsTidy}
+use Rattle.complete_law.proofs.Names.{Has, every-has, ActSpec, Effect, Request, Asks, Tree, Plan, InRange, IsOfLanguage, task_of, tasks, Scripted, Try, book, tries_of, stop_of, IsReady, IsTidy, acts_of, asked_of, Inside, every-at, every-filter}
+use Rattle.serial_model.specs.Questions.{after}
 use Rattle.broker_laws.specs.Posts.{IsPlanned}
 use Rattle.broker_laws.proofs.Found.{planned}
-use Rattle.world_core.specs.Nodes.{acts_of}
-use Rattle.serial_law.specs.Facts.{asked_of, request_at}
+use Rattle.serial_law.specs.Facts.{request_at}
 use Rattle.serial_law.proofs.Attempts.{try-home}
-use Rattle.serial_law.proofs.Inside.{Inside, inside-after, inside-asks}
-use Rattle.serial_law.proofs.Growths.{every-at, every-filter}
+use Rattle.serial_law.proofs.Inside.{inside-after, inside-asks}
 use Rattle.serial_law.proofs.RunFacts.{IsKept, kept-acts, kept-tasks}
 
 pub same-run : (m n : ℕ) → nat_lt m n ≡ false → nat_lt n m ≡ false → m ≡ n

@@ -3,39 +3,21 @@ use Rattle.std.proofs.Common.{◌≡◌, Bool, true, false, ◌&&◌, ℕ, List,
 use Rattle.std.proofs.lemmas.Bool.{true≢false, or_left, or_right}
 use Rattle.std.specs.Cmp.{signed_Decides}
 use Rattle.std.specs.Cmp.Lexicographic.{bytes_decides}
-use Rattle.pseudo_time.specs.Lists.{Every, Has}
-use Rattle.pseudo_time.proofs.ListLemmas.{every-append, every-map}
-use Rattle.pseudo_time.specs.StampParts.{StampParts}
-use Rattle.pseudo_time.specs.TimeParts.{TimeParts}
-use Rattle.pseudo_time.specs.Order.{lt, same_time}
-use Rattle.pseudo_time.proofs.OrderLemmas.{same_time-of}
-use Rattle.pseudo_time.specs.declared.nodes.NodeId.{NodeId}
-use Rattle.value_form.specs.declared.objects.ObjectId.{ObjectId}
-use Rattle.value_form.specs.declared.values.Value.{Value}
+use Rattle.complete_law.proofs.Names.{Every, Has, every-append, every-map, StampParts, TimeParts, lt, same_time, same_time-of, NodeId, ObjectId, Value, Effect, Message, Out, WriteStep, read_step, stands_written, write_step, floor_of, is_settled, Hand, note, send, accepts, on_learn, on_message, on_write, write_as, hand_at, known, marks, HeldRead, every-of, IsRefusal}
 use Rattle.value_form.specs.declared.values.Value.TheVariants.{Nothing, Number, Text}
-use Rattle.effect_form.specs.declared.effects.Effect.{Effect}
 use Rattle.effect_form.specs.declared.effects.Effect.TheVariants as effect
-use Rattle.message_form.specs.declared.messages.Message.{Message}
 use Rattle.message_form.specs.declared.messages.Message.TheVariants as message
-use Rattle.message_form.specs.declared.turns.Out.{Out}
 use Rattle.object_history.specs.declared.marks.Mark.{Mark}
 use Rattle.object_history.specs.declared.marks.Mark.TheVariants as mark
 use Rattle.object_history.specs.declared.steps.ReadStep.TheVariants as read
-use Rattle.object_history.specs.declared.steps.WriteStep.{WriteStep}
 use Rattle.object_history.specs.declared.steps.WriteStep.TheVariants as write
-use Rattle.object_history.specs.Answers.{has_put, read_step, stands_written, write_step}
-use Rattle.object_history.specs.History.{alive, floor_of, is_alive, is_settled}
+use Rattle.object_history.specs.Answers.{has_put}
+use Rattle.object_history.specs.History.{alive, is_alive}
 use Rattle.object_history.specs.Objects.{same_object, same_value}
 use Rattle.object_history.proofs.ObjectLemmas.{same_object-of}
 use Rattle.object_history.proofs.BoolLemmas.{and-both}
-use Rattle.repository_core.specs.Hands.{Hand, Mind, note, send}
-use Rattle.repository_core.specs.Rows.{accepts, on_learn, on_message, on_write, write_as}
-use Rattle.repository_core.specs.Turns.{hand_at}
-use Rattle.repository_log.specs.Logs.{known, marks}
-use Rattle.repository_core.specs.declared.waits.HeldRead.{HeldRead}
+use Rattle.repository_core.specs.Hands.{Mind}
 use Rattle.world_core.proofs.Refusals.{Ok, OfRequest, OnFloor, Says, on-learn, on-message, refused-under}
-use Rattle.serial_law.proofs.Growths.{every-of}
-use Rattle.complete_law.specs.Calm.{IsRefusal}
 
 -- ---- marks of a log
 
@@ -80,10 +62,9 @@ put-written l o t v n h = and-both (alive (marks l) t) (has_put o t v (marks l))
 -- ---- turns
 
 abbrev pub IsRefusing : WriteStep → Type 0
-IsRefusing (write.LaterRead e) = Unit {0}
-IsRefusing (write.LaterVersion x) = Unit {0}
 IsRefusing write.Put = ⊥
 IsRefusing write.Again = ⊥
+IsRefusing _ = Unit {0}
 
 -- none of these messages refuses a write
 abbrev pub ArePlain : List Out → Type 0

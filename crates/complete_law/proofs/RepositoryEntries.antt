@@ -1,46 +1,14 @@
 -- An entry at which a repository takes a turn keeps what always holds, where the message that it took is served.
-use Rattle.std.proofs.Common.{◌≡◌, ◌≢◌, ◌⊎◌, ℕ, ◌≤◌, ◌==◌, Bool, true, false, List, [], ◌++◌, map, reverse, sym, ◌∙◌, ap, subst, Some, None, inl, inr, append_assoc}
-use Rattle.std.proofs.lemmas.Bool.{true≢false}
+use Rattle.std.proofs.Common.{◌≡◌, ◌≢◌, ◌⊎◌, ℕ, ◌≤◌, ◌==◌, Bool, true, false, List, ◌++◌, map, reverse, sym, ◌∙◌, ap, subst, Some, inl, inr, append_assoc}
 use Rattle.std.proofs.lemmas.List.{reverse-append, reverse-reverse}
-use Rattle.pseudo_time.specs.Lists.{Has}
-use Rattle.pseudo_time.proofs.ListLemmas.{every-has, has-left, has-right}
-use Rattle.pseudo_time.specs.StampParts.{StampParts}
-use Rattle.pseudo_time.specs.TimeParts.{TimeParts}
-use Rattle.pseudo_time.specs.declared.decisions.Decision.{Decision}
-use Rattle.pseudo_time.specs.declared.nodes.NodeId.{NodeId}
+use Rattle.complete_law.proofs.Names.{Has, every-has, has-right, StampParts, TimeParts, Decision, NodeId, ObjectId, Effect, Message, Out, Post, post, ToRead, ToWrite, HeldRead, Asker, Hand, now, waits_for, hand_at, Heard, Ignored, Try, book, find, time_of, tries, is_none, row, news, Stage, Idle, Refused, Opening, Asking, Finishing, Stopping, Closing, stage, standing, repository, broker, desk_at, state, IsRested, Base, Life, Sending, World, sent_by, all_effects, Waits, standing_at, read_to, Askers, DeskSound, Answers, Keeps, Serves, ask_of, tell_of}
 use Rattle.pseudo_time.specs.declared.nodes.NodeKind.TheVariants as kind
-use Rattle.value_form.specs.declared.objects.ObjectId.{ObjectId}
-use Rattle.effect_form.specs.declared.effects.Effect.{Effect}
 use Rattle.effect_form.specs.declared.effects.Effect.TheVariants as effect
-use Rattle.message_form.specs.declared.messages.Message.{Message}
 use Rattle.message_form.specs.declared.messages.Message.TheVariants as message
-use Rattle.message_form.specs.declared.turns.Out.{Out}
-use Rattle.message_form.specs.Posts.{Post, post}
-use Rattle.script_meaning.specs.Meaning.{ToRead, ToWrite}
-use Rattle.repository_core.specs.declared.waits.HeldRead.{HeldRead}
-use Rattle.repository_core.specs.declared.waits.Asker.{Asker}
-use Rattle.repository_core.specs.Hands.{Hand, now}
-use Rattle.repository_core.specs.Rows.{waits_for}
-use Rattle.repository_core.specs.Turns.{hand_at, mind_of}
-use Rattle.broker_core.specs.declared.heards.Heard.{Heard}
-use Rattle.broker_core.specs.declared.replies.Reply.TheVariants.{Ignored}
-use Rattle.broker_core.specs.Book.{Try, book, find, time_of, tries}
-use Rattle.broker_core.specs.Fits.{is_none}
-use Rattle.broker_core.specs.Rows.{row, news}
-use Rattle.broker_core.specs.Stages.{Stage, Idle, Refused, Opening, Asking, Finishing, Stopping, Closing, stage, standing}
-use Rattle.pseudo_time.specs.Nodes.{repository, broker}
-use Rattle.broker_core.specs.Turns.{desk_at, state}
-use Rattle.broker_laws.specs.Works.{IsRested}
-use Rattle.world_core.specs.Walks.{Base, Life, Sending, World, numbered, opened_life, sent_by, all_effects}
-use Rattle.world_core.specs.Legal.{times_taken}
-use Rattle.repository_laws.specs.Waits.{Waits}
-use Rattle.complete_law.specs.AtRest.{standing_at, read_to}
-use Rattle.repository_laws.proofs.AskerSteps.{Askers}
+use Rattle.repository_core.specs.Turns.{mind_of}
 use Rattle.complete_law.proofs.BrokerEntries.{sound-more}
-use Rattle.broker_laws.proofs.BookTurns.{DeskSound}
-use Rattle.repository_laws.proofs.ReadSteps.{Answers, Keeps, Serves}
-use Rattle.repository_laws.specs.Waits.{ask_of, tell_of}
 use Rattle.complete_law.proofs.Answering.{heeds-read}
+use Rattle.complete_law.proofs.Frames.{OneTurn, turn-flies, turn-outside, turn-shut, turn-still, turn-ups}
 use Rattle.complete_law.proofs.Places.{log_of, held_of, IsBegun, IsDecided, Flying, AskedFor, tasks_of, desk_of, standing_in, Heeds, Placed, SaidOf, CalmWorld}
 
 -- a life after a repository's turn
@@ -49,18 +17,7 @@ life-hand l h = record { gated = l.gated; fresh = l.fresh ++ reverse h.added; ou
 
 -- one repository's turn: `h` is its hand after it, and of a message that it took `Taken` holds
 pub record Turned (w w' : World) (n : ℕ) (h : Hand) (Taken : Post → Type 0) : Type 0 where
-  pub here : w'.life (repository n) ≡ life-hand (w.life (repository n)) h
-  pub there : (m : NodeId) → (m ≡ repository n) ⊎ ((m ≢ repository n) × (w'.life m ≡ w.life m))
-  pub sendings : w'.sendings ≡ w.sendings
-  pub ticks : w'.ticks ≡ w.ticks
-  pub ups : (m : NodeId) → (w'.flags m).up ≡ (w.flags m).up
-  pub knowns : (m : NodeId) → (w'.flags m).known ≡ (w.flags m).known
-  pub mine : (w.flags (repository n)).known ≡ true
-  pub due : (w'.flags (repository n)).due ≡ true
-  pub dues : (m : NodeId) → m ≢ repository n → (w'.flags m).due ≡ (w.flags m).due
-  pub gones : (m : NodeId) → (w'.flags m).gone ≡ (w.flags m).gone
-  pub copies : (k : ℕ) (s : Sending) → numbered w.sendings k ≡ Some s → times_taken w k ≡ 0 → (times_taken w' k ≡ 0) ⊎ Taken s.post
-  pub untaken : (k : ℕ) → numbered w'.sendings k ≡ None → times_taken w' k ≡ 0
+  pub turn : OneTurn w w' (repository n) (life-hand (w.life (repository n)) h) Taken
   -- the hand's log is the log with its effects
   pub past : h.past ≡ log_of w (repository n)
   pub number : h.number ≡ n
@@ -80,7 +37,7 @@ module _ (b : Base) (w w' : World) (n : ℕ) (h : Hand) (Taken : Post → Type 0
   old = hand_at n (log_of w (repository n)) (w.life (repository n)).mind.hands
 
   pub broker-life : (i : ℕ) → w'.life (broker i) ≡ w.life (broker i)
-  broker-life i = elim (mv.there (broker i)) [
+  broker-life i = elim (mv.turn.there (broker i)) [
     | inl e ↦ absurd (not-broker i n e)
     | inr e ↦ e.1
   ]
@@ -88,12 +45,12 @@ module _ (b : Base) (w w' : World) (n : ℕ) (h : Hand) (Taken : Post → Type 0
   pub log-here : log_of w' (repository n) ≡ now h
   log-here =
       let l : Life = w.life (repository n) in
-      ap (λ (x : Life). reverse (all_effects x)) mv.here ∙ ap reverse (sym (append_assoc l.gated l.fresh (reverse h.added))) ∙ reverse-append (l.gated ++ l.fresh) (reverse h.added)
+      ap (λ (x : Life). reverse (all_effects x)) mv.turn.here ∙ ap reverse (sym (append_assoc l.gated l.fresh (reverse h.added))) ∙ reverse-append (l.gated ++ l.fresh) (reverse h.added)
       ∙ ap (λ z. z ++ reverse (l.gated ++ l.fresh)) (reverse-reverse h.added) ∙ ap (λ z. h.added ++ z) (sym mv.past)
 
   gated-same : (m : NodeId) → (w'.life m).gated ≡ (w.life m).gated
-  gated-same m = elim (mv.there m) [
-    | inl e ↦ subst (λ z. (w'.life z).gated ≡ (w.life z).gated) (sym e) (ap (λ (x : Life). x.gated) mv.here)
+  gated-same m = elim (mv.turn.there m) [
+    | inl e ↦ subst (λ z. (w'.life z).gated ≡ (w.life z).gated) (sym e) (ap (λ (x : Life). x.gated) mv.turn.here)
     | inr e ↦ ap (λ (x : Life). x.gated) e.1
   ]
 
@@ -103,22 +60,12 @@ module _ (b : Base) (w w' : World) (n : ℕ) (h : Hand) (Taken : Post → Type 0
   decided-more : (s : StampParts) → IsDecided w s → IsDecided w' s
   decided-more s k = (k.0, subst (λ l. Has (effect.Decide s k.0) (reverse l)) (sym (gated-same (repository s.home))) k.1)
 
-  outs-more : (m : NodeId) (o : Out) → Has o (w.life m).outs → Has o (w'.life m).outs
-  outs-more m o i = elim (mv.there m) [
-    | inl e ↦ subst (λ z. Has o (w'.life z).outs) (sym e) (subst (λ (l : Life). Has o l.outs) (sym mv.here) (has-left (w.life (repository n)).outs h.outs o (subst (λ z. Has o (w.life z).outs) e i)))
-    | inr e ↦ subst (λ (l : Life). Has o l.outs) (sym e.1) i
-  ]
-
   -- what the turn owes is on its way
   pub owed-flies : (o : Out) → Has o h.outs → Flying w' (repository n) o
-  owed-flies o i = inl (subst (λ (l : Life). Has o l.outs) (sym mv.here) (has-right (w.life (repository n)).outs h.outs o i))
+  owed-flies o i = inl (subst (λ (l : Life). Has o l.outs) (sym mv.turn.here) (has-right (w.life (repository n)).outs h.outs o i))
 
   flies : (from : NodeId) (o : Out) → Flying w from o → Flying w' from o ⊎ Taken (post from o)
-  flies from o (inl i) = inl (inl (outs-more from o i))
-  flies from o (inr (k, s, at, is, none)) = elim (mv.copies k s at none) [
-    | inl z ↦ inl (inr (k, s, subst (λ l. numbered l k ≡ Some s) (sym mv.sendings) at, is, z))
-    | inr t ↦ inr (subst Taken is t)
-  ]
+  flies = turn-flies w w' (repository n) (life-hand (w.life (repository n)) h) Taken mv.turn
 
   for-brokers : (P : ℕ → List Effect → Heard → Type 0) → ((i : ℕ) → P i (log_of w (broker i)) (w.life (broker i)).mind.heard) → (i : ℕ) → P i (log_of w' (broker i)) (w'.life (broker i)).mind.heard
   for-brokers P k i = subst (λ (l : Life). P i (reverse (all_effects l)) l.mind.heard) (sym (broker-life i)) (k i)
@@ -134,11 +81,11 @@ module _ (b : Base) (w w' : World) (n : ℕ) (h : Hand) (Taken : Post → Type 0
   said-more i _ k = tt
 
   sent-same : sent_by w' ≡ sent_by w
-  sent-same = ap (map (λ (s : Sending). s.post)) mv.sendings
+  sent-same = ap (map (λ (s : Sending). s.post)) mv.turn.sendings
 
   -- a held read is still held or is answered
   held-there : (r : ℕ) (e : TimeParts × HeldRead) → Keeps R agree old (λ x. ⊥) (λ x. ⊥) h → Has e (held_of w r) → (r ≡ n → Serves h e.0 e.1.object e.1.from) × (r ≢ n → Has e (held_of w' r))
-  held-there r e k i = (λ q. mine (subst (λ z. Has e (held_of w z)) q i), λ ne. other ne (mv.there (repository r)))
+  held-there r e k i = (λ q. mine (subst (λ z. Has e (held_of w z)) q i), λ ne. other ne (mv.turn.there (repository r)))
     where
       mine : Has e (held_of w n) → Serves h e.0 e.1.object e.1.from
       mine i = elim (k.served e i) [
@@ -151,9 +98,9 @@ module _ (b : Base) (w w' : World) (n : ℕ) (h : Hand) (Taken : Post → Type 0
       other ne (inr q) = subst (λ (l : Life). Has e l.mind.hands.held) (sym q.1) i
 
   pub waits-there : Keeps R agree old (λ x. ⊥) (λ x. ⊥) h → (r : ℕ) (e : TimeParts × HeldRead) → Has e (held_of w' r) → Waits (log_of w' (repository r)) e
-  waits-there k r e i = elim (mv.there (repository r)) [
+  waits-there k r e i = elim (mv.turn.there (repository r)) [
     | inr q ↦ subst (λ (l : Life). Waits (reverse (all_effects l)) e) (sym q.1) (calm.waits r e (subst (λ (l : Life). Has e l.mind.hands.held) q.1 i))
-    | inl q ↦ subst (λ z. Waits (log_of w' z) e) (sym q) (subst (λ l. Waits l e) (sym log-here) (mine (subst (λ (l : Life). Has e l.mind.hands.held) mv.here (subst (λ z. Has e (w'.life z).mind.hands.held) q i))))
+    | inl q ↦ subst (λ z. Waits (log_of w' z) e) (sym q) (subst (λ l. Waits l e) (sym log-here) (mine (subst (λ (l : Life). Has e l.mind.hands.held) mv.turn.here (subst (λ z. Has e (w'.life z).mind.hands.held) q i))))
   ]
     where
       mine : Has e h.held → Waits (now h) e
@@ -163,10 +110,10 @@ module _ (b : Base) (w w' : World) (n : ℕ) (h : Hand) (Taken : Post → Type 0
       ]
 
   pub askers-there : Askers old h → (r : ℕ) (a : Asker) → Has a (w'.life (repository r)).mind.hands.askers → (a.stamp.home ≡ r) × ((x : Decision) → Has (effect.Decide a.stamp x) (log_of w' (repository r)) → ⊥)
-  askers-there k r a i = elim (mv.there (repository r)) [
+  askers-there k r a i = elim (mv.turn.there (repository r)) [
     | inr q ↦ let u = calm.askers r a (subst (λ (l : Life). Has a l.mind.hands.askers) q.1 i) in (u.0, λ x j. u.1 x (subst (λ (l : Life). Has (effect.Decide a.stamp x) (reverse (all_effects l))) q.1 j))
     | inl q ↦
-        let mine : Has a h.askers = subst (λ (l : Life). Has a l.mind.hands.askers) mv.here (subst (λ z. Has a (w'.life z).mind.hands.askers) q i) in
+        let mine : Has a h.askers = subst (λ (l : Life). Has a l.mind.hands.askers) mv.turn.here (subst (λ z. Has a (w'.life z).mind.hands.askers) q i) in
         let u = k.undone a mine in
         (u.0 ∙ mv.number ∙ sym (repository-same r n q), λ x j. u.1 x (subst (Has (effect.Decide a.stamp x)) log-here (subst (λ z. Has (effect.Decide a.stamp x) (log_of w' z)) q j)))
   ]
@@ -175,16 +122,16 @@ module _ (b : Base) (w w' : World) (n : ℕ) (h : Hand) (Taken : Post → Type 0
   pub asked-there : Keeps R agree old (λ x. ⊥) (λ x. ⊥) h → Askers old h → ((r : ℕ) (s : StampParts) → Taken (post (repository r) (ask_of s)) → waits_for s (held_of w r) ≡ true → (s.home == r) ≡ false → AskedFor w' r s) →
       ((r : ℕ) (s : StampParts) (c : Bool) → Taken (post (repository s.home) (tell_of (record { repository = r; stamp = s }) c)) → waits_for s (held_of w' r) ≡ true → ⊥) →
       (r : ℕ) (s : StampParts) → waits_for s (held_of w' r) ≡ true → (s.home == r) ≡ false → AskedFor w' r s
-  asked-there k as' ask-served tell-served r s e q = elim (mv.there (repository r)) [
+  asked-there k as' ask-served tell-served r s e q = elim (mv.turn.there (repository r)) [
     | inr p ↦ let was : waits_for s (held_of w r) ≡ true = subst (λ (l : Life). waits_for s l.mind.hands.held ≡ true) p.1 e in still was (calm.asked r s was q)
     | inl p ↦ mine (repository-same r n p)
   ]
     where
       asker-still : Has (record { repository = r; stamp = s }) (w.life (repository s.home)).mind.hands.askers → AskedFor w' r s
-      asker-still a = elim (mv.there (repository s.home)) [
+      asker-still a = elim (mv.turn.there (repository s.home)) [
         | inr p ↦ inr (inl (subst (λ (l : Life). Has (record { repository = r; stamp = s }) l.mind.hands.askers) (sym p.1) a))
         | inl p ↦ elim (as'.kept (record { repository = r; stamp = s }) (subst (λ z. Has (record { repository = r; stamp = s }) (w.life z).mind.hands.askers) p a)) [
-          | inl x ↦ inr (inl (subst (λ z. Has (record { repository = r; stamp = s }) (w'.life z).mind.hands.askers) (sym p) (subst (λ (l : Life). Has (record { repository = r; stamp = s }) l.mind.hands.askers) (sym mv.here) x)))
+          | inl x ↦ inr (inl (subst (λ z. Has (record { repository = r; stamp = s }) (w'.life z).mind.hands.askers) (sym p) (subst (λ (l : Life). Has (record { repository = r; stamp = s }) l.mind.hands.askers) (sym mv.turn.here) x)))
           | inr x ↦ inr (inr (x.0, subst (λ z. Flying w' z (tell_of (record { repository = r; stamp = s }) x.0)) (sym p) (owed-flies (tell_of (record { repository = r; stamp = s }) x.0) x.1)))
         ]
       ]
@@ -202,7 +149,7 @@ module _ (b : Base) (w w' : World) (n : ℕ) (h : Hand) (Taken : Post → Type 0
 
       mine : r ≡ n → AskedFor w' r s
       mine p =
-          let now-held : waits_for s h.held ≡ true = subst (λ (l : Life). waits_for s l.mind.hands.held ≡ true) mv.here (subst (λ z. waits_for s (held_of w' z) ≡ true) p e) in
+          let now-held : waits_for s h.held ≡ true = subst (λ (l : Life). waits_for s l.mind.hands.held ≡ true) mv.turn.here (subst (λ z. waits_for s (held_of w' z) ≡ true) p e) in
           let away : (s.home == h.number) ≡ false = subst (λ z. (s.home == z) ≡ false) (sym mv.number) (subst (λ z. (s.home == z) ≡ false) p q) in
           elim (k.asks s now-held away) [
             | inl x ↦ let was : waits_for s (held_of w r) ≡ true = subst (λ z. waits_for s (held_of w z) ≡ true) (sym p) x in still was (calm.asked r s was q)
@@ -240,7 +187,7 @@ module _ (b : Base) (w w' : World) (n : ℕ) (h : Hand) (Taken : Post → Type 0
   placed-there k to-here served i o g e = go (calm.placed i o was-gone stands)
     where
       was-gone : (w.flags (broker i)).gone ≡ true
-      was-gone = sym (mv.gones (broker i)) ∙ g
+      was-gone = sym (mv.turn.gones (broker i) (not-broker i n)) ∙ g
 
       stands : standing_in b w i ≡ Some o
       stands = subst (λ (l : Life). standing_at b.script i b.run (tasks_of b i) (reverse (all_effects l)) l.mind.heard ≡ Some o) (broker-life i) e
@@ -249,7 +196,7 @@ module _ (b : Base) (w w' : World) (n : ℕ) (h : Hand) (Taken : Post → Type 0
       heeded m = subst (λ (l : Life). row b.script (stage b.script b.run (state b.script i b.run (tasks_of b i) (desk_at (reverse (all_effects l)) l.mind.heard)) l.mind.heard) l.mind.heard (news m) ≡ Ignored → ⊥) (sym (broker-life i))
 
       held : (x : TimeParts) (y : HeldRead) → o ≡ read_to x y.object → y.from ≡ broker i → Has (x, y) (held_of w y.object.repository) → Placed b w' i o
-      held x y q own there = elim (mv.there (repository y.object.repository)) [
+      held x y q own there = elim (mv.turn.there (repository y.object.repository)) [
         | inr p ↦ inr (inr (x, y, q, own, subst (λ (l : Life). Has (x, y) l.mind.hands.held) (sym p.1) there))
         | inl p ↦ elim (k.served (x, y) (subst (λ z. Has (x, y) (w.life z).mind.hands.held) p there)) [
           | inl no' ↦ absurd no'
@@ -260,7 +207,7 @@ module _ (b : Base) (w w' : World) (n : ℕ) (h : Hand) (Taken : Post → Type 0
               q,
               own,
               subst (λ z. Has (x, record { from = y.from; object = y.object; waits = t.0 }) (w'.life z).mind.hands.held) (sym p)
-                  (subst (λ (l : Life). Has (x, record { from = y.from; object = y.object; waits = t.0 }) l.mind.hands.held) (sym mv.here) t.1),
+                  (subst (λ (l : Life). Has (x, record { from = y.from; object = y.object; waits = t.0 }) l.mind.hands.held) (sym mv.turn.here) t.1),
             ))
             | inr t ↦ inr (inl (
               repository n,
@@ -290,12 +237,12 @@ module _ (b : Base) (w w' : World) (n : ℕ) (h : Hand) (Taken : Post → Type 0
       ((r : ℕ) (s : StampParts) → Taken (post (repository r) (ask_of s)) → waits_for s (held_of w r) ≡ true → (s.home == r) ≡ false → AskedFor w' r s) →
       ((r : ℕ) (s : StampParts) (c : Bool) → Taken (post (repository s.home) (tell_of (record { repository = r; stamp = s }) c)) → waits_for s (held_of w' r) ≡ true → ⊥) → CalmWorld b w'
   turned-calm k as' to-here request-served ask-served tell-served = record {
-    ups = λ m. mv.ups m ∙ calm.ups m ∙ sym (mv.knowns m);
-    outside = outside;
-    shut = shut;
-    still = λ s i. subst (λ z. s.ticks ≤ z) (sym mv.ticks) (calm.still s (subst (Has s) mv.sendings i));
-    untaken = mv.untaken;
-    rested = for-brokers (λ i l g. (w'.flags (broker i)).gone ≡ true → IsRested b.script i b.run (tasks_of b i) (desk_at l g)) (λ i g. calm.rested i (sym (mv.gones (broker i)) ∙ g));
+    ups = turn-ups w w' (repository n) (life-hand (w.life (repository n)) h) Taken mv.turn b calm;
+    outside = turn-outside w w' (repository n) (life-hand (w.life (repository n)) h) Taken mv.turn b calm;
+    shut = turn-shut w w' (repository n) (life-hand (w.life (repository n)) h) Taken mv.turn b calm;
+    still = turn-still w w' (repository n) (life-hand (w.life (repository n)) h) Taken mv.turn b calm;
+    untaken = mv.turn.untaken;
+    rested = for-brokers (λ i l g. (w'.flags (broker i)).gone ≡ true → IsRested b.script i b.run (tasks_of b i) (desk_at l g)) (λ i g. calm.rested i (sym (mv.turn.gones (broker i) (not-broker i n)) ∙ g));
     sound = for-brokers (λ i l g. DeskSound b.script i b.run (tasks_of b i) (IsBegun w') (IsDecided w') (desk_at l g))
         (λ i. sound-more b.script i b.run (tasks_of b i) (IsBegun w) (IsDecided w) (IsBegun w') (IsDecided w') begun-more decided-more (w.life (broker i)).mind.heard (state b.script i b.run (tasks_of b i) (desk_of b w i)) (calm.sound i));
     said = λ i o x. said-more i o.message (calm.said i o (elim x [
@@ -307,15 +254,3 @@ module _ (b : Base) (w w' : World) (n : ℕ) (h : Hand) (Taken : Post → Type 0
     asked = asked-there k as' ask-served tell-served;
     askers = askers-there as';
   }
-    where
-      outside : (m : NodeId) → (w'.flags m).known ≡ false → w'.life m ≡ opened_life b.start []
-      outside m e = elim (mv.there m) [
-        | inl q ↦ absurd (true≢false (sym mv.mine ∙ subst (λ z. (w.flags z).known ≡ false) q (sym (mv.knowns m) ∙ e)))
-        | inr q ↦ q.1 ∙ calm.outside m (sym (mv.knowns m) ∙ e)
-      ]
-
-      shut : (m : NodeId) → (w'.flags m).due ≡ false → ((w'.life m).fresh ≡ []) × ((w'.life m).outs ≡ [])
-      shut m e = elim (mv.there m) [
-        | inl q ↦ absurd (true≢false (sym mv.due ∙ subst (λ z. (w'.flags z).due ≡ false) q e))
-        | inr q ↦ subst (λ (l : Life). (l.fresh ≡ []) × (l.outs ≡ [])) (sym q.1) (calm.shut m (sym (mv.dues m q.0) ∙ e))
-      ]

@@ -2,39 +2,15 @@
 use Rattle.std.proofs.Common.{◌≡◌, ℕ, zero, suc, ◌+◌, ◌≤◌, ◌<◌, ◌==◌, min, Bool, true, false, List, [], ◌∷◌, ◌++◌, map, reverse, cond, refl, sym, ◌∙◌, ap, subst, Some, if◌then◌else◌, arith, slice_get}
 use Rattle.std.proofs.lemmas.Grind.{common_steps}
 use Rattle.std.proofs.lemmas.Bool.{false≢true}
-use Rattle.pseudo_time.specs.Lists.{Every, Has}
-use Rattle.pseudo_time.specs.StampParts.{StampParts}
-use Rattle.pseudo_time.specs.declared.nodes.NodeId.{NodeId}
-use Rattle.effect_form.specs.declared.effects.Effect.{Effect}
-use Rattle.message_form.specs.declared.messages.Message.{Message}
-use Rattle.pseudo_time.specs.Nodes.{same_node}
-use Rattle.message_core.proofs.NodeLemmas.{same_node-refl}
-use Rattle.stream_port.specs.Fates.{copies_of}
-use Rattle.message_form.specs.Posts.{Post}
-use Rattle.repository_core.specs.Hands.{Hand, now}
-use Rattle.repository_core.specs.declared.waits.Asker.{Asker}
-use Rattle.repository_core.specs.declared.waits.HeldRead.{HeldRead}
-use Rattle.pseudo_time.specs.TimeParts.{TimeParts}
+use Rattle.complete_law.proofs.Names.{Every, StampParts, NodeId, Message, same_node, same_node-refl, copies_of, Post, Hand, now, hand_at, accepts, on_learn, on_message, HeldHolds, begun-fine, on-learn-fine, take-fine, repository, count, Entry, gives, Taking, Learning, Base, Life, Sending, World, leaving, numbered, sent_by, start_world, step, after_input, MayLearn, MayTake, Rule, times_taken, every-at, CalmPlace, CalmRun, IsPlain, IsUnstopped, world_at}
 use Rattle.repository_core.specs.Turns as hands
-use Rattle.repository_core.specs.Turns.{hand_at}
-use Rattle.repository_core.specs.Rows.{accepts, on_learn, on_message}
-use Rattle.repository_laws.specs.Facts.{HeldHolds}
-use Rattle.repository_laws.proofs.AnyTurns.{begun-fine, on-learn-fine, take-fine}
-use Rattle.pseudo_time.specs.Nodes.{repository}
-use Rattle.message_core.specs.Tallies.{count}
-use Rattle.world_core.specs.declared.entries.Entry.{Entry}
 use Rattle.world_core.specs.declared.entries.Entry.TheVariants as entry
-use Rattle.world_core.specs.Nodes.{gives}
-use Rattle.world_core.specs.Nodes.Input.{Taking, Learning}
-use Rattle.world_core.specs.Walks.{Base, Life, Sending, World, leaving, numbered, sent_by, sendings_after, start_world, step, taken_after, after_input}
+use Rattle.world_core.specs.Walks.{sendings_after, taken_after}
 use Rattle.world_core.specs.Walks as walks
-use Rattle.world_core.specs.Legal.{MayLearn, MayTake, Rule, times_taken}
-use Rattle.serial_law.proofs.Growths.{numbered-has, every-at}
-use Rattle.complete_law.specs.Calm.{CalmPlace, CalmRun, IsPlain, IsUnstopped, world_at}
 use Rattle.complete_law.proofs.BrokerMoves.{node-there}
-use Rattle.complete_law.proofs.Frames.{grown-log}
-use Rattle.complete_law.proofs.HandLoads.{Prices, learnt, price-if, stored-load, taken, times}
-use Rattle.complete_law.proofs.Loads.{Fed, Kept, by-entry, issued, load, load-append, sent-load}
+use Rattle.complete_law.proofs.Frames.{came-sent, grown-log}
+use Rattle.complete_law.proofs.HandLoads.{learnt, measure, price, rest, taken, wt}
+use Rattle.complete_law.proofs.Loads.{Fed, Kept, by-entry, if-from, load, load-append, sent-load}
 use Rattle.complete_law.proofs.Places.{CalmWorld, log_of}
 use Rattle.complete_law.proofs.RepositoryEntries.{life-hand}
 use Rattle.complete_law.proofs.Steps as steps
@@ -57,15 +33,11 @@ unseen j (k ∷ ks) e = go (λ h. unseen j ks h) (k == j) refl
         last true again h = absurd (omega (arith, h))
         last false again h = again (omega (arith, h))
 
-abbrev pub gain-if : Bool → ℕ → ℕ
-gain-if true k = k
-gain-if false k = 0
-
 module _ (g : Sending → ℕ) where
   -- what the messages that were taken bring; the first one has number j
   abbrev pub used : ℕ → List ℕ → List Sending → ℕ
   used j ks [] = 0
-  used j ks (s ∷ ss) = gain-if (seen j ks) (g s) + used (suc j) ks ss
+  used j ks (s ∷ ss) = if-from (seen j ks) (g s) + used (suc j) ks ss
 
   -- what all bring
   abbrev pub all : List Sending → ℕ
@@ -76,7 +48,7 @@ module _ (g : Sending → ℕ) where
   used-most j ks [] = omega arith
   used-most j ks (s ∷ ss) = let k = used-most (suc j) ks ss in let i = go (seen j ks) in omega (arith, k, i)
     where
-      go : (c : Bool) → gain-if c (g s) ≤ g s
+      go : (c : Bool) → if-from c (g s) ≤ g s
       go true = omega arith
       go false = omega arith
 
@@ -88,7 +60,7 @@ module _ (g : Sending → ℕ) where
   used-grows j k ks [] = omega arith
   used-grows j k ks (s ∷ ss) = let i = used-grows (suc j) k ks ss in let l = go (k == j) (seen j ks) in omega (arith, i, l)
     where
-      go : (c d : Bool) → gain-if d (g s) ≤ gain-if (if c then true else d) (g s)
+      go : (c d : Bool) → if-from d (g s) ≤ if-from (if c then true else d) (g s)
       go true true = omega arith
       go true false = omega arith
       go false d = omega arith
@@ -100,9 +72,9 @@ module _ (g : Sending → ℕ) where
       let k = used-grows (suc j) (j + 0) ks ss in
       let zero' : j + 0 ≡ j = omega arith in
       let off : seen j ks ≡ false = subst (λ m. seen m ks ≡ false) zero' n in
-      let a : gain-if (seen j ks) (g x) ≡ 0 = ap (λ c. gain-if c (g x)) off in
+      let a : if-from (seen j ks) (g x) ≡ 0 = ap (λ c. if-from c (g x)) off in
       let same : ((j + 0) == j) ≡ true = grind (arith, common_steps) in
-      let b : gain-if (if (j + 0) == j then true else seen j ks) (g x) ≡ g x = ap (λ (c : Bool). gain-if (if c then true else seen j ks) (g x)) same in
+      let b : if-from (if (j + 0) == j then true else seen j ks) (g x) ≡ g x = ap (λ (c : Bool). if-from (if c then true else seen j ks) (g x)) same in
       let v : g x ≡ g s = ap g is in
       omega (arith, k, a, b, v)
   used-takes j (suc i) ks (x ∷ ss) s e n =
@@ -112,7 +84,7 @@ module _ (g : Sending → ℕ) where
       let l = go ((j + suc i) == j) (seen j ks) in
       omega (arith, k, same, l)
     where
-      go : (c d : Bool) → gain-if d (g x) ≤ gain-if (if c then true else d) (g x)
+      go : (c d : Bool) → if-from d (g x) ≤ if-from (if c then true else d) (g x)
       go true true = omega arith
       go true false = omega arith
       go false d = omega arith
@@ -130,26 +102,22 @@ module _ (g : Sending → ℕ) where
 
 -- ---- one repository
 
--- what a message that is taken brings it, at these prices
-abbrev pub gain : Prices → CalmRun → ℕ → Sending → ℕ
-gain p r n s = gain-if (same_node s.post.to (repository n)) (price-if p (accepts n s.post.from s.post.message) s.post.message)
+module _ (a t s q : ℕ) where
+  -- what a message that is taken brings it
+  abbrev pub gain : ℕ → Sending → ℕ
+  gain n x = if-from (same_node x.post.to (repository n)) (if-from (accepts n x.post.from x.post.message) (price a t s q x.post.message))
 
--- a weight of messages, and what the log, the held reads and the askers count
-module _ (v : Message → ℕ) (rest : List Effect → List (TimeParts × HeldRead) → List Asker → ℕ) where
-  abbrev pub load-of : Hand → ℕ
-  load-of h = load v h.outs + rest (now h) h.held h.askers
+  -- what a life owes, stores, may ask for, holds and keeps
+  abbrev pub owes : Life → ℕ
+  owes l = load (wt a t s q) l.outs + rest a t s q (reverse (walks.all_effects l)) l.mind.hands.held l.mind.hands.askers
 
-  abbrev pub counted-in : World → ℕ → ℕ
-  counted-in w n = issued v w (repository n) + rest (log_of w (repository n)) (w.life (repository n)).mind.hands.held (w.life (repository n)).mind.hands.askers
-
-  module _ (p : Prices) (takes : (h : Hand) (from : NodeId) (m : Message) → load-of (on_message h from m) ≤ load-of h + price-if p (accepts h.number from m) m)
-      (learns : (h : Hand) (s : StampParts) (c : Bool) → load-of (on_learn h s c) ≤ load-of h) (blank : rest [] [] [] ≡ 0) (r : CalmRun) where
+  module _ (r : CalmRun) where
     abbrev b : Base
     b = steps.b r
 
-    -- THE INVARIANT: what it has sent, owes, stores, holds and keeps is paid by what it took
+    -- THE INVARIANT: that, with what it has sent, is paid by what it took
     abbrev pub IsPaidFor : World → ℕ → Type 0
-    IsPaidFor w n = counted-in w n ≤ used-in (gain p r n) w
+    IsPaidFor w n = sent-load (wt a t s q) (repository n) w.sendings + owes (w.life (repository n)) ≤ used-in (gain n) w
 
     module _ (w : World) (e : Entry) (f : Facts-at r w) (c : CalmWorld b w) (n : ℕ) (k : IsPaidFor w n) where
       abbrev w' : World
@@ -164,32 +132,22 @@ module _ (v : Message → ℕ) (rest : List Effect → List (TimeParts × HeldRe
 
       kept-paid : Kept w w' (repository n) → IsPaidFor w' n
       kept-paid same =
-          let x = same.issued v in
-          let y : rest (log_of w' (repository n)) (w'.life (repository n)).mind.hands.held (w'.life (repository n)).mind.hands.askers
-          ≡ rest (log_of w (repository n)) (w'.life (repository n)).mind.hands.held (w'.life (repository n)).mind.hands.askers =
-          ap (λ z. rest z (w'.life (repository n)).mind.hands.held (w'.life (repository n)).mind.hands.askers) same.log in
-          let z : rest (log_of w (repository n)) (w'.life (repository n)).mind.hands.held (w'.life (repository n)).mind.hands.askers
-          ≡ rest (log_of w (repository n)) (w.life (repository n)).mind.hands.held (w.life (repository n)).mind.hands.askers =
-          ap (λ m. rest (log_of w (repository n)) m.hands.held m.hands.askers) same.mind in
-          let u = used-on (gain p r n) b w e in
-          omega (arith, k, x, y, z, u)
+          let x = same.issued (wt a t s q) in
+          let y : rest a t s q (log_of w' (repository n)) (w'.life (repository n)).mind.hands.held (w'.life (repository n)).mind.hands.askers ≡ rest a t s q (log_of w (repository n)) (w.life (repository n)).mind.hands.held (w.life (repository n)).mind.hands.askers =
+          ap (λ z. rest a t s q z (w'.life (repository n)).mind.hands.held (w'.life (repository n)).mind.hands.askers) same.log ∙ ap (λ m. rest a t s q (log_of w (repository n)) m.hands.held m.hands.askers) same.mind in
+          let u = used-on (gain n) b w e in
+          omega (arith, k, x, y, u)
 
       -- a turn
-      turn-paid : (h : Hand) (most : ℕ) (l : Life) → l ≡ life-hand (w.life (repository n)) h → h.past ≡ log_of w (repository n) → Fed w w' (repository n) l → load-of h ≤ load-of hand0 + most →
-          used-in (gain p r n) w + most ≤ used-in (gain p r n) w' → IsPaidFor w' n
+      turn-paid : (h : Hand) (most : ℕ) (l : Life) → l ≡ life-hand (w.life (repository n)) h → h.past ≡ log_of w (repository n) → Fed w w' (repository n) l → measure a t s q h ≤ measure a t s q hand0 + most →
+          used-in (gain n) w + most ≤ used-in (gain n) w' → IsPaidFor w' n
       turn-paid h most l is base fed costs more =
-          let now' : w'.life (repository n) ≡ life-hand (w.life (repository n)) h = fed.life ∙ is in
-          let x : load v (w'.life (repository n)).outs ≡ load v ((w.life (repository n)).outs ++ h.outs) = ap (λ (y : Life). load v y.outs) now' in
-          let y = load-append v (w.life (repository n)).outs h.outs in
-          let s : sent-load v (repository n) w'.sendings ≡ sent-load v (repository n) w.sendings = ap (sent-load v (repository n)) fed.sendings in
-          let log : log_of w' (repository n) ≡ h.added ++ log_of w (repository n) =
-          ap (λ (y : Life). reverse (walks.all_effects y)) now' ∙ grown-log (w.life (repository n)).gated (w.life (repository n)).fresh h.added in
-          let t : rest (log_of w' (repository n)) (w'.life (repository n)).mind.hands.held (w'.life (repository n)).mind.hands.askers
-          ≡ rest (now h) (w'.life (repository n)).mind.hands.held (w'.life (repository n)).mind.hands.askers =
-          ap (λ z. rest z (w'.life (repository n)).mind.hands.held (w'.life (repository n)).mind.hands.askers) (log ∙ ap (λ z. h.added ++ z) (sym base)) in
-          let m : rest (now h) (w'.life (repository n)).mind.hands.held (w'.life (repository n)).mind.hands.askers ≡ rest (now h) h.held h.askers =
-          ap (λ (y : Life). rest (now h) y.mind.hands.held y.mind.hands.askers) now' in
-          omega (arith, k, costs, more, x, y, s, t, m)
+          let x : owes (w'.life (repository n)) ≡ owes (life-hand (w.life (repository n)) h) = ap owes (fed.life ∙ is) in
+          let y = load-append (wt a t s q) (w.life (repository n)).outs h.outs in
+          let z : sent-load (wt a t s q) (repository n) w'.sendings ≡ sent-load (wt a t s q) (repository n) w.sendings = ap (sent-load (wt a t s q) (repository n)) fed.sendings in
+          let m : rest a t s q (reverse (walks.all_effects (life-hand (w.life (repository n)) h))) h.held h.askers ≡ rest a t s q (now h) h.held h.askers =
+          ap (λ g. rest a t s q g h.held h.askers) (grown-log (w.life (repository n)).gated (w.life (repository n)).fresh h.added ∙ ap (λ g. h.added ++ g) (sym base)) in
+          omega (arith, k, costs, more, x, y, z, m)
 
       once : (number : ℕ) (may : MayTake (steps.fates r) w (repository n) number) → seen number w.taken ≡ false
       once number may = unseen number w.taken (zero-of (times_taken w number) (one number may.fated) may.fewer)
@@ -199,68 +157,51 @@ module _ (v : Message → ℕ) (rest : List Effect → List (TimeParts × HeldRe
           one (suc m) e = let x = every-at IsPlain (steps.fates r) m may.fate r.plain e in ap (λ k. min k 3) x.0
 
           zero-of : (x : ℕ) → copies_of may.fate ≡ 1 → x < copies_of may.fate → x ≡ 0
-          zero-of x q h = let l : x < 1 = subst (λ m. x < m) q h in omega (arith, l)
+          zero-of x p h = let l : x < 1 = subst (λ m. x < m) p h in omega (arith, l)
 
-      brings : (number : ℕ) (s : Sending) → numbered w.sendings number ≡ Some s → seen number w.taken ≡ false → used-in (gain p r n) w + gain p r n s ≤ used (gain p r n) 1 (number ∷ w.taken) w.sendings
-      brings zero s e off = absurd (cc e)
-      brings (suc i) s e off =
+      brings : (number : ℕ) (x : Sending) → numbered w.sendings number ≡ Some x → seen number w.taken ≡ false → used-in (gain n) w + gain n x ≤ used (gain n) 1 (number ∷ w.taken) w.sendings
+      brings zero x e off = absurd (cc e)
+      brings (suc i) x e off =
           let next : suc i ≡ 1 + i = omega arith in
-          let k = used-takes (gain p r n) 1 i w.taken w.sendings s e (subst (λ m. seen m w.taken ≡ false) next off) in
-          let same : used (gain p r n) 1 (suc i ∷ w.taken) w.sendings ≡ used (gain p r n) 1 ((1 + i) ∷ w.taken) w.sendings = ap (λ m. used (gain p r n) 1 (m ∷ w.taken) w.sendings) next in
+          let k = used-takes (gain n) 1 i w.taken w.sendings x e (subst (λ m. seen m w.taken ≡ false) next off) in
+          let same : used (gain n) 1 (suc i ∷ w.taken) w.sendings ≡ used (gain n) 1 ((1 + i) ∷ w.taken) w.sendings = ap (λ m. used (gain n) 1 (m ∷ w.taken) w.sendings) next in
           omega (arith, k, same)
 
       hand-takes : (from : NodeId) (m : Message) → after_input b (repository n) (w.life (repository n)) (Taking from m) ≡ life-hand (w.life (repository n)) (on_message hand0 from m)
       unfolding gives hands.gives
       hand-takes from m = refl
 
-      hand-learns : (s : StampParts) (d : Bool) → after_input b (repository n) (w.life (repository n)) (Learning s d) ≡ life-hand (w.life (repository n)) (on_learn hand0 s d)
+      hand-learns : (x : StampParts) (d : Bool) → after_input b (repository n) (w.life (repository n)) (Learning x d) ≡ life-hand (w.life (repository n)) (on_learn hand0 x d)
       unfolding gives hands.gives
-      hand-learns s d = refl
+      hand-learns x d = refl
 
       take-case : (number : ℕ) (may : MayTake (steps.fates r) w (repository n) number) → w'.taken ≡ number ∷ w.taken → (w'.flags (repository n)).gone ≡ (w.flags (repository n)).gone →
           Fed w w' (repository n) (after_input b (repository n) (w.life (repository n)) (Taking may.sending.post.from may.sending.post.message)) → IsPaidFor w' n
       take-case number may ks gone fed =
-          let from0 : NodeId = may.sending.post.from in
-          let m0 : Message = may.sending.post.message in
-          let sent : Has (record { from = may.sending.post.from; to = repository n; message = may.sending.post.message }) (sent_by w) =
-          subst (λ z'. Has (record { from = may.sending.post.from; to = z'; message = may.sending.post.message }) (sent_by w)) may.to (numbered-has (λ (x : Sending). x.post) w.sendings number may.sending may.sent) in
+          let sent = came-sent b w c (repository n) number (steps.fates r) may in
           let base = (take-fine (sent_by w) n (log_of w (repository n)) hand0 may.sending.post.from may.sending.post.message sent (begun-fine (sent_by w) n (log_of w (repository n)) (w.life (repository n)).mind.hands (reads may.up))).past in
-          let to : same_node may.sending.post.to (repository n) ≡ true = subst (λ z'. same_node z' (repository n) ≡ true) (sym may.to) (same_node-refl (repository n)) in
-          let worth : gain p r n may.sending ≡ price-if p (accepts n may.sending.post.from may.sending.post.message) may.sending.post.message =
-          ap (λ t. gain-if t (price-if p (accepts n may.sending.post.from may.sending.post.message) may.sending.post.message)) to in
+          let to : same_node may.sending.post.to (repository n) ≡ true = subst (λ z. same_node z (repository n) ≡ true) (sym may.to) (same_node-refl (repository n)) in
+          let worth : gain n may.sending ≡ if-from (accepts n may.sending.post.from may.sending.post.message) (price a t s q may.sending.post.message) =
+          ap (λ c. if-from c (if-from (accepts n may.sending.post.from may.sending.post.message) (price a t s q may.sending.post.message))) to in
           let grows = brings number may.sending may.sent (once number may) in
-          let after : used-in (gain p r n) w' ≡ used (gain p r n) 1 (number ∷ w.taken) w.sendings = ap (λ ks. used (gain p r n) 1 ks w'.sendings) ks ∙ ap (used (gain p r n) 1 (number ∷ w.taken)) fed.sendings in
-          turn-paid (on_message hand0 may.sending.post.from may.sending.post.message) (price-if p (accepts n may.sending.post.from may.sending.post.message) may.sending.post.message)
+          let after : used-in (gain n) w' ≡ used (gain n) 1 (number ∷ w.taken) w.sendings = ap (λ ks. used (gain n) 1 ks w'.sendings) ks ∙ ap (used (gain n) 1 (number ∷ w.taken)) fed.sendings in
+          turn-paid (on_message hand0 may.sending.post.from may.sending.post.message) (if-from (accepts n may.sending.post.from may.sending.post.message) (price a t s q may.sending.post.message))
           (after_input b (repository n) (w.life (repository n)) (Taking may.sending.post.from may.sending.post.message)) (hand-takes may.sending.post.from may.sending.post.message) base fed
-          (takes hand0 may.sending.post.from may.sending.post.message) (omega (arith, worth, grows, after))
+          (taken a t s q hand0 may.sending.post.from may.sending.post.message) (omega (arith, worth, grows, after))
 
-      learn-case : (s : StampParts) (d : Bool) → MayLearn w (repository n) s d → Fed w w' (repository n) (after_input b (repository n) (w.life (repository n)) (Learning s d)) → IsPaidFor w' n
-      learn-case s d may fed =
-          let base = (on-learn-fine (sent_by w) n (log_of w (repository n)) hand0 s d (begun-fine (sent_by w) n (log_of w (repository n)) (w.life (repository n)).mind.hands (reads may.up))).past in
-          let u = used-on (gain p r n) b w e in
-          let l = learns hand0 s d in
-          turn-paid (on_learn hand0 s d) 0 (after_input b (repository n) (w.life (repository n)) (Learning s d)) (hand-learns s d) base fed (omega (arith, l)) (omega (arith, u))
+      learn-case : (x : StampParts) (d : Bool) → MayLearn w (repository n) x d → Fed w w' (repository n) (after_input b (repository n) (w.life (repository n)) (Learning x d)) → IsPaidFor w' n
+      learn-case x d may fed =
+          let base = (on-learn-fine (sent_by w) n (log_of w (repository n)) hand0 x d (begun-fine (sent_by w) n (log_of w (repository n)) (w.life (repository n)).mind.hands (reads may.up))).past in
+          let u = used-on (gain n) b w e in
+          let l = learnt a t s q hand0 x d in
+          turn-paid (on_learn hand0 x d) 0 (after_input b (repository n) (w.life (repository n)) (Learning x d)) (hand-learns x d) base fed (omega (arith, l)) (omega (arith, u))
 
       paid-case : IsUnstopped e → Rule b (steps.fates r) w e → IsPaidFor w' n
-      paid-case q rule = by-entry r w f c (IsPaidFor w' n) e (repository n) q rule (record { kept = kept-paid; takes = take-case; goes = λ may gone fed. absurd (false≢true may.broker); learns = learn-case })
+      paid-case p rule = by-entry r w f c (IsPaidFor w' n) e (repository n) p rule (record { kept = kept-paid; takes = take-case; goes = λ may gone fed. absurd (false≢true may.broker); learns = learn-case })
 
     start-paid : (n : ℕ) → IsPaidFor (start_world b) n
-    start-paid n =
-        let x : load v ((start_world b).life (repository n)).outs ≡ 0 = ap (λ (l : Life). load v l.outs) (steps.empty-life r (repository n)) in
-        let y : rest (log_of (start_world b) (repository n)) ((start_world b).life (repository n)).mind.hands.held ((start_world b).life (repository n)).mind.hands.askers ≡ rest [] [] [] =
-        ap (λ (l : Life). rest (reverse (walks.all_effects l)) l.mind.hands.held l.mind.hands.askers) (steps.empty-life r (repository n)) in
-        omega (arith, x, y, blank)
+    start-paid n = let x : owes ((start_world b).life (repository n)) ≡ 0 = ap owes (steps.empty-life r (repository n)) in omega (arith, x)
 
   -- at each place
-  pub all-paid : (p : Prices) → ((h : Hand) (from : NodeId) (m : Message) → load-of (on_message h from m) ≤ load-of h + price-if p (accepts h.number from m) m) →
-      ((h : Hand) (s : StampParts) (c : Bool) → load-of (on_learn h s c) ≤ load-of h) → rest [] [] [] ≡ 0 → (place : CalmPlace) (n : ℕ) → counted-in (world_at place) n ≤ used-in (gain p place.run n) (world_at place)
-  all-paid p takes learns blank place =
-      steps.always place (λ w. (n : ℕ) → counted-in w n ≤ used-in (gain p place.run n) w) (start-paid p takes learns blank place.run)
-      (λ w e f c q rule k n. paid-case p takes learns blank place.run w e f c n (k n) q rule)
-
--- what the log stores, and what is held and kept, at these prices
-abbrev pub rest-of : Prices → List Effect → List (TimeParts × HeldRead) → List Asker → ℕ
-rest-of p log held askers = stored-load p log + (times p.kh held + times p.ka askers)
-
-pub all-priced : (p : Prices) (place : CalmPlace) (n : ℕ) → counted-in p.wt (rest-of p) (world_at place) n ≤ used-in (gain p place.run n) (world_at place)
-all-priced p place n = all-paid p.wt (rest-of p) p (taken p) (learnt p) (omega arith) place n
+  pub all-paid : (p : CalmPlace) (n : ℕ) → IsPaidFor p.run (world_at p) n
+  all-paid p = steps.always p (λ w. (n : ℕ) → IsPaidFor p.run w n) (start-paid p.run) (λ w e f c q rule k n. paid-case p.run w e f c n (k n) q rule)

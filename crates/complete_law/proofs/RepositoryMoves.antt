@@ -2,66 +2,24 @@
 use Rattle.std.proofs.Common.{◌≡◌, ◌⊎◌, ℕ, ◌==◌, Bool, true, false, ◌&&◌, List, [], ◌∷◌, ◌++◌, reverse, refl, sym, ◌∙◌, ap, subst, Option, Some, None, if◌then◌else◌, inl, inr}
 use Rattle.std.proofs.lemmas.Bool.{eq-eqb, false≢true}
 use Rattle.std.proofs.lemmas.List.{reverse-append}
-use Rattle.pseudo_time.specs.Lists.{Every, Has}
-use Rattle.pseudo_time.proofs.ListLemmas.{every-has, has-right}
-use Rattle.pseudo_time.specs.StampParts.{StampParts}
-use Rattle.pseudo_time.specs.TimeParts.{TimeParts}
-use Rattle.pseudo_time.specs.declared.nodes.NodeId.{NodeId}
-use Rattle.pseudo_time.specs.declared.nodes.NodeKind.{NodeKind}
+use Rattle.complete_law.proofs.Names.{Every, Has, has-left, every-has, has-right, StampParts, TimeParts, NodeId, NodeKind, ObjectId, Effect, Message, Out, Post, post, eq-from, Fate, ToRead, HeldRead, Hand, now, accepts, is_broker_of, on_learn, on_message, waits_for, known, hand_at, HasBegun, HeldHolds, broker-is, and-left, and-right, begun-fine, on-learn-fine, take-fine, Ignored, row, news, desk_at, state, book, tries, stage, repository, broker, one-request, gives, Learning, Taking, Base, Flags, Life, World, sent_by, step, after_input, all_effects, MayTake, LogFacts, Refines, logs_at, soft_of, kind_post, node_turns, node_facts, NodeOk, SentOk, around, happened, each-has, every-of, node-laws, facts-of, Waits, read_to, Askers, Keeps, ask_of, tell_of, has-record}
 use Rattle.pseudo_time.specs.declared.nodes.NodeKind.TheVariants as kind
-use Rattle.value_form.specs.declared.objects.ObjectId.{ObjectId}
-use Rattle.effect_form.specs.declared.effects.Effect.{Effect}
 use Rattle.effect_form.specs.declared.effects.Effect.TheVariants as effect
-use Rattle.message_form.specs.declared.messages.Message.{Message}
 use Rattle.message_form.specs.declared.messages.Message.TheVariants as message
-use Rattle.message_form.specs.declared.turns.Out.{Out}
-use Rattle.message_form.specs.Posts.{Post, post}
-use Rattle.pseudo_time.specs.Nodes.{same_node}
-use Rattle.message_core.proofs.NodeLemmas.{same_node-refl}
-use Rattle.object_history.proofs.ObjectLemmas.{eq-from}
-use Rattle.stream_port.specs.declared.fates.Fate.{Fate}
-use Rattle.script_meaning.specs.Meaning.{ToRead}
-use Rattle.repository_core.specs.declared.waits.HeldRead.{HeldRead}
-use Rattle.repository_core.specs.Hands.{Hand, now}
-use Rattle.repository_core.specs.Rows.{accepts, is_broker_of, on_learn, on_message, waits_for}
-use Rattle.repository_log.specs.Logs.{known}
 use Rattle.repository_core.specs.Turns as hands
-use Rattle.repository_core.specs.Turns.{hand_at}
-use Rattle.repository_laws.specs.Facts.{HasBegun, HeldHolds, ReadSent}
+use Rattle.repository_laws.specs.Facts.{ReadSent}
 use Rattle.repository_laws.specs.AnyLogs.{RefusesRightly}
-use Rattle.repository_laws.proofs.Turns.{broker-is}
-use Rattle.object_history.proofs.BoolLemmas.{and-left, and-right}
 use Rattle.complete_law.proofs.Idles.{waits-has}
 use Rattle.repository_laws.proofs.KnownSteps.{on-learn-known}
-use Rattle.repository_laws.proofs.AnyTurns.{begun-fine, on-learn-fine, take-fine}
-use Rattle.broker_core.specs.declared.replies.Reply.TheVariants.{Ignored}
-use Rattle.broker_core.specs.Rows.{row, news}
-use Rattle.broker_core.specs.Turns.{desk_at, state}
-use Rattle.broker_core.specs.Book.{book, tries}
-use Rattle.broker_core.specs.Stages.{stage}
-use Rattle.pseudo_time.specs.Nodes.{repository, broker}
-use Rattle.broker_laws.proofs.Found.{one-request}
-use Rattle.message_core.specs.Tallies.{count}
 use Rattle.world_core.specs.declared.entries.Entry.TheVariants as entry
-use Rattle.world_core.specs.Nodes.{gives}
-use Rattle.world_core.specs.Nodes.Input.{Learning, Taking}
-use Rattle.world_core.specs.Walks.{Base, Flags, Life, Sending, World, flagged, learned, lives_on, numbered, sent_by, step, after_input, took, all_effects}
-use Rattle.world_core.specs.Legal.{MayTake, times_taken}
-use Rattle.serial_law.specs.Refines.{LogFacts, Refines, logs_at, soft_of}
-use Rattle.serial_law.specs.NodeRules.{kind_post, node_turns, node_facts}
-use Rattle.serial_law.specs.Soft.{NodeOk, SentOk, around, happened}
-use Rattle.serial_law.proofs.Growths.{numbered-has, each-has, every-of}
-use Rattle.serial_law.proofs.NodeLaws.{node-laws}
-use Rattle.serial_law.proofs.Openings.{facts-of}
-use Rattle.repository_laws.specs.Waits.{Waits}
-use Rattle.complete_law.specs.AtRest.{read_to}
-use Rattle.repository_laws.proofs.AskerSteps.{Askers, on-learn-askers, on-message-askers}
-use Rattle.complete_law.proofs.BrokerMoves.{node-there, not-same, other-copies, parted}
+use Rattle.world_core.specs.Walks.{learned}
+use Rattle.repository_laws.proofs.AskerSteps.{on-learn-askers, on-message-askers}
+use Rattle.complete_law.proofs.BrokerMoves.{node-there}
+use Rattle.complete_law.proofs.Frames.{came-sent, one-turn, take-turn}
 use Rattle.complete_law.proofs.BrokerServices.{serves-broker}
-use Rattle.repository_laws.proofs.ReadSteps.{Asks, Keeps, begins, on-learn-keeps, on-message-keeps}
-use Rattle.repository_laws.specs.Waits.{ask_of, tell_of}
-use Rattle.complete_law.proofs.Places.{log_of, held_of, AskedFor, Flying, Heeds, IsBegun, Placed, standing_in, tasks_of, CalmWorld, all-off, both-on}
-use Rattle.repository_laws.proofs.AskServices.{ask-serves, has-record}
+use Rattle.repository_laws.proofs.ReadSteps.{Asks, begins, on-learn-keeps, on-message-keeps}
+use Rattle.complete_law.proofs.Places.{log_of, held_of, AskedFor, Flying, Heeds, IsBegun, Placed, standing_in, tasks_of, CalmWorld}
+use Rattle.repository_laws.proofs.AskServices.{ask-serves}
 use Rattle.complete_law.proofs.RepositoryEntries.{Turned, broker-life, life-hand, log-here, owed-flies, turned-calm, waits-there}
 
 abbrev known-in : List Effect → StampParts → Option Bool
@@ -71,9 +29,9 @@ tell-known : (h : Hand) (s : StampParts) (c : Bool) → (x : Bool) × (known (no
 unfolding on_message
 tell-known h s c = subst (λ t. (x : Bool) × (known (now (if t then on_learn h s c else h)) s ≡ Some x)) (sym (eq-eqb s.home s.home refl)) (on-learn-known s h c)
 
-learned-known : (k : NodeKind) (x : Flags) → ((learned k x).up ≡ x.up) × ((learned k x).known ≡ x.known) × ((learned k x).gone ≡ x.gone)
-learned-known kind.Repository x = (refl, refl, refl)
-learned-known kind.Broker x = (refl, refl, refl)
+learned-known : (k : NodeKind) (x : Flags) → ((learned k x).up ≡ x.up) × ((learned k x).known ≡ x.known)
+learned-known kind.Repository x = (refl, refl)
+learned-known kind.Broker x = (refl, refl)
 
 -- what a read waits for has begun at its home, with what isn't gated there
 begun-whole : (b : Base) (w : World) (calm : CalmWorld b w) (f : Refines (node_turns b.script) (node_facts b.script) b (λ n. []) (λ n. []) [] (λ t. ⊥) w) (r : ℕ) (s : StampParts) → waits_for s (held_of w r) ≡ true → HasBegun s (log_of w (repository s.home))
@@ -144,36 +102,11 @@ module _ (b : Base) (w : World) (calm : CalmWorld b w) (f : Refines (node_turns 
 
       learn-turned : Turned w lw n h (λ p. ⊥)
       learn-turned = record {
-        here = both-on (same_node (repository n) (repository n)) (w.flags (repository n)).known (lives_on b w (repository n) (w.life (repository n)) (entry.Learn (repository n) s committed)) (w.life (repository n)) (same_node-refl (repository n)) opened ∙ learns;
-        there = λ m. elim (parted b w calm f (repository n) m) [
-          | inl e ↦ inl e
-          | inr ne ↦ inr (ne, all-off (same_node (repository n) m) (w.flags m).known (lives_on b w m (w.life m) (entry.Learn (repository n) s committed)) (w.life m) (not-same b w calm f (repository n) m ne))
-        ];
-        sendings = refl;
-        ticks = refl;
-        ups = λ m. one-up m (same_node (repository n) m && (w.flags m).known);
-        knowns = λ m. one-known m (same_node (repository n) m && (w.flags m).known);
-        mine = opened;
-        due = ap (λ (x : Flags). x.due) (both-on (same_node (repository n) (repository n)) (w.flags (repository n)).known (flagged w.last (repository n).kind (w.flags (repository n)) (entry.Learn (repository n) s committed)) (w.flags (repository n)) (same_node-refl (repository n)) opened);
-        dues = λ m ne. ap (λ (x : Flags). x.due) (all-off (same_node (repository n) m) (w.flags m).known (flagged w.last m.kind (w.flags m) (entry.Learn (repository n) s committed)) (w.flags m) (not-same b w calm f (repository n) m ne));
-        gones = λ m. one-gone m (same_node (repository n) m && (w.flags m).known);
-        copies = λ j x at z. inl z;
-        untaken = calm.untaken;
+        turn = one-turn b w calm (repository n) (entry.Learn (repository n) s committed) (λ m. refl) (calm.ups (repository n) ∙ opened) learned-known refl refl refl (life-hand (w.life (repository n)) h) (λ p. ⊥) learns
+            (λ o i. has-left (w.life (repository n)).outs h.outs o i) (λ j x at none. inl none) calm.untaken;
         past = fine.past;
         number = fine.number;
       }
-        where
-          one-up : (m : NodeId) (t : Bool) → (if t then flagged w.last m.kind (w.flags m) (entry.Learn (repository n) s committed) else w.flags m).up ≡ (w.flags m).up
-          one-up m true = (learned-known m.kind (w.flags m)).0
-          one-up m false = refl
-
-          one-known : (m : NodeId) (t : Bool) → (if t then flagged w.last m.kind (w.flags m) (entry.Learn (repository n) s committed) else w.flags m).known ≡ (w.flags m).known
-          one-known m true = (learned-known m.kind (w.flags m)).1
-          one-known m false = refl
-
-          one-gone : (m : NodeId) (t : Bool) → (if t then flagged w.last m.kind (w.flags m) (entry.Learn (repository n) s committed) else w.flags m).gone ≡ (w.flags m).gone
-          one-gone m true = (learned-known m.kind (w.flags m)).2
-          one-gone m false = refl
 
       pub learn-calm : CalmWorld b lw
       learn-calm =
@@ -203,58 +136,17 @@ module _ (b : Base) (w : World) (calm : CalmWorld b w) (f : Refines (node_turns 
       takes = refl
 
       was-sent : Has (record { from = from0; to = repository n; message = m0 }) (sent_by w)
-      was-sent = subst (λ z. Has (record { from = from0; to = z; message = m0 }) (sent_by w)) may.to (numbered-has (λ (x : Sending). x.post) w.sendings k may.sending may.sent)
+      was-sent = came-sent b w calm (repository n) k fates may
 
       t-fine : RefusesRightly (sent_by w) n (log_of w (repository n)) th
       t-fine = take-fine (sent_by w) n (log_of w (repository n)) old from0 m0 was-sent (begun-fine (sent_by w) n (log_of w (repository n)) (w.life (repository n)).mind.hands reads)
 
       take-turned : Turned w tw n th Taken
       take-turned = record {
-        here = both-on (same_node (repository n) (repository n)) (w.flags (repository n)).known (lives_on b w (repository n) (w.life (repository n)) (entry.Take (repository n) k)) (w.life (repository n)) (same_node-refl (repository n)) opened
-            ∙ ap (took b (repository n) (w.life (repository n))) may.sent ∙ takes;
-        there = λ m. elim (parted b w calm f (repository n) m) [
-          | inl e ↦ inl e
-          | inr ne ↦ inr (ne, all-off (same_node (repository n) m) (w.flags m).known (lives_on b w m (w.life m) (entry.Take (repository n) k)) (w.life m) (not-same b w calm f (repository n) m ne))
-        ];
-        sendings = refl;
-        ticks = refl;
-        ups = λ m. one-up m (same_node (repository n) m && (w.flags m).known);
-        knowns = λ m. one-known m (same_node (repository n) m && (w.flags m).known);
-        mine = opened;
-        due = ap (λ (x : Flags). x.due) (both-on (same_node (repository n) (repository n)) (w.flags (repository n)).known (flagged w.last (repository n).kind (w.flags (repository n)) (entry.Take (repository n) k)) (w.flags (repository n)) (same_node-refl (repository n)) opened);
-        dues = λ m ne. ap (λ (x : Flags). x.due) (all-off (same_node (repository n) m) (w.flags m).known (flagged w.last m.kind (w.flags m) (entry.Take (repository n) k)) (w.flags m) (not-same b w calm f (repository n) m ne));
-        gones = λ m. one-gone m (same_node (repository n) m && (w.flags m).known);
-        copies = λ j s at z. one j s at z (k == j) refl;
-        untaken = none;
+        turn = take-turn b w calm (repository n) k fates may (life-hand (w.life (repository n)) th) takes (λ o i. has-left (w.life (repository n)).outs th.outs o i);
         past = t-fine.past;
         number = t-fine.number;
       }
-        where
-          one-up : (m : NodeId) (t : Bool) → (if t then flagged w.last m.kind (w.flags m) (entry.Take (repository n) k) else w.flags m).up ≡ (w.flags m).up
-          one-up m true = refl
-          one-up m false = refl
-
-          one-known : (m : NodeId) (t : Bool) → (if t then flagged w.last m.kind (w.flags m) (entry.Take (repository n) k) else w.flags m).known ≡ (w.flags m).known
-          one-known m true = refl
-          one-known m false = refl
-
-          one-gone : (m : NodeId) (t : Bool) → (if t then flagged w.last m.kind (w.flags m) (entry.Take (repository n) k) else w.flags m).gone ≡ (w.flags m).gone
-          one-gone m true = refl
-          one-gone m false = refl
-
-          one : (j : ℕ) (s : Sending) → numbered w.sendings j ≡ Some s → times_taken w j ≡ 0 → (t : Bool) → (k == j) ≡ t → (count j (k ∷ w.taken) ≡ 0) ⊎ Taken s.post
-          one j s at z false e = inl (other-copies k j w.taken e ∙ z)
-          one j s at z true e =
-              let q : Some may.sending ≡ Some s = sym may.sent ∙ ap (numbered w.sendings) (eq-from k j e) ∙ at in
-              let is : may.sending ≡ s = cc q in
-              inr (ap (λ (x : Sending). x.post) (sym is) ∙ ap (λ z. let p : Post = record { from = from0; to = z; message = m0 } in p) may.to)
-
-          none : (j : ℕ) → numbered w.sendings j ≡ None → count j (k ∷ w.taken) ≡ 0
-          none j e = go (k == j) refl
-            where
-              go : (t : Bool) → (k == j) ≡ t → count j (k ∷ w.taken) ≡ 0
-              go false q = other-copies k j w.taken q ∙ calm.untaken j e
-              go true q = let nothing : Some may.sending ≡ None = sym may.sent ∙ ap (numbered w.sendings) (eq-from k j q) ∙ e in absurd (cc nothing)
 
       -- a Read that is taken was sent by the broker of its attempt
       reads-so : accepts n from0 m0 ≡ true → Asks R agree old from0 m0
@@ -306,7 +198,7 @@ module _ (b : Base) (w : World) (calm : CalmWorld b w) (f : Refines (node_turns 
           held-here : (x : TimeParts) (y : HeldRead) → o ≡ read_to x y.object → Has (x, y) th.held → Has (x, y) (held_of tw y.object.repository)
           held-here x y q h =
               let r : y.object.repository ≡ n = ap (λ (z : NodeId). z.number) (ap (λ (z : Out). z.to) (sym q) ∙ at-n) in
-              subst (λ z. Has (x, y) (held_of tw z)) (sym r) (subst (λ (l : Life). Has (x, y) l.mind.hands.held) (sym take-turned.here) h)
+              subst (λ z. Has (x, y) (held_of tw z)) (sym r) (subst (λ (l : Life). Has (x, y) l.mind.hands.held) (sym take-turned.turn.here) h)
 
       ask-served : (r : ℕ) (s : StampParts) → Taken (post (repository r) (ask_of s)) → waits_for s (held_of w r) ≡ true → (s.home == r) ≡ false → AskedFor tw r s
       ask-served r s t u q =
@@ -319,7 +211,7 @@ module _ (b : Base) (w : World) (calm : CalmWorld b w) (f : Refines (node_turns 
           subst (λ z. Has (record { repository = r; stamp = s }) (on_message old z m0).askers ⊎ ((c : Bool) × Has (tell_of (record { repository = r; stamp = s }) c) (on_message old z m0).outs)) (sym from-is)
           (subst (λ m. Has (record { repository = r; stamp = s }) (on_message old (repository r) m).askers ⊎ ((c : Bool) × Has (tell_of (record { repository = r; stamp = s }) c) (on_message old (repository r) m).outs)) (sym m-is) serves) in
           elim in-hand [
-            | inl a ↦ inr (inl (subst (λ z. Has (record { repository = r; stamp = s }) (tw.life (repository z)).mind.hands.askers) (sym home) (subst (λ (l : Life). Has (record { repository = r; stamp = s }) l.mind.hands.askers) (sym take-turned.here) a)))
+            | inl a ↦ inr (inl (subst (λ z. Has (record { repository = r; stamp = s }) (tw.life (repository z)).mind.hands.askers) (sym home) (subst (λ (l : Life). Has (record { repository = r; stamp = s }) l.mind.hands.askers) (sym take-turned.turn.here) a)))
             | inr c ↦ inr (inr (c.0, subst (λ z. Flying tw (repository z) (tell_of (record { repository = r; stamp = s }) c.0)) (sym home) (owed-flies b w tw n th Taken take-turned calm R agree (tell_of (record { repository = r; stamp = s }) c.0) c.1)))
           ]
 

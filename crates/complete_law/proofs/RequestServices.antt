@@ -1,29 +1,12 @@
 -- A request that stands, when its repository takes it, is answered so that its broker heeds it, or it is a read that is held.
 use Rattle.std.proofs.Common.{◌≡◌, ℕ, ◌==◌, true, List, refl, sym, ◌∙◌, ap, subst, Option, Some, None, if◌then◌else◌}
 use Rattle.std.proofs.lemmas.Bool.{eq-eqb, and_from}
-use Rattle.pseudo_time.specs.Lists.{Has}
-use Rattle.pseudo_time.specs.declared.decisions.Decision.{Decision}
+use Rattle.complete_law.proofs.Names.{Has, Decision, NodeId, RecordState, ObjectId, Value, Message, ToWrite, Tree, Hand, now, record_of, accepts, on_message, Heard, Ignored, Try, time_of, stop_of, Stage, Opening, Asking, Finishing, Closing, is_finished, repository, broker, PostHolds}
 use Rattle.pseudo_time.specs.declared.decisions.Decision.TheVariants as decision
-use Rattle.pseudo_time.specs.declared.nodes.NodeId.{NodeId}
-use Rattle.commit_record.specs.declared.states.RecordState.{RecordState}
 use Rattle.commit_record.specs.declared.states.RecordState.TheVariants as state
-use Rattle.value_form.specs.declared.objects.ObjectId.{ObjectId}
-use Rattle.value_form.specs.declared.values.Value.{Value}
-use Rattle.message_form.specs.declared.messages.Message.{Message}
 use Rattle.message_form.specs.declared.messages.Message.TheVariants as message
-use Rattle.script_meaning.specs.Meaning.{ToWrite}
-use Rattle.serial_model.specs.Questions.{Tree}
-use Rattle.repository_core.specs.Hands.{Hand, now}
-use Rattle.repository_log.specs.Logs.{record_of}
-use Rattle.repository_core.specs.Rows.{accepts, on_message, row}
-use Rattle.broker_core.specs.declared.heards.Heard.{Heard}
-use Rattle.broker_core.specs.declared.replies.Reply.TheVariants.{Ignored}
-use Rattle.broker_core.specs.Book.{Try, time_of}
-use Rattle.broker_core.specs.Fits.{stop_of}
+use Rattle.repository_core.specs.Rows.{row}
 use Rattle.broker_core.specs.Rows as rows
-use Rattle.broker_core.specs.Stages.{Stage, Opening, Asking, Finishing, Closing, is_finished}
-use Rattle.pseudo_time.specs.Nodes.{repository, broker}
-use Rattle.broker_laws.specs.Posts.{PostHolds}
 use Rattle.complete_law.proofs.Answering.{BeginAnswers, CloseAnswers, heeds-begun, heeds-close, heeds-commit, heeds-early, heeds-write, on-begin-answers, on-close-answers, on-write-answers}
 
 -- the repository that a request goes to accepts it

@@ -1,40 +1,14 @@
 -- Of nodes at rest every broker is done: a read waits for a smaller stamp alone, so the broker of the least stamp that is waited for would have an answer due.
 use Rattle.std.proofs.Common.{◌≡◌, ◌≢◌, ◌⊎◌, ℕ, nat_lt, Bool, true, false, ◌&&◌, ◌||◌, List, [], ◌∷◌, ◌++◌, refl, sym, ◌∙◌, ap, subst, Option, Some, None, if◌then◌else◌, inl, inr}
 use Rattle.std.proofs.lemmas.Bool.{false≢true, eq-eqb, or_right}
-use Rattle.pseudo_time.specs.Lists.{Every, Has}
-use Rattle.pseudo_time.specs.StampParts.{StampParts}
-use Rattle.pseudo_time.specs.TimeParts.{TimeParts}
-use Rattle.pseudo_time.specs.Order.{same_stamp, stamp_lt, lt}
-use Rattle.pseudo_time.proofs.OrderLemmas.{same_stamp-is, same_stamp-self, lt-own}
+use Rattle.complete_law.proofs.Names.{Every, Has, StampParts, TimeParts, same_stamp, stamp_lt, lt, same_stamp-is, same_stamp-self, ObjectId, Outcome, Out, ToRead, ToWrite, Stop, Asks, Over, Tree, HeldRead, waits_for, WriteSent, InRange, Heard, Act, Book, Try, book, tries, tries_of, find, front, last_try, open_try, open_of, open_front, time_of, is_none, stop_of, Stage, Idle, Refused, Opening, Asking, Finishing, Stopping, Closing, by_stop, by_last, of_open, stage_of, stage, standing, is_asking, is_closed, no_answer, repository, owed, by_stage, Task, is_stamp, is_time, desk_at, state, kept, each-found, StageOk, stage-ok, if-open, Waits, DecidedAt, standing_at, is_done, read_to, AtRest}
+use Rattle.pseudo_time.proofs.OrderLemmas.{lt-own}
 use Rattle.value_form.specs.declared.endings.Ending.TheVariants as ending
-use Rattle.value_form.specs.declared.objects.ObjectId.{ObjectId}
 use Rattle.effect_form.specs.declared.effects.Effect.TheVariants as effect
-use Rattle.effect_form.specs.declared.outcomes.Outcome.{Outcome}
 use Rattle.message_form.specs.declared.messages.Message.TheVariants as message
-use Rattle.message_form.specs.declared.turns.Out.{Out}
-use Rattle.script_meaning.specs.Meaning.{ToRead, ToWrite, Stop, Asks, Over}
-use Rattle.serial_model.specs.Questions.{Tree}
-use Rattle.repository_core.specs.declared.waits.HeldRead.{HeldRead}
-use Rattle.repository_core.specs.Rows.{waits_for}
-use Rattle.repository_laws.specs.Facts.{WriteSent}
-use Rattle.plan_form.specs.Plans.{InRange}
-use Rattle.broker_core.specs.declared.heards.Heard.{Heard}
-use Rattle.broker_core.specs.Book.{Act, Book, Try, book, tries, tries_of, find, front, last_try, open_try, open_of, open_front, time_of}
-use Rattle.broker_core.specs.Fits.{is_none, stop_of}
-use Rattle.broker_core.specs.Stages.{Stage, Idle, Refused, Opening, Asking, Finishing, Stopping, Closing, by_stop, by_last, of_open, stage_of, stage, standing, is_asking, is_closed, is_settled, no_answer}
-use Rattle.pseudo_time.specs.Nodes.{repository}
-use Rattle.broker_core.specs.Owed.{owed, by_stage}
-use Rattle.broker_core.specs.Tasks.{Task}
-use Rattle.broker_core.specs.Tests.{is_stamp, is_time}
-use Rattle.broker_core.specs.Turns.{desk_at, state}
-use Rattle.broker_laws.proofs.Kept.{kept}
-use Rattle.broker_laws.proofs.Found.{each-found}
+use Rattle.broker_core.specs.Stages.{is_settled}
 use Rattle.broker_laws.proofs.LastTry.{last-is-open}
-use Rattle.broker_laws.proofs.Desks.{StageOk, stage-ok}
-use Rattle.broker_laws.proofs.Moves.{if-open}
 use Rattle.broker_laws.proofs.Done.{rested-done}
-use Rattle.repository_laws.specs.Waits.{Waits}
-use Rattle.complete_law.specs.AtRest.{DecidedAt, standing_at, is_done, read_to, AtRest}
 use Rattle.complete_law.proofs.Descents.{Below, below, never}
 use Rattle.complete_law.proofs.Ranges.{same-run}
 

@@ -5,24 +5,12 @@ use Rattle.std.proofs.lemmas.Bool.{false≢true}
 use Rattle.std.specs.Ordering.{nat_cmp, ordering_then, is_lt}
 use Rattle.std.specs.declared.cmp.Ordering.{Ordering}
 use Rattle.std.specs.declared.cmp.Ordering.TheVariants.{Less, Equal, Greater}
-use Rattle.pseudo_time.specs.Lists.{Every, Has}
-use Rattle.pseudo_time.proofs.ListLemmas.{every-has, has-either}
-use Rattle.pseudo_time.specs.StampParts.{StampParts}
-use Rattle.pseudo_time.specs.TimeParts.{TimeParts}
-use Rattle.pseudo_time.specs.Order.{lt, same_stamp, stamp_lt}
-use Rattle.pseudo_time.proofs.OrderLemmas.{lt-stamps, lt-steps, same_stamp-is}
-use Rattle.effect_form.specs.declared.effects.Effect.{Effect}
+use Rattle.complete_law.proofs.Names.{Every, Has, every-has, has-either, StampParts, TimeParts, lt, same_stamp, stamp_lt, same_stamp-is, Effect, Outcome, Answer, Got, Request, Stored, Tree, Act, Book, Try, book, close, enter, find, finish, gain, on_try, open_of, tries, tries_of, EndFits, FitsBook, IsTidy, MayTry, Clocks, IsAskOf, IsBelow, older, each-found, clocks}
+use Rattle.pseudo_time.proofs.OrderLemmas.{lt-stamps, lt-steps}
 use Rattle.effect_form.specs.declared.effects.Effect.TheVariants as effect
-use Rattle.effect_form.specs.declared.outcomes.Outcome.{Outcome}
 use Rattle.effect_form.specs.declared.outcomes.Outcome.TheVariants as outcome
-use Rattle.script_meaning.specs.Meaning.{Answer, Got, Request, Stored}
-use Rattle.serial_model.specs.Questions.{Tree}
-use Rattle.broker_core.specs.Book.{Act, Book, Try, book, close, enter, find, finish, gain, on_try, open_of, tries, tries_of}
-use Rattle.broker_laws.specs.Fits.{EndFits, FitsBook, IsTidy, MayTry}
-use Rattle.broker_laws.specs.Posts.{Clocks, IsAskOf, IsBelow}
-use Rattle.broker_laws.specs.Waits.{Trail, older}
-use Rattle.broker_laws.proofs.Found.{each-found}
-use Rattle.broker_laws.proofs.Moves.{at-open, clocks}
+use Rattle.broker_laws.specs.Waits.{Trail}
+use Rattle.broker_laws.proofs.Moves.{at-open}
 
 -- each attempt has a greater clock than those before it
 abbrev pub Falling : List Try → Type 0

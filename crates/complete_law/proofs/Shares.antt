@@ -1,15 +1,8 @@
 -- What the acts of brokers have together: no more attempts than the plan allows, each with as many answers as its script has requests.
 use Rattle.std.proofs.Common.{◌≡◌, ℕ, zero, suc, ◌+◌, ◌*◌, ◌≤◌, max, Bool, true, false, length, List, [], ◌∷◌, refl, ap, Option, Some, None, if◌then◌else◌, arith, slice_get}
 use Rattle.std.specs.List.{filter}
-use Rattle.pseudo_time.specs.Lists.{Every}
-use Rattle.value_form.specs.declared.acts.ActSpec.{ActSpec}
-use Rattle.script_meaning.specs.Meaning.{Answer, Got, Stored, Stop, Asks, Over}
-use Rattle.serial_model.specs.Questions.{Tree, Ends, Says, Reads, Writes, stop}
-use Rattle.broker_core.specs.Tasks.{Task, tasks}
-use Rattle.broker_core.specs.Book.{Act, Try}
-use Rattle.broker_core.specs.Sound.{Started}
+use Rattle.complete_law.proofs.Names.{Every, ActSpec, Answer, Got, Stored, Stop, Asks, Over, Tree, Ends, Says, Reads, Writes, stop, Task, tasks, Act, Try, Started, AsksAtMost, tries_in}
 use Rattle.broker_laws.specs.Posts.{AreKinds}
-use Rattle.complete_law.specs.Calm.{AsksAtMost, tries_in}
 use Rattle.complete_law.proofs.Sizes.{IsSpare, end-one, size-act, size-tries, spent-one}
 
 -- ---- numbers

@@ -3,19 +3,9 @@ use Rattle.std.proofs.Common.{◌≡◌, ℕ, ◌+◌, ◌*◌, ◌<◌, ◌≤�
 use Rattle.std.proofs.lemmas.Bool.{ltb-true}
 use Rattle.std.proofs.lemmas.Grind.{common_steps}
 use Rattle.std.proofs.lemmas.List.{length-append}
-use Rattle.pseudo_time.specs.Lists.{Every}
-use Rattle.effect_form.specs.declared.effects.Effect.{Effect}
+use Rattle.complete_law.proofs.Names.{Every, Effect, Outcome, StampParts, Answer, Got, Stored, Tree, Act, Book, Try, book, close, enter, finish, gain, new_try, on_act, on_front, on_try, open_front, open_of, another, calls_again, filled_by, most_filled, EndFits, FitsBook, IsTidy, MayTry, if-open}
 use Rattle.effect_form.specs.declared.effects.Effect.TheVariants as effect
-use Rattle.effect_form.specs.declared.outcomes.Outcome.{Outcome}
 use Rattle.effect_form.specs.declared.outcomes.Outcome.TheVariants as outcome
-use Rattle.pseudo_time.specs.StampParts.{StampParts}
-use Rattle.script_meaning.specs.Meaning.{Answer, Got, Stored}
-use Rattle.serial_model.specs.Questions.{Tree}
-use Rattle.broker_core.specs.Book.{Act, Book, Try, book, close, enter, finish, gain, new_try, on_act, on_front, on_try, open_front, open_of}
-use Rattle.broker_core.specs.Fits.{another, calls_again}
-use Rattle.complete_law.specs.Calm.{filled_by, most_filled}
-use Rattle.broker_laws.specs.Fits.{EndFits, FitsBook, IsTidy, MayTry}
-use Rattle.broker_laws.proofs.Moves.{if-open}
 use Rattle.broker_laws.proofs.TestLemmas.{and-right}
 
 abbrev pub spent-one : Option ℕ → ℕ

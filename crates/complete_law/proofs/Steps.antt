@@ -2,31 +2,14 @@
 use Rattle.std.proofs.Common.{◌≡◌, ℕ, Bool, List, [], ◌∷◌, reverse, refl, sym, ◌∙◌, ap, subst, Option, Some, None, is_some, inl, inr}
 use Rattle.std.proofs.lemmas.Bool.{false≢true, true≢false}
 use Rattle.std.specs.Option.{unwrap_or}
-use Rattle.pseudo_time.specs.Lists.{Every}
-use Rattle.pseudo_time.specs.StampParts.{StampParts}
-use Rattle.pseudo_time.specs.declared.nodes.NodeId.{NodeId}
-use Rattle.pseudo_time.specs.declared.nodes.NodeKind.{NodeKind}
+use Rattle.complete_law.proofs.Names.{Every, StampParts, NodeId, NodeKind, Effect, Fate, book, nothing_heard, repository, broker, keep, Entry, Base, Life, World, opened_life, opened_log, start_world, step, walk_from, all_effects, Meets, MayTake, MayGo, MayLearn, MayGate, Rule, base_of, fates_of, node_turns, node_facts, Refines, node-laws, past-laws, CalmRun, CalmPlace, IsUnstopped, IsIdleAt, AllDone, world_at, DeskSound, desk_at}
 use Rattle.pseudo_time.specs.declared.nodes.NodeKind.TheVariants as kind
-use Rattle.effect_form.specs.declared.effects.Effect.{Effect}
-use Rattle.stream_port.specs.declared.fates.Fate.{Fate}
-use Rattle.broker_core.specs.Book.{book}
-use Rattle.broker_core.specs.Stages.{nothing_heard}
-use Rattle.pseudo_time.specs.Nodes.{repository, broker}
-use Rattle.broker_core.specs.Fits.{keep}
-use Rattle.world_core.specs.declared.entries.Entry.{Entry}
 use Rattle.world_core.specs.declared.entries.Entry.TheVariants as entry
-use Rattle.world_core.specs.Walks.{Base, Life, World, opened_life, opened_log, start_world, step, walk_from, all_effects}
-use Rattle.world_core.specs.Legal.{Meets, MayTake, MayGo, MayLearn, MayHear, MayGate, Rule, base_of, fates_of}
+use Rattle.world_core.specs.Legal.{MayHear}
 use Rattle.world_core.proofs.Rules.{meets-front}
-use Rattle.serial_law.specs.NodeRules.{node_turns, node_facts}
-use Rattle.serial_law.specs.Refines.{Refines}
-use Rattle.serial_law.proofs.NodeLaws.{node-laws, past-laws}
 use Rattle.serial_law.proofs.Openings.{opens, left-nothing, ready-start}
 use Rattle.serial_law.proofs.Refinements.{step-refines}
-use Rattle.complete_law.specs.Calm.{CalmRun, CalmPlace, IsUnstopped, IsIdleAt, AllDone, world_at}
 use Rattle.complete_law.proofs.Places.{CalmWorld, IsBegun, IsDecided, tasks_of}
-use Rattle.broker_laws.proofs.BookTurns.{DeskSound}
-use Rattle.broker_core.specs.Turns.{desk_at}
 use Rattle.complete_law.proofs.BrokerMoves.{take-calm, go-calm}
 use Rattle.complete_law.proofs.GateMoves.{gate-calm}
 use Rattle.complete_law.proofs.RepositoryMoves.{learn-calm, take-calm-there}

@@ -1,13 +1,9 @@
 -- No calm place is stuck, where what always holds holds there.
 use Rattle.std.proofs.Common.{[], refl}
-use Rattle.world_core.specs.Walks.{Base, sent_by, start_world}
-use Rattle.world_core.specs.Legal.{base_of, fates_of}
+use Rattle.complete_law.proofs.Names.{Base, sent_by, start_world, base_of, fates_of, node_turns, node_facts, LogFacts, logs_at, node-laws, past-laws, CalmPlace, IsIdleAt, AllDone, world_at}
 use Rattle.world_core.specs.Pasts.{OpenedWith}
-use Rattle.serial_law.specs.NodeRules.{node_turns, node_facts}
-use Rattle.serial_law.specs.Refines.{LogFacts, logs_at, Ticked}
-use Rattle.serial_law.proofs.NodeLaws.{node-laws, past-laws}
+use Rattle.serial_law.specs.Refines.{Ticked}
 use Rattle.serial_law.proofs.Openings.{legal-facts}
-use Rattle.complete_law.specs.Calm.{CalmPlace, IsIdleAt, AllDone, world_at}
 use Rattle.complete_law.proofs.Places.{CalmWorld}
 use Rattle.complete_law.proofs.Idles.{idle-done}
 use Rattle.serial_law.proofs.Steps.{walk-known}

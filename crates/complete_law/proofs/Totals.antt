@@ -1,39 +1,29 @@
--- What all brokers have sent together, and so what one repository has stored.
-use Rattle.std.proofs.Common.{◌≡◌, ℕ, zero, suc, ◌+◌, ◌*◌, ◌≤◌, ◌<◌, ◌==◌, Bool, true, false, ◌&&◌, List, [], ◌∷◌, refl, sym, ap, subst, if◌then◌else◌, arith, ◌∙◌}
+-- What all nodes have sent together, and what one repository has stored: so much as the attempts that the plan allows can pay.
+use Rattle.std.proofs.Common.{◌≡◌, ℕ, zero, suc, ◌+◌, ◌*◌, ◌≤◌, ◌<◌, ◌==◌, Bool, true, false, ◌&&◌, length, map, List, [], ◌∷◌, refl, sym, ap, subst, if◌then◌else◌, arith, ◌∙◌}
 use Rattle.std.proofs.lemmas.Grind.{common_steps}
 use Rattle.std.specs.List.{filter}
-use Rattle.std.proofs.lemmas.Bool.{false≢true}
-use Rattle.pseudo_time.specs.declared.nodes.NodeId.{NodeId}
-use Rattle.pseudo_time.specs.declared.nodes.NodeKind.{NodeKind}
+use Rattle.std.proofs.lemmas.Bool.{eq-eqb, false≢true}
+use Rattle.complete_law.proofs.Names.{NodeId, NodeKind, ActSpec, Message, same_is, same_node, same_node-refl, accepts, is_broker, broker, repository, tasks, Sending, AskAtMost, CalmPlace, log_at, sent_at, tries_in, world_at}
 use Rattle.pseudo_time.specs.declared.nodes.NodeKind.TheVariants as kind
-use Rattle.value_form.specs.declared.acts.ActSpec.{ActSpec}
-use Rattle.effect_form.specs.declared.effects.Effect.{Effect}
-use Rattle.effect_form.specs.declared.effects.Effect.TheVariants as effect
-use Rattle.message_form.specs.declared.messages.Message.{Message}
 use Rattle.message_form.specs.declared.messages.Message.TheVariants as message
-use Rattle.pseudo_time.specs.Nodes.{same_node}
-use Rattle.message_core.proofs.NodeLemmas.{same_node-refl}
-use Rattle.repository_core.specs.Rows.{accepts}
-use Rattle.pseudo_time.specs.Nodes.{is_broker}
-use Rattle.pseudo_time.specs.Nodes.{broker, repository}
-use Rattle.broker_core.specs.Tasks.{tasks}
-use Rattle.world_core.specs.Walks.{Sending, World}
-use Rattle.complete_law.specs.Calm.{AskAtMost, CalmPlace, log_at, tries_in, world_at}
-use Rattle.complete_law.proofs.BrokerLoads.{broker-issues, wt}
-use Rattle.complete_law.proofs.HandLoads.{Prices, price, price-if, stored-load}
+use Rattle.pseudo_time.specs.Nodes.{is_repository}
+use Rattle.complete_law.specs.Calm.{most_messages}
+use Rattle.complete_law.proofs.BrokerLoads.{broker-issues}
+use Rattle.complete_law.proofs.Costs.{weight}
+use Rattle.complete_law.proofs.HandLoads.{price, stored, wt}
 use Rattle.complete_law.proofs.Loads.{if-from, sent-load}
 use Rattle.complete_law.proofs.Places.{tasks_of}
-use Rattle.complete_law.proofs.RepositoryLoads.{all, all-priced, gain, gain-if, used-most}
+use Rattle.complete_law.proofs.RepositoryLoads.{all, all-paid, gain, used-most}
 use Rattle.complete_law.proofs.Shares.{mul-mono, mul-plus, tries-given}
 use Rattle.complete_law.proofs.Steps as steps
 
 -- ---- sums over the numbers up to one
 
-abbrev pub sum-to : (ℕ → ℕ) → ℕ → ℕ
+abbrev sum-to : (ℕ → ℕ) → ℕ → ℕ
 sum-to f zero = f 0
 sum-to f (suc n) = f (suc n) + sum-to f n
 
-pub sum-has : (f : ℕ → ℕ) (m n : ℕ) → m ≤ n → f m ≤ sum-to f n
+sum-has : (f : ℕ → ℕ) (m n : ℕ) → m ≤ n → f m ≤ sum-to f n
 sum-has f m zero h = let z : m ≡ 0 = omega (arith, h) in subst (λ k. f k ≤ f 0) (sym z) (omega arith)
 sum-has f m (suc n) h = go (λ l. sum-has f m n l) (m == suc n) refl
   where
@@ -41,11 +31,11 @@ sum-has f m (suc n) h = go (λ l. sum-has f m n l) (m == suc n) refl
     go again true e = let q : m ≡ suc n = grind (arith, common_steps) in subst (λ k. f k ≤ f (suc n) + sum-to f n) (sym q) (omega arith)
     go again false e = let l : m ≤ n = grind (arith, common_steps) in let k = again l in omega (arith, k)
 
-pub sum-mono : (f g : ℕ → ℕ) (n : ℕ) → ((k : ℕ) → f k ≤ g k) → sum-to f n ≤ sum-to g n
+sum-mono : (f g : ℕ → ℕ) (n : ℕ) → ((k : ℕ) → f k ≤ g k) → sum-to f n ≤ sum-to g n
 sum-mono f g zero h = h 0
 sum-mono f g (suc n) h = let k = sum-mono f g n h in let j = h (suc n) in omega (arith, k, j)
 
-pub sum-plus : (f g : ℕ → ℕ) (n : ℕ) → sum-to (λ k. f k + g k) n ≡ sum-to f n + sum-to g n
+sum-plus : (f g : ℕ → ℕ) (n : ℕ) → sum-to (λ k. f k + g k) n ≡ sum-to f n + sum-to g n
 sum-plus f g zero = refl
 sum-plus f g (suc n) = let k = sum-plus f g n in omega (arith, k)
 
@@ -53,7 +43,7 @@ sum-times : (f : ℕ → ℕ) (m n : ℕ) → sum-to (λ k. f k * m) n ≡ sum-t
 sum-times f m zero = refl
 sum-times f m (suc n) = let k = sum-times f m n in let j = mul-plus (f (suc n)) (sum-to f n) m in omega (arith, k, j)
 
-pub sum-zero : (n : ℕ) → sum-to (λ i. 0) n ≤ 0
+sum-zero : (n : ℕ) → sum-to (λ i. 0) n ≤ 0
 sum-zero zero = omega arith
 sum-zero (suc n) = let k = sum-zero n in omega (arith, k)
 
@@ -65,7 +55,7 @@ sum-none m k (suc n) h =
     let i : if-from (m == suc n) k ≡ 0 = ap (λ c. if-from c k) e in
     omega (arith, i, j)
 
-pub sum-one : (m k n : ℕ) → sum-to (λ i. if-from (m == i) k) n ≤ k
+sum-one : (m k n : ℕ) → sum-to (λ i. if-from (m == i) k) n ≤ k
 sum-one m k zero = go (m == 0)
   where
     go : (c : Bool) → if-from c k ≤ k
@@ -94,7 +84,7 @@ sum-tasks (a ∷ acts) n =
 
 -- ---- all that was sent
 
-pub all-mono : (f g : Sending → ℕ) (ss : List Sending) → ((s : Sending) → f s ≤ g s) → all f ss ≤ all g ss
+all-mono : (f g : Sending → ℕ) (ss : List Sending) → ((s : Sending) → f s ≤ g s) → all f ss ≤ all g ss
 all-mono f g [] h = omega arith
 all-mono f g (s ∷ ss) h = let k = all-mono f g ss h in let j = h s in omega (arith, k, j)
 
@@ -109,6 +99,9 @@ from-kind is v s = if-from (is s.post.from.kind) (v s.post.message)
 
 abbrev pub by-broker : (Message → ℕ) → Sending → ℕ
 by-broker = from-kind is_broker
+
+abbrev pub by-repository : (Message → ℕ) → Sending → ℕ
+by-repository = from-kind is_repository
 
 -- all that nodes of a kind sent, node by node
 module _ (is : NodeKind → Bool) (named : ℕ → NodeId) (same : (n : NodeId) → is n.kind ≡ true → n ≡ named n.number) (v : Message → ℕ) where
@@ -136,92 +129,122 @@ broker-named n e = go n.kind n.number e
     go kind.Broker i e = refl
     go kind.Repository i e = absurd (false≢true e)
 
-module _ (p : CalmPlace) (most : ℕ) (asks : AskAtMost p.run most) where
-  abbrev w : World
-  w = world_at p
+repository-named : (n : NodeId) → is_repository n.kind ≡ true → n ≡ repository n.number
+repository-named n e = go n.kind n.number e
+  where
+    go : (kd : NodeKind) (i : ℕ) → is_repository kd ≡ true → record { kind = kd; number = i } ≡ repository i
+    go kind.Repository i e = refl
+    go kind.Broker i e = absurd (false≢true e)
 
-  -- all brokers together
-  pub brokers-few : (u v z : ℕ) → all (by-broker (wt u v z p.run)) w.sendings ≤ tries_in p.run.plan.acts * (u + (most * v + z))
-  brokers-few u v z =
-      let n : ℕ = top w.sendings in
-      let m : ℕ = u + (most * v + z) in
-      let a = sent-total is_broker broker broker-named (wt u v z p.run) w.sendings (top w.sendings) (omega arith) in
-      let b = sum-mono (λ i. sent-load (wt u v z p.run) (broker i) w.sendings) (λ i. tries-given (tasks_of (steps.b p.run) i) * (u + (most * v + z))) (top w.sendings)
-      (λ i. (let k = broker-issues u v z p most asks i in omega (arith, k))) in
-      let c = sum-times (λ i. tries-given (tasks_of (steps.b p.run) i)) (u + (most * v + z)) (top w.sendings) in
-      let d = mul-mono (sum-to (λ i. tries-given (tasks_of (steps.b p.run) i)) (top w.sendings)) (tries_in p.run.plan.acts) (u + (most * v + z)) (sum-tasks p.run.plan.acts (top w.sendings)) in
-      omega (arith, a, b, c, d)
+-- all brokers together
+pub brokers-few : (p : CalmPlace) (most : ℕ) → AskAtMost p.run most → (u v z : ℕ) → all (by-broker (weight u v z)) (world_at p).sendings ≤ tries_in p.run.plan.acts * (u + (most * v + z))
+brokers-few p most asks u v z =
+    let a = sent-total is_broker broker broker-named (weight u v z) (world_at p).sendings (top (world_at p).sendings) (omega arith) in
+    let b = sum-mono (λ i. sent-load (weight u v z) (broker i) (world_at p).sendings) (λ i. tries-given (tasks_of (steps.b p.run) i) * (u + (most * v + z))) (top (world_at p).sendings)
+    (λ i. (let k = broker-issues u v z p most asks i in omega (arith, k))) in
+    let c = sum-times (λ i. tries-given (tasks_of (steps.b p.run) i)) (u + (most * v + z)) (top (world_at p).sendings) in
+    let d = mul-mono (sum-to (λ i. tries-given (tasks_of (steps.b p.run) i)) (top (world_at p).sendings)) (tries_in p.run.plan.acts) (u + (most * v + z)) (sum-tasks p.run.plan.acts (top (world_at p).sendings)) in
+    omega (arith, a, b, c, d)
 
--- ---- what a repository stores
+-- ---- what repositories take
 
--- all effects but Learns
-abbrev pub we-plain : Effect → ℕ
-we-plain (effect.Learn s c) = 0
-we-plain f = 1
+one-of : (c d : Bool) (v : ℕ) → if-from (c && d) v ≤ if-from c v
+one-of true true v = omega arith
+one-of true false v = omega arith
+one-of false d v = omega arith
 
--- one for each request: what it stores, or that it is held
-abbrev pub stores : Prices
-stores = record {
-  wt = λ m. 0;
-  we = we-plain;
-  kh = 1;
-  ka = 0;
-  pb = 1;
-  pw = 1;
-  value = λ t v o. omega arith;
-  ended = λ t. omega arith;
-  read-later = λ t e. omega arith;
-  asks = λ s. refl;
-  tells = λ s c. omega arith;
-  learns = λ s c. refl;
-  begun = λ s d. omega arith;
-  decided = λ s d e. omega arith;
-  stored = λ t o v. omega arith;
-  over = λ t. omega arith;
-  later-read = λ t e. omega arith;
-  later-version = λ t x. omega arith;
-}
+two-of : (c d e : Bool) (v : ℕ) → if-from ((c && d) && e) v ≤ if-from c v
+two-of c d e v = let i = one-of (c && d) e v in let j = one-of c d v in omega (arith, i, j)
 
--- a request is of a broker
-module _ (p : Prices) (v : Message → ℕ) (most : (m : Message) → price p m ≤ v m) (free : p.ka ≡ 0) where
-  capped : (m : Message) (a x y : Bool) → price-if p ((a && x) && y) m ≤ if-from a (v m)
-  capped m true true true = most m
-  capped m true true false = omega arith
-  capped m true false y = omega arith
-  capped m false x y = omega arith
+-- the four numbers of HandLoads
+module _ (a t s q : ℕ) where
+  -- what a message is worth to a repository: a request comes from a broker, an Ask from a repository
+  abbrev worth : Sending → ℕ
+  worth x = by-broker (weight (a + s) (a + (s + q)) (a + s)) x + by-repository (wt 0 0 0 t) x
 
-  nothing : (m : Message) (a c : Bool) → price p m ≡ 0 → price-if p c m ≤ if-from a (v m)
-  nothing m a true e = omega (arith, e)
-  nothing m a false e = omega arith
+  fits : (n : ℕ) (from : NodeId) (m : Message) → if-from (accepts n from m) (price a t s q m) ≤ if-from (is_broker from.kind) (weight (a + s) (a + (s + q)) (a + s) m) + if-from (is_repository from.kind) (wt 0 0 0 t m)
+  fits n from (message.Begin x k) = let i = two-of (is_broker from.kind) (from.number == x.broker) (x.home == n) (a + s) in omega (arith, i)
+  fits n from (message.Commit x) = let i = two-of (is_broker from.kind) (from.number == x.broker) (x.home == n) (a + s) in omega (arith, i)
+  fits n from (message.Withdraw x) = let i = two-of (is_broker from.kind) (from.number == x.broker) (x.home == n) (a + s) in omega (arith, i)
+  fits n from (message.Read x o) = let i = two-of (is_broker from.kind) (from.number == x.stamp.broker) (o.repository == n) (a + (s + q)) in omega (arith, i)
+  fits n from (message.Write x o v) = let i = two-of (is_broker from.kind) (from.number == x.stamp.broker) (o.repository == n) (a + (s + q)) in omega (arith, i)
+  fits n from (message.Ask x) = let i = one-of (is_repository from.kind) (x.home == n) t in omega (arith, i)
+  fits n from (message.Tell x c) = let i = two-of true (is_repository from.kind) (from.number == x.home) 0 in omega (arith, i)
+  fits n from m = omega arith
 
-  of-broker : (n : ℕ) (from : NodeId) (m : Message) → price-if p (accepts n from m) m ≤ if-from (is_broker from.kind) (v m)
-  of-broker n from (message.Begin s t) = capped (message.Begin s t) (is_broker from.kind) (from.number == s.broker) (s.home == n)
-  of-broker n from (message.Commit s) = capped (message.Commit s) (is_broker from.kind) (from.number == s.broker) (s.home == n)
-  of-broker n from (message.Withdraw s) = capped (message.Withdraw s) (is_broker from.kind) (from.number == s.broker) (s.home == n)
-  of-broker n from (message.Read t o) = capped (message.Read t o) (is_broker from.kind) (from.number == t.stamp.broker) (o.repository == n)
-  of-broker n from (message.Write t o a) = capped (message.Write t o a) (is_broker from.kind) (from.number == t.stamp.broker) (o.repository == n)
-  of-broker n from (message.Ask s) = nothing (message.Ask s) (is_broker from.kind) (accepts n from (message.Ask s)) free
-  of-broker n from (message.Tell s c) = nothing (message.Tell s c) (is_broker from.kind) (accepts n from (message.Tell s c)) refl
-  of-broker n from m = omega arith
-
-  pub gain-most : (r : _) (n : ℕ) (s : Sending) → gain p r n s ≤ by-broker v s
-  gain-most r n s = let k = of-broker n s.post.from s.post.message in go (same_node s.post.to (repository n)) k
+  -- it brings something to one repository alone
+  to-one : (n : ℕ) (x : Sending) → gain a t s q n x ≤ if-from (x.post.to.number == n) (worth x)
+  to-one n x = go (same_node x.post.to (repository n)) refl (fits n x.post.from x.post.message)
     where
-      go : (c : Bool) → price-if p (accepts n s.post.from s.post.message) s.post.message ≤ by-broker v s → gain-if c (price-if p (accepts n s.post.from s.post.message) s.post.message) ≤ by-broker v s
-      go true h = h
-      go false h = omega arith
+      go : (c : Bool) → same_node x.post.to (repository n) ≡ c → if-from (accepts n x.post.from x.post.message) (price a t s q x.post.message) ≤ worth x →
+          if-from c (if-from (accepts n x.post.from x.post.message) (price a t s q x.post.message)) ≤ if-from (x.post.to.number == n) (worth x)
+      go false e h = omega arith
+      go true e h =
+          let at : x.post.to.number ≡ n = ap (λ (y : NodeId). y.number) (same_is x.post.to (repository n) e) in
+          let k : if-from (x.post.to.number == n) (worth x) ≡ worth x = ap (λ m. if-from (m == n) (worth x)) at ∙ ap (λ c. if-from c (worth x)) (eq-eqb n n refl) in
+          omega (arith, h, k)
 
-pub one-each : (r : _) (m : Message) → price stores m ≤ wt 1 1 1 r m
-one-each r (message.Begin s t) = omega arith
-one-each r m = omega arith
+  gain-most : (n : ℕ) (x : Sending) → gain a t s q n x ≤ worth x
+  gain-most n x = let k = to-one n x in let j = go (x.post.to.number == n) in omega (arith, k, j)
+    where
+      go : (c : Bool) → if-from c (worth x) ≤ worth x
+      go true = omega arith
+      go false = omega arith
+
+  gains-total : (ss : List Sending) (n : ℕ) → sum-to (λ i. all (gain a t s q i) ss) n ≤ all worth ss
+  gains-total [] n = sum-zero n
+  gains-total (x ∷ ss) n =
+      let k = gains-total ss n in
+      let l = sum-plus (λ i. gain a t s q i x) (λ i. all (gain a t s q i) ss) n in
+      let m = sum-mono (λ i. gain a t s q i x) (λ i. if-from (x.post.to.number == i) (worth x)) n (λ i. to-one i x) in
+      let o = sum-one x.post.to.number (worth x) n in
+      omega (arith, k, l, m, o)
+
+  -- what all repositories have sent
+  repositories-paid : (p : CalmPlace) → all (by-repository (wt a t s q)) (world_at p).sendings ≤ all worth (world_at p).sendings
+  repositories-paid p =
+      let x = sent-total is_repository repository repository-named (wt a t s q) (world_at p).sendings (top (world_at p).sendings) (omega arith) in
+      let y = sum-mono (λ i. sent-load (wt a t s q) (repository i) (world_at p).sendings) (λ i. all (gain a t s q i) (world_at p).sendings) (top (world_at p).sendings)
+      (λ i. (let k = all-paid a t s q p i in let j = used-most (gain a t s q i) 1 (world_at p).taken (world_at p).sendings in omega (arith, k, j))) in
+      let z = gains-total (world_at p).sendings (top (world_at p).sendings) in
+      omega (arith, x, y, z)
+
+-- ---- what one of them stores
 
 -- but for its Learns, a repository stores no more effects than brokers sent requests
-pub stored-few : (p : CalmPlace) (most : ℕ) → AskAtMost p.run most → (n : ℕ) → stored-load stores (log_at p (repository n)) ≤ tries_in p.run.plan.acts * (most + 2)
+pub stored-few : (p : CalmPlace) (most : ℕ) → AskAtMost p.run most → (n : ℕ) → stored 1 (log_at p (repository n)) ≤ tries_in p.run.plan.acts * (most + 2)
 stored-few p most asks n =
-    let k = all-priced stores p n in
-    let a = used-most (gain stores p.run n) 1 (world_at p).taken (world_at p).sendings in
-    let b = all-mono (gain stores p.run n) (by-broker (wt 1 1 1 p.run)) (world_at p).sendings (gain-most stores (wt 1 1 1 p.run) (one-each p.run) refl p.run n) in
+    let k = all-paid 0 0 1 0 p n in
+    let a = used-most (gain 0 0 1 0 n) 1 (world_at p).taken (world_at p).sendings in
+    let b = all-mono (gain 0 0 1 0 n) (by-broker (weight 1 1 1)) (world_at p).sendings (λ x. (let i = gain-most 0 0 1 0 n x in let j = nothing (is_repository x.post.from.kind) x.post.message in omega (arith, i, j))) in
     let c = brokers-few p most asks 1 1 1 in
     let d : 1 + (most * 1 + 1) ≡ most + 2 = omega arith in
     let e : tries_in p.run.plan.acts * (1 + (most * 1 + 1)) ≡ tries_in p.run.plan.acts * (most + 2) = ap (λ x. tries_in p.run.plan.acts * x) d in
     omega (arith, k, a, b, c, e)
+  where
+    nothing : (c : Bool) (m : Message) → if-from c (wt 0 0 0 0 m) ≡ 0
+    nothing false m = refl
+    nothing true (message.Ask x) = refl
+    nothing true m = refl
+
+-- ---- how many messages there are
+
+-- each message counts one: of a broker beside what it pays, of a repository beside what it is worth
+each : (ss : List Sending) → length (map (λ (x : Sending). x.post) ss) + all (worth 1 1 0 2) ss ≤ all (by-broker (weight 2 4 2)) ss + all (by-repository (wt 1 1 0 2)) ss
+each [] = omega arith
+each (x ∷ ss) = let k = each ss in let j = one x.post.from.kind x.post.message in omega (arith, k, j)
+  where
+    one : (kd : NodeKind) (m : Message) → 1 + (if-from (is_broker kd) (weight 1 3 1 m) + if-from (is_repository kd) (wt 0 0 0 1 m)) ≤ if-from (is_broker kd) (weight 2 4 2 m) + if-from (is_repository kd) (wt 1 1 0 2 m)
+    one kind.Broker (message.Read y o) = omega arith
+    one kind.Broker m = omega arith
+    one kind.Repository (message.Ask y) = omega arith
+    one kind.Repository m = omega arith
+
+pub few-messages : (p : CalmPlace) (most : ℕ) → AskAtMost p.run most → length (sent_at p) ≤ most_messages p.run most
+few-messages p most asks =
+    let k = each (world_at p).sendings in
+    let a = repositories-paid 1 1 0 2 p in
+    let b = brokers-few p most asks 2 4 2 in
+    let d : 2 + (most * 4 + 2) ≡ 4 * most + 4 = omega arith in
+    let e : tries_in p.run.plan.acts * (2 + (most * 4 + 2)) ≡ tries_in p.run.plan.acts * (4 * most + 4) = ap (λ x. tries_in p.run.plan.acts * x) d in
+    omega (arith, k, a, b, e)

@@ -22,8 +22,9 @@ use Rattle.node_rounds.specs.contracts.nodes.RunNode as RunNode
 use Rattle.node_rounds.specs.contracts.nodes.RunNode.TheInside as RunInside
 
 module _ (F C M : RattleType) (f : fates.Ghosts F.Denot) (c : clock.Ghosts C.Denot) (m : medium.Ghosts M.Denot) (sf : IsSend F) (sc : IsSend C) where
-  node_send : (K : RattleType) (k : _) (sk : IsSend K) → IsSend (Node.the_row K F C M k f c m)
-  node_send K k sk = view_send _ _ _ _ _ (declared_send (NodeInside.the_type K F C M k f c m) (send, (name.the_send, (hand.the_send _ sk, (pass_send F C M f c m sf sc, tt)))))
+  module _ (K : RattleType) (k : _) (sk : IsSend K) where
+    node_send : IsSend (Node.the_row K F C M k f c m)
+    node_send = view_send _ _ _ _ _ (declared_send (NodeInside.the_type K F C M k f c m) (send, (name.the_send, (hand.the_send _ sk, (pass_send F C M f c m sf sc, tt)))))
 
   module _ (sm : IsSend M) where
     pub run_send : IsSend (RunNode.the_row F C M m f c)

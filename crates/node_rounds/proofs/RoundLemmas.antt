@@ -40,11 +40,6 @@ up-else condition.AtWork memory up = refl
 up-else (condition.Down cause) memory up = absurd (up cause refl)
 up-else condition.Wanting memory up = absurd (memory refl)
 
--- an answer that found memory
-whole-ok : {E : Type 0} (r : Result Turned E) (c : Condition) (P : Type 0) → IsCondition r c → c ≢ condition.Wanting → OnOk r P → P
-whole-ok (Ok t) c P is ne p = p
-whole-ok (Err e) c P is ne p = absurd (ne is)
-
 -- ---- looks
 
 -- a second look joins the first
@@ -70,6 +65,10 @@ looked-owner p = ap (λ (k : Sight). k.owner) p.kept
 
 pub begins-joins : (a b c : List Entry) → Begins a b → Begins b c → Begins a c
 begins-joins a b c x y = (x.0 ++ y.0, sym (append_assoc a x.0 y.0) ∙ (ap (λ (l : List Entry). l ++ y.0) x.1 ∙ y.1))
+
+whole-ok : {E : Type 0} (r : Result Turned E) (c : Condition) (P : Type 0) → IsCondition r c → c ≢ condition.Wanting → OnOk r P → P
+whole-ok (Ok t) c P is ne p = p
+whole-ok (Err e) c P is ne p = absurd (ne is)
 
 module _ {M : Type 0} where
   -- ---- all entries of a node

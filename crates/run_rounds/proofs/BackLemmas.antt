@@ -5,32 +5,14 @@ use Rattle.std.specs.List.{AllZip}
 use Rattle.std.proofs.lemmas.List.Elements.{All-cons, All-nil}
 use Rattle.std.proofs.lemmas.Bool.Decides.{nat_tests}
 use Rattle.std.proofs.lemmas.Option.{same_Some}
-use Rattle.pseudo_time.specs.declared.nodes.NodeId.{NodeId}
-use Rattle.pseudo_time.specs.declared.nodes.NodeKind.{NodeKind}
-use Rattle.pseudo_time.specs.declared.nodes.NodeKind.TheVariants.{Repository, Broker}
-use Rattle.pseudo_time.specs.declared.down_causes.DownCause.{DownCause}
+use Rattle.run_rounds.proofs.Names.{NodeId, NodeKind, Repository, Broker, DownCause, repository, broker, Rose, Effect, storage, Plan, reading, in_plan, is_within, is_ready, Opening, Open, Shut, Wanting, Media, IsBack, AreBack, HasOpened, medium_in, log_in, IsInRange, IsOpen, AreReady, node_count, node_at, place_of, place-at, at-place, in-at, Became, medium_at, inner, IsKeptWhole, in-range, zip-back}
 use Rattle.pseudo_time.specs.declared.down_causes.DownCause.TheVariants as down
-use Rattle.pseudo_time.specs.Nodes.{repository, broker}
-use Rattle.stream_port.specs.Causes.{Rose}
-use Rattle.effect_form.specs.declared.effects.Effect.{Effect}
-use Rattle.version_store.specs.Storage.{storage}
-use Rattle.plan_form.specs.declared.plans.Plan.{Plan}
 use Rattle.broker_core.specs.declared.resume_faults.ResumeFault.{ResumeFault}
-use Rattle.broker_core.specs.Readings.{reading}
-use Rattle.world_core.specs.Legal.{in_plan, is_within}
-use Rattle.world_core.specs.Nodes.{is_ready, kind_ready}
-use Rattle.run_media.specs.declared.openings.Opening.{Opening}
-use Rattle.run_media.specs.declared.openings.Opening.TheVariants.{Open, Shut, Wanting}
+use Rattle.world_core.specs.Nodes.{kind_ready}
 use Rattle.run_media.specs.declared.openings.Refusal.TheVariants as refusal
-use Rattle.run_media.specs.Media.{Media, IsBack, AreBack, IsLeftAlone}
-use Rattle.run_media.specs.Openings.{HasOpened, medium_in, log_in, IsInRange, IsOpen, IsWanting, kind_fault, fault_in, IsReadyFor, AreReady, IsFirstRefusal}
-use Rattle.run_media.specs.Places.{node_count, node_at, place_of}
-use Rattle.run_media.proofs.OrderLemmas.{place-at, at-place, in-at}
-use Rattle.run_rounds.specs.Media.{Became, medium_at, inner}
-use Rattle.run_rounds.specs.Finishes.{IsKeptWhole}
+use Rattle.run_media.specs.Media.{IsLeftAlone}
+use Rattle.run_media.specs.Openings.{IsWanting, kind_fault, fault_in, IsReadyFor, IsFirstRefusal}
 use Rattle.run_rounds.specs.Runs.{Shows, IsFirstFault}
-use Rattle.kill_law.proofs.Ranges.{in-range}
-use Rattle.run_starts.proofs.AlongLemmas.{zip-back}
 
 zip-mapped : {A B C : Type 0} (P : A → B → Type 0) (Q : A → C → Type 0) (f : B → C) → ((x : A) (y : B) → P x y → Q x (f y)) → (xs : List A) (ys : List B) → AllZip P xs ys → AllZip Q xs (map f ys)
 zip-mapped P Q f k [] [] h = tt

@@ -1,19 +1,11 @@
 -- How a run ends that doesn't begin, and what its wire began with.
 use Rattle.std.proofs.Common.{◌≡◌, ℕ, List, length, map, Option, Some, inl, sym, subst}
 use Rattle.std.specs.List.{AllZip}
-use Rattle.stream_port.specs.declared.fates.Asked.{Asked}
-use Rattle.plan_form.specs.declared.plans.Plan.{Plan}
-use Rattle.run_starts.specs.Wires.{Origin}
-use Rattle.run_media.specs.declared.openings.Opening.{Opening}
+use Rattle.run_rounds.proofs.Names.{Asked, Plan, Origin, Opening, Media, FirstRefusal, HasOpened, medium_in, node_count, IsSetUp, End, EndsAs, IsEndFor, tellers}
 use Rattle.run_media.specs.declared.openings.Refusal.{Refusal}
 use Rattle.run_media.specs.declared.openings.Refusal.TheVariants as refusal
-use Rattle.run_media.specs.Media.{Media}
-use Rattle.run_media.specs.Openings.{FirstRefusal, HasOpened, medium_in}
-use Rattle.run_media.specs.Places.{node_count}
-use Rattle.run_starts.specs.Starts.{IsSetUp}
-use Rattle.run_rounds.specs.declared.ends.End.{End}
 use Rattle.run_rounds.specs.declared.ends.End.TheVariants as end
-use Rattle.run_rounds.specs.Finishes.{EndsAs, IsEndFor, Tellers, tellers}
+use Rattle.run_rounds.specs.Finishes.{Tellers}
 use Rattle.run_rounds.proofs.BackLemmas.{first-fault, opened-alone, opened-back, opened-kept}
 
 module _ {M : Type 0} {g : _} (w : Media M) (most_ticks enough : ℕ) (plan : Plan) where

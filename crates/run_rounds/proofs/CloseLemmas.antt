@@ -5,33 +5,10 @@ use Rattle.std.specs.List.{AllZip}
 use Rattle.std.proofs.lemmas.List.{length-map, length_push}
 use Rattle.std.proofs.lemmas.List.Elements.{All-push}
 use Rattle.std.proofs.lemmas.Slice.Zip.{AllZip-long}
-use Rattle.stream_port.specs.declared.fates.Asked.{Asked}
-use Rattle.plan_form.specs.declared.plans.Plan.{Plan}
-use Rattle.plan_form.specs.PlanTexts.{IsOfLanguage}
-use Rattle.seat_lock.specs.declared.views.View.{View}
-use Rattle.seat_lock.specs.declared.views.Founding.{Founding}
-use Rattle.seat_lock.specs.declared.locks.LockTable.{LockTable}
-use Rattle.seat_lock.specs.Rule.{IsOneOf}
-use Rattle.seat_lock.specs.Words.{CarriesOn, fresh, knows}
-use Rattle.world_core.specs.declared.entries.Entry.{Entry}
-use Rattle.world_core.specs.declared.traces.Trace.{Trace}
-use Rattle.world_core.specs.Legal.{Idle, fates_of}
-use Rattle.world_core.specs.Readings.{IsLegal}
-use Rattle.run_starts.specs.Wires.{Origin, WireParts}
-use Rattle.run_starts.specs.Boards.{owner_of}
-use Rattle.run_starts.specs.Sights.{IsWirePass, Sight, owners_for}
-use Rattle.run_starts.specs.Stories.{IsWhole, LeavesUntold, end_of}
-use Rattle.world_core.specs.Counts.{tick_count}
-use Rattle.run_starts.specs.TurnNodes.{NodeParts}
-use Rattle.run_starts.specs.Limits.{Limits}
-use Rattle.run_starts.specs.Reason.{Reason}
+use Rattle.run_rounds.proofs.Names.{Asked, Plan, IsOfLanguage, View, Founding, LockTable, IsOneOf, CarriesOn, fresh, knows, Entry, Trace, Idle, fates_of, IsLegal, Origin, WireParts, owner_of, IsWirePass, Sight, owners_for, IsWhole, LeavesUntold, end_of, tick_count, NodeParts, Limits, Reason, GoesOn, Media, node_count, End, ClosedAs, HaveGone, IfRan, IfWanting, Pass}
 use Rattle.run_starts.specs.Reason.TheVariants as reason
-use Rattle.run_starts.specs.Nodes.{GoesOn}
-use Rattle.run_media.specs.Media.{Media}
-use Rattle.run_media.specs.Places.{node_count}
-use Rattle.run_rounds.specs.declared.ends.End.{End}
 use Rattle.run_rounds.specs.declared.ends.End.TheVariants as end
-use Rattle.run_rounds.specs.Closings.{ClosedAs, HaveGone, IfRan, IfWanting, Pass, ToldFor}
+use Rattle.run_rounds.specs.Closings.{ToldFor}
 
 -- ---- what is told
 

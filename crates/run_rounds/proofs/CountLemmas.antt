@@ -1,32 +1,10 @@
 -- Counts of faults, and why nodes went down.
 use Rattle.std.proofs.Common.{◌≡◌, ◌≤◌, ◌∙◌, ℕ, Bool, true, IsTrue, List, [], Option, Some, None, refl, ap, sym, subst}
-use Rattle.pseudo_time.specs.Lists.{Every}
+use Rattle.run_rounds.proofs.Names.{Every, NodeId, DownCause, Asked, RoseBy, Plan, View, Founding, LockTable, entries_of, Entry, Trace, Life, names, own, start_world, fates_of, in_plan, IsLegal, life_after, WireParts, owner_for, owner_of, IsOf, life_at, down_cause, IsIntact, costs, IsCause, NodeParts, sight, Media, AreCounted, Became, HaveCauses}
 use Rattle.pseudo_time.proofs.ListLemmas.{every-map}
-use Rattle.pseudo_time.specs.declared.nodes.NodeId.{NodeId}
-use Rattle.pseudo_time.specs.declared.down_causes.DownCause.{DownCause}
 use Rattle.pseudo_time.specs.declared.down_causes.DownCause.TheVariants as down
-use Rattle.stream_port.specs.declared.fates.Asked.{Asked}
-use Rattle.stream_port.specs.Causes.{RoseBy, rise_of_fewer}
-use Rattle.plan_form.specs.declared.plans.Plan.{Plan}
-use Rattle.seat_lock.specs.declared.views.View.{View}
-use Rattle.seat_lock.specs.declared.views.Founding.{Founding}
-use Rattle.seat_lock.specs.declared.locks.LockTable.{LockTable}
-use Rattle.seat_lock.specs.Story.{entries_of}
-use Rattle.world_core.specs.declared.entries.Entry.{Entry}
-use Rattle.world_core.specs.declared.traces.Trace.{Trace}
-use Rattle.world_core.specs.Walks.{Life, names, own, start_world}
-use Rattle.world_core.specs.Legal.{fates_of, in_plan}
-use Rattle.world_core.specs.Readings.{IsLegal, life_after}
-use Rattle.run_starts.specs.Wires.{WireParts}
-use Rattle.run_starts.specs.Boards.{owner_for, owner_of}
-use Rattle.run_starts.specs.Sights.{IsOf, life_at}
-use Rattle.world_core.specs.Counts.{down_cause}
-use Rattle.run_starts.specs.Cores.{IsIntact}
-use Rattle.run_starts.specs.Costs.{costs}
-use Rattle.run_starts.specs.Lives.{IsCause, IsFullFor}
-use Rattle.run_starts.specs.TurnNodes.{NodeParts, sight}
-use Rattle.run_media.specs.Media.{Media}
-use Rattle.run_rounds.specs.Media.{AreCounted, Became, HaveCauses}
+use Rattle.stream_port.specs.Causes.{rise_of_fewer}
+use Rattle.run_starts.specs.Lives.{IsFullFor}
 use Rattle.run_rounds.proofs.EndLemmas.{costs-whole, own-whole}
 use Rattle.run_rounds.proofs.FlagLemmas.{named-opened, one-down}
 use Rattle.run_rounds.proofs.SeenLemmas.{Seen, left, new-is, old-is}

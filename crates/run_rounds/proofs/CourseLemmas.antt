@@ -6,23 +6,10 @@ use Rattle.std.specs.declared.alloc.Global.{Global}
 use Rattle.std.proofs.lemmas.List.Elements.{All-append, All-cons, All-map, All-nil}
 use Rattle.std.proofs.lemmas.Slice.Zip.{AllZip-long}
 use Rattle.atomic_table.specs.declared.shared.Seat.{Seat}
-use Rattle.seat_lock.specs.declared.views.View.{View}
-use Rattle.seat_lock.specs.declared.views.Founding.{Founding}
-use Rattle.seat_lock.specs.declared.locks.LockTable.{LockTable}
-use Rattle.seat_lock.specs.Words.{knows}
-use Rattle.world_core.specs.declared.entries.Entry.{Entry}
-use Rattle.run_starts.specs.Wires.{WireParts}
-use Rattle.run_starts.specs.Sights.{IsWirePass, Sight, base_at}
-use Rattle.world_core.specs.Counts.{tick_count}
-use Rattle.run_starts.specs.TurnNodes.{NodeParts, IsAtRest}
-use Rattle.run_starts.specs.Limits.{Limits}
-use Rattle.run_starts.specs.Reason.{Reason}
+use Rattle.run_rounds.proofs.Names.{View, Founding, LockTable, knows, Entry, WireParts, IsWirePass, Sight, base_at, tick_count, NodeParts, IsAtRest, Limits, Reason, GoesOn, IsKeptThrough, IsUp, HasMemory, IsDone, IsLateAfter, TicksAreWanted, Media, HaveGone, ListEnds, Pass, IsDealt}
 use Rattle.run_starts.specs.Reason.TheVariants as reason
-use Rattle.run_starts.specs.Nodes.{EachNode, EachPlace, GoesOn, IsKeptThrough, HasAllOf, HasPass, IsUp, Shares}
-use Rattle.run_starts.specs.Reasons.{EndsFor, HasMemory, IsDone, IsDown, IsLateAfter, TicksAreWanted}
-use Rattle.run_media.specs.Media.{Media}
-use Rattle.run_rounds.specs.Closings.{HaveGone, ListEnds, Pass}
-use Rattle.run_starts.specs.Deals.{IsDealt}
+use Rattle.run_starts.specs.Nodes.{EachNode, EachPlace, HasAllOf, HasPass, Shares}
+use Rattle.run_starts.specs.Reasons.{EndsFor, IsDown}
 use Rattle.run_starts.proofs.AlongLemmas.{dealt-along, each-listed, some-listed}
 
 module _ {M : Type 0} (W : ℕ) (pos : 0 < W) (nodes : List (NodeParts M)) (shares : List (Vec (NodeParts M) Global)) (d : IsDealt W nodes shares) (size : length shares ≡ W) where

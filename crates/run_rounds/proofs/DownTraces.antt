@@ -3,31 +3,11 @@ use Rattle.std.proofs.Common.{◌≡◌, ◌≤◌, ◌+◌, ◌-◌, ◌==◌, 
 use Rattle.std.specs.Option.{unwrap_or}
 use Rattle.std.proofs.lemmas.Bool.Decides.{nat_tests}
 use Rattle.std.proofs.lemmas.Option.{same_Some}
-use Rattle.pseudo_time.specs.Lists.{Every, Has}
-use Rattle.pseudo_time.specs.Nodes.{same_node}
-use Rattle.pseudo_time.specs.declared.nodes.NodeId.{NodeId}
-use Rattle.pseudo_time.specs.declared.down_causes.DownCause.{DownCause}
-use Rattle.message_core.proofs.NodeLemmas.{same_is, same_node-refl}
-use Rattle.plan_form.specs.declared.plans.Plan.{Plan}
-use Rattle.seat_lock.specs.Rule.{IsOneOf, total, same}
-use Rattle.seat_lock.specs.Story.{entries_of}
-use Rattle.seat_lock.specs.Words.{CarriesOn, knows}
-use Rattle.world_core.specs.declared.entries.Entry.{Entry}
-use Rattle.world_core.specs.declared.entries.Entry.TheVariants.{Down}
-use Rattle.world_core.specs.Walks.{Base, Life, World, is_down, lives_on, names, opened_life, opened_log, own, start_world, step, walk, walk_from}
-use Rattle.run_starts.specs.Wires.{WireParts}
-use Rattle.run_starts.specs.Boards.{owner_for, owner_of}
-use Rattle.run_starts.specs.Sights.{owners_for}
-use Rattle.world_core.specs.Counts.{down_cause}
-use Rattle.run_media.specs.declared.openings.Opening.{Opening}
-use Rattle.run_media.specs.declared.openings.Opening.TheVariants.{Open, Shut, Wanting}
-use Rattle.run_media.specs.Openings.{opened_from}
-use Rattle.run_media.specs.Places.{node_at}
-use Rattle.run_starts.specs.Seats.{Along}
-use Rattle.run_starts.specs.Starts.{HasFallen, downs_of}
-use Rattle.run_rounds.specs.Closings.{Pass}
+use Rattle.run_rounds.proofs.Names.{Every, Has, same_node, NodeId, DownCause, same_is, same_node-refl, Plan, IsOneOf, entries_of, CarriesOn, knows, Entry, Down, Base, Life, World, is_down, names, opened_life, opened_log, own, start_world, step, walk, walk_from, WireParts, owner_for, owner_of, owners_for, down_cause, Opening, Open, Shut, Wanting, opened_from, node_at, Along, HasFallen, downs_of, Pass, filter-has}
+use Rattle.seat_lock.specs.Rule.{total, same}
+use Rattle.world_core.specs.Walks.{lives_on}
 use Rattle.pseudo_time.proofs.ListLemmas.{every-has}
-use Rattle.kill_law.proofs.Growths.{every-of, has-filter, filter-has}
+use Rattle.kill_law.proofs.Growths.{every-of, has-filter}
 
 -- ---- lists
 

@@ -4,36 +4,16 @@ use Rattle.std.specs.List.{list_any}
 use Rattle.std.proofs.lemmas.Bool.Decides.{nat_tests}
 use Rattle.std.proofs.lemmas.List.{length-map}
 use Rattle.std.proofs.lemmas.List.Sums.{sum_by-cons}
-use Rattle.pseudo_time.specs.Lists.{Every, Has}
+use Rattle.run_rounds.proofs.Names.{Every, Has, NodeId, NodeKind, Repository, Broker, is_broker, same_node, same_is, same_node-refl, DownCause, CarriesOn, entries_of, Entry, Take, Go, Learn, Hear, Gate, Crash, Down, Tick, Trace, Base, is_down, names, own, walk, Plan, in_plan, is_within, most_of, Origin, base_from, owner_for, owner_of, Sight, IsOf, base_at, flags_at, life_at, end_of, tick_count, costs, is_over, is_done_at, life-whole, filter-has, in-range}
 use Rattle.pseudo_time.proofs.ListLemmas.{has-right}
-use Rattle.pseudo_time.specs.declared.nodes.NodeId.{NodeId}
-use Rattle.pseudo_time.specs.declared.nodes.NodeKind.{NodeKind}
-use Rattle.pseudo_time.specs.declared.nodes.NodeKind.TheVariants.{Repository, Broker}
-use Rattle.pseudo_time.specs.Nodes.{is_broker, same_node}
-use Rattle.message_core.proofs.NodeLemmas.{same_is, same_node-refl}
-use Rattle.pseudo_time.specs.declared.down_causes.DownCause.{DownCause}
-use Rattle.seat_lock.specs.Words.{CarriesOn}
-use Rattle.seat_lock.specs.Story.{entries_of}
-use Rattle.world_core.specs.declared.entries.Entry.{Entry}
-use Rattle.world_core.specs.declared.entries.Entry.TheVariants.{Take, Go, Learn, Hear, Gate, Crash, Down, Tick}
-use Rattle.world_core.specs.declared.traces.Trace.{Trace}
-use Rattle.world_core.specs.Walks.{Base, is_down, names, own, sent_by, walk}
-use Rattle.plan_form.specs.declared.plans.Plan.{Plan}
-use Rattle.world_core.specs.Legal.{in_plan, is_within, most_of, post_of}
+use Rattle.world_core.specs.Walks.{sent_by}
+use Rattle.world_core.specs.Legal.{post_of}
 use Rattle.world_core.proofs.Lives.{sent-grows}
-use Rattle.run_starts.specs.Wires.{Origin, base_from}
-use Rattle.run_starts.specs.Boards.{owner_for, owner_of, owner_with}
-use Rattle.run_starts.specs.Sights.{Sight, IsOf, Owns, base_at, flags_at, life_at, world_at}
-use Rattle.run_starts.specs.Stories.{end_of}
+use Rattle.run_starts.specs.Boards.{owner_with}
+use Rattle.run_starts.specs.Sights.{Owns, world_at}
 use Rattle.run_starts.proofs.SightLemmas.{as-before}
-use Rattle.world_core.specs.Counts.{is_tick, tick_count}
-use Rattle.run_starts.specs.Costs.{costs}
-use Rattle.run_starts.specs.Logs.{is_over}
-use Rattle.run_starts.specs.Reasons.{is_done_at}
-use Rattle.run_starts.proofs.WantedLemmas.{life-whole}
+use Rattle.world_core.specs.Counts.{is_tick}
 use Rattle.run_rounds.proofs.ListLemmas.{any-has}
-use Rattle.kill_law.proofs.Growths.{filter-has}
-use Rattle.kill_law.proofs.Ranges.{in-range}
 
 -- ---- flags
 

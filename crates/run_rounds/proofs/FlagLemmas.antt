@@ -2,18 +2,11 @@
 use Rattle.std.proofs.Common.{◌≡◌, ◌⊎◌, ◌∙◌, ◌++◌, ◌&&◌, Bool, true, false, List, [], ◌∷◌, Option, Some, None, is_some, if◌then◌else◌, inl, inr, refl, ap, sym, subst}
 use Rattle.std.proofs.lemmas.Option.{same_Some}
 use Rattle.std.proofs.lemmas.Bool.{and_from}
-use Rattle.pseudo_time.specs.Lists.{Every, Has}
-use Rattle.pseudo_time.specs.declared.nodes.NodeId.{NodeId}
-use Rattle.pseudo_time.specs.declared.down_causes.DownCause.{DownCause}
-use Rattle.pseudo_time.specs.Nodes.{same_node}
-use Rattle.message_core.proofs.NodeLemmas.{same_is, same_node-refl}
+use Rattle.run_rounds.proofs.Names.{Every, Has, NodeId, DownCause, same_node, same_is, same_node-refl, Entry, Take, Go, Learn, Hear, Gate, Crash, Down, Tick, Base, Flags, World, is_down, names, opened_log, step, walk_from, down_cause}
 use Rattle.stream_port.specs.declared.fates.Fate.{Fate}
-use Rattle.world_core.specs.declared.entries.Entry.{Entry}
-use Rattle.world_core.specs.declared.entries.Entry.TheVariants.{Take, Go, Learn, Hear, Gate, Crash, Down, Tick}
-use Rattle.world_core.specs.Walks.{Base, Flags, World, flagged, is_down, names, opened_log, step, walk_from}
+use Rattle.world_core.specs.Walks.{flagged}
 use Rattle.world_core.specs.Legal.{Meets, Rule}
 use Rattle.kill_law.proofs.Steps.{step-known}
-use Rattle.world_core.specs.Counts.{down_cause}
 
 -- ---- the first Down of a node
 

@@ -2,28 +2,11 @@
 use Rattle.std.proofs.Common.{◌≡◌, ◌∙◌, ◌++◌, ℕ, IsTrue, List, [], Option, Some, Ok, map, take, append_assoc, inr, refl, ap, sym, subst}
 use Rattle.std.specs.List.{AllZip}
 use Rattle.std.specs.Option.{unwrap_or}
-use Rattle.pseudo_time.specs.declared.nodes.NodeId.{NodeId}
-use Rattle.medium_port.specs.Image.{Image}
-use Rattle.effect_form.specs.declared.effects.Effect.{Effect}
-use Rattle.version_store.specs.Storage.{storage}
-use Rattle.plan_form.specs.declared.plans.Plan.{Plan}
-use Rattle.seat_lock.specs.declared.views.View.{View}
-use Rattle.seat_lock.specs.declared.views.Founding.{Founding}
-use Rattle.seat_lock.specs.declared.locks.LockTable.{LockTable}
-use Rattle.seat_lock.specs.Words.{base_of as lock_base, knows}
-use Rattle.world_core.specs.declared.entries.Entry.{Entry}
-use Rattle.world_core.specs.declared.traces.Opened.{Opened}
-use Rattle.world_core.specs.Walks.{Base, opened_log, walk, walk_from}
+use Rattle.run_rounds.proofs.Names.{NodeId, Image, Effect, storage, Plan, View, Founding, LockTable, knows, Entry, Opened, Base, opened_log, walk, walk_from, Origin, WireParts, IsWirePass, Sight, base_at, life_at, pass-origin, IsKept, NodeParts, sight, Media, node_at, Along, IsKeptWhole}
+use Rattle.seat_lock.specs.Words.{base_of as lock_base}
 use Rattle.world_core.proofs.Lives.{gated-grows}
-use Rattle.run_starts.specs.Wires.{Origin, WireParts}
-use Rattle.run_starts.specs.Sights.{IsWirePass, Sight, base_at, life_at, origin_at}
-use Rattle.run_starts.proofs.SightLemmas.{pass-origin}
-use Rattle.run_starts.specs.Lives.{IsKept}
-use Rattle.run_starts.specs.TurnNodes.{NodeParts, sight}
-use Rattle.run_media.specs.Media.{Media}
-use Rattle.run_media.specs.Places.{node_at}
-use Rattle.run_starts.specs.Seats.{Along}
-use Rattle.run_rounds.specs.Finishes.{HasItsLog, IsKeptWhole}
+use Rattle.run_starts.specs.Sights.{origin_at}
+use Rattle.run_rounds.specs.Finishes.{HasItsLog}
 use Rattle.run_rounds.proofs.ListLemmas.{along-mapped}
 use Rattle.run_rounds.proofs.SeenLemmas.{At, Went}
 

@@ -8,48 +8,17 @@ use Rattle.std.specs.declared.alloc.Global.{Global}
 use Rattle.std.proofs.lemmas.List.{append-nil, length-map}
 use Rattle.std.proofs.lemmas.List.Elements.{filter-append}
 use Rattle.std.proofs.lemmas.Option.{same_Some}
-use Rattle.pseudo_time.specs.declared.nodes.NodeId.{NodeId}
-use Rattle.stream_port.specs.declared.fates.Asked.{Asked}
-use Rattle.medium_port.specs.Image.{Image}
-use Rattle.medium_port.specs.Moment.{Stage, LeftNow, Goes, goes_nowhere}
-use Rattle.effect_form.specs.declared.effects.Effect.{Effect}
+use Rattle.run_rounds.proofs.Names.{NodeId, Asked, Image, LeftNow, Goes, goes_nowhere, Effect, medium_of, Plan, View, Founding, LockTable, fresh, knows, reading, Entry, Trace, base_of, in_plan, Base, Life, names, opened_life, opened_log, own, walk, walk_from, WireParts, base_from, owner_for, Sight, base_at, life_at, IsKept, NodeParts, sight, Passes, cuts_of, kept-none, IsKeptThrough, HasMemory, Opening, Open, Shut, Wanting, Media, HasOpened, IsOpen, log_in, node_at, node_count, place_of, at-place, Along, IsNewNode, IsSetUp, fresh_for, zip-at, all-at, Pass, KeepsThroughout, SurvivesKills, Became, inner}
+use Rattle.medium_port.specs.Moment.{Stage}
 use Rattle.version_store.specs.declared.stores.Store.{Store}
-use Rattle.version_store.specs.StoreWords.{medium_of}
-use Rattle.plan_form.specs.declared.plans.Plan.{Plan}
-use Rattle.seat_lock.specs.declared.views.View.{View}
-use Rattle.seat_lock.specs.declared.views.Founding.{Founding}
-use Rattle.seat_lock.specs.declared.locks.LockTable.{LockTable}
-use Rattle.seat_lock.specs.Words.{base_of as lock_base, fresh, knows}
-use Rattle.broker_core.specs.Readings.{reading}
-use Rattle.world_core.specs.declared.entries.Entry.{Entry}
-use Rattle.world_core.specs.declared.traces.Trace.{Trace}
-use Rattle.world_core.specs.Legal.{base_of, in_plan}
-use Rattle.world_core.specs.Walks.{Base, Life, names, opened_life, opened_log, own, walk, walk_from}
-use Rattle.run_starts.specs.Wires.{WireParts, base_from}
-use Rattle.run_starts.specs.Boards.{owner_for}
-use Rattle.run_starts.specs.Sights.{Sight, base_at, life_at}
+use Rattle.seat_lock.specs.Words.{base_of as lock_base}
 use Rattle.run_starts.proofs.SightLemmas.{looked-of}
-use Rattle.run_starts.specs.Lives.{IsKept}
-use Rattle.run_starts.specs.TurnNodes.{NodeParts, sight}
-use Rattle.run_starts.specs.Windows.{IsNext, KeptAlong, Mark, Passes, PassesOn, cuts_of, entries_in}
-use Rattle.run_starts.proofs.LifeLemmas.{kept-none}
+use Rattle.run_starts.specs.Windows.{IsNext, KeptAlong, Mark, PassesOn, entries_in}
 use Rattle.run_starts.proofs.PhaseLemmas.{kept-on, passes-beside, passes-on}
 use Rattle.run_starts.proofs.WindowLemmas.{place-of}
-use Rattle.run_starts.specs.Nodes.{IsKeptNow, IsKeptThrough}
-use Rattle.run_starts.specs.Reasons.{HasMemory}
-use Rattle.run_media.specs.declared.openings.Opening.{Opening}
-use Rattle.run_media.specs.declared.openings.Opening.TheVariants.{Open, Shut, Wanting}
-use Rattle.run_media.specs.Media.{Media}
-use Rattle.run_media.specs.Openings.{HasOpened, IsOpen, IsOpened, log_in}
-use Rattle.run_media.specs.Places.{node_at, node_count, place_of}
-use Rattle.run_media.proofs.OrderLemmas.{at-place}
-use Rattle.run_starts.specs.Seats.{Along, IsNewNode}
-use Rattle.run_starts.specs.Starts.{IsSetUp, fresh_for}
-use Rattle.run_starts.proofs.AlongLemmas.{zip-at}
-use Rattle.run_starts.proofs.DealLemmas.{all-at}
-use Rattle.run_rounds.specs.Closings.{Pass}
-use Rattle.run_rounds.specs.Kills.{KeepsPlaces, KeepsThroughout, SurvivesKills}
-use Rattle.run_rounds.specs.Media.{Became, inner}
+use Rattle.run_starts.specs.Nodes.{IsKeptNow}
+use Rattle.run_media.specs.Openings.{IsOpened}
+use Rattle.run_rounds.specs.Kills.{KeepsPlaces}
 use Rattle.run_rounds.proofs.ListLemmas.{along-at, along-unmapped, get-mapped}
 use Rattle.run_rounds.proofs.KnownLemmas.{HaveStood, Known, base}
 use Rattle.run_rounds.proofs.LogLemmas.{opened-at}

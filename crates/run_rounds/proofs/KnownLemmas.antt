@@ -1,41 +1,9 @@
 -- What a run's closing leaves known of each node.
 use Rattle.std.proofs.Common.{◌≡◌, ◌≢◌, ◌∙◌, ◌++◌, ℕ, Bool, true, false, IsTrue, List, [], ◌∷◌, Option, Some, None, is_some, length, map, refl, ap, sym, subst}
 use Rattle.std.specs.Prelude.{All}
-use Rattle.pseudo_time.specs.Lists.{Has}
-use Rattle.pseudo_time.specs.declared.nodes.NodeId.{NodeId}
-use Rattle.pseudo_time.specs.declared.down_causes.DownCause.{DownCause}
-use Rattle.stream_port.specs.declared.fates.Asked.{Asked}
-use Rattle.plan_form.specs.declared.plans.Plan.{Plan}
-use Rattle.seat_lock.specs.declared.views.View.{View}
-use Rattle.seat_lock.specs.declared.views.Founding.{Founding}
-use Rattle.seat_lock.specs.declared.locks.LockTable.{LockTable}
-use Rattle.seat_lock.specs.Words.{CarriesOn, base_of as lock_base, knows}
-use Rattle.broker_core.specs.Readings.{reading}
-use Rattle.world_core.specs.declared.entries.Entry.{Entry}
-use Rattle.world_core.specs.declared.entries.Entry.TheVariants.{Down}
-use Rattle.world_core.specs.declared.traces.Opened.{Opened}
-use Rattle.world_core.specs.declared.traces.Trace.{Trace}
-use Rattle.world_core.specs.Walks.{Base, Flags, Life, opened_log, start_world, walk}
-use Rattle.world_core.specs.Legal.{base_of, in_plan}
-use Rattle.world_core.specs.Pasts.{WasNotOpened}
-use Rattle.world_core.specs.Readings.{life_after}
-use Rattle.run_starts.specs.Wires.{Origin, WireParts, base_from}
-use Rattle.run_starts.specs.Boards.{owner_of}
-use Rattle.run_starts.specs.Sights.{IsOf, IsWirePass, base_at, flags_at, life_at}
-use Rattle.run_starts.proofs.SightLemmas.{pass-origin}
-use Rattle.world_core.specs.Counts.{down_cause}
-use Rattle.run_starts.specs.Condition.{Condition}
+use Rattle.run_rounds.proofs.Names.{Has, NodeId, DownCause, Asked, Plan, View, Founding, LockTable, CarriesOn, knows, reading, Entry, Down, Opened, Trace, Base, Flags, Life, opened_log, start_world, walk, base_of, in_plan, WasNotOpened, life_after, Origin, WireParts, base_from, owner_of, IsOf, IsWirePass, base_at, flags_at, life_at, pass-origin, down_cause, Condition, IsCause, NodeParts, Stands, sight, HasMemory, Opening, Media, node_count, Along, IsSetUp, Pass, life-whole}
+use Rattle.seat_lock.specs.Words.{base_of as lock_base}
 use Rattle.run_starts.specs.Condition.TheVariants as condition
-use Rattle.run_starts.specs.Lives.{IsCause}
-use Rattle.run_starts.specs.TurnNodes.{NodeParts, Stands, sight}
-use Rattle.run_starts.specs.Reasons.{HasMemory}
-use Rattle.run_media.specs.declared.openings.Opening.{Opening}
-use Rattle.run_media.specs.Media.{Media}
-use Rattle.run_media.specs.Places.{node_count}
-use Rattle.run_starts.specs.Seats.{Along}
-use Rattle.run_starts.specs.Starts.{IsSetUp}
-use Rattle.run_rounds.specs.Closings.{Pass}
-use Rattle.run_starts.proofs.WantedLemmas.{life-whole}
 use Rattle.run_rounds.proofs.EndLemmas.{down-in, flags-whole}
 use Rattle.run_rounds.proofs.FlagLemmas.{down-ends, none-due, told-of}
 use Rattle.run_rounds.proofs.SeenLemmas.{At, Seen, Went, of-seen, seen}

@@ -21,3 +21,4 @@ pub mod UnopenedLemmas
 pub use Rattle.run_starts.proofs.AlongLemmas
 pub use Rattle.run_starts.proofs.DealLemmas
 pub use Rattle.run_starts.proofs.TrailLemmas
+pub mod Names

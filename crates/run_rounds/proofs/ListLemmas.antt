@@ -4,8 +4,7 @@ use Rattle.std.specs.Prelude.{All, Any}
 use Rattle.std.specs.List.{AllZip, list_any}
 use Rattle.std.proofs.lemmas.List.Elements.{All-nil, All-cons}
 use Rattle.std.proofs.lemmas.Option.{same_Some}
-use Rattle.pseudo_time.specs.Lists.{Has}
-use Rattle.run_starts.specs.Seats.{Along}
+use Rattle.run_rounds.proofs.Names.{Has, Along}
 
 -- ---- what holds of each element
 

@@ -2,30 +2,8 @@
 use Rattle.std.proofs.Common.{◌≡◌, ◌∙◌, ℕ, true, IsTrue, List, [], length, Option, Some, None, Ok, ap, sym, subst}
 use Rattle.std.specs.Prelude.{All}
 use Rattle.std.proofs.lemmas.Option.{same_Some}
-use Rattle.pseudo_time.specs.declared.nodes.NodeId.{NodeId}
-use Rattle.medium_port.specs.Image.{Image}
-use Rattle.effect_form.specs.declared.effects.Effect.{Effect}
-use Rattle.version_store.specs.Storage.{storage}
-use Rattle.plan_form.specs.declared.plans.Plan.{Plan}
-use Rattle.seat_lock.specs.declared.views.View.{View}
-use Rattle.seat_lock.specs.declared.views.Founding.{Founding}
-use Rattle.seat_lock.specs.declared.locks.LockTable.{LockTable}
-use Rattle.world_core.specs.declared.entries.Entry.{Entry}
-use Rattle.world_core.specs.declared.traces.Trace.{Trace}
-use Rattle.world_core.specs.Legal.{in_plan}
-use Rattle.world_core.specs.Pasts.{WasNotOpened}
-use Rattle.world_core.specs.Walks.{Life, opened_log}
-use Rattle.world_core.specs.Readings.{open_effects}
-use Rattle.run_starts.specs.Wires.{WireParts, base_from}
-use Rattle.run_starts.specs.Sights.{life_at}
-use Rattle.world_core.specs.Counts.{down_cause}
-use Rattle.run_starts.specs.Lives.{IsKept}
-use Rattle.run_starts.specs.TurnNodes.{NodeParts, sight}
-use Rattle.run_starts.specs.Reasons.{HasMemory}
-use Rattle.run_media.specs.Media.{Media}
-use Rattle.run_media.specs.Places.{node_count}
-use Rattle.run_starts.specs.Seats.{Along}
-use Rattle.run_rounds.specs.Media.{Became, RestoresLogs, KeepsLog, LeavesLife, WasHeld}
+use Rattle.run_rounds.proofs.Names.{NodeId, Image, Effect, storage, Plan, View, Founding, LockTable, Entry, Trace, in_plan, WasNotOpened, Life, opened_log, open_effects, WireParts, base_from, life_at, down_cause, IsKept, NodeParts, sight, HasMemory, Media, node_count, Along, Became, RestoresLogs, KeepsLog}
+use Rattle.run_rounds.specs.Media.{LeavesLife, WasHeld}
 use Rattle.run_rounds.proofs.SeenLemmas.{At, Seen, are-back, left, of-seen, seen}
 use Rattle.run_rounds.proofs.KnownLemmas.{HaveStood, Known, base, life-end, log-end, none-open, origin, was-opened}
 

@@ -2,23 +2,7 @@
 use Rattle.std.proofs.Common.{◌≡◌, ◌∙◌, ◌+◌, ℕ, zero, suc, List, [], ◌∷◌, length, map, Option, Some, slice_get, take, refl, ap, sym, subst, arith}
 use Rattle.std.proofs.lemmas.List.{length-map}
 use Rattle.std.proofs.Math.Seq.{take-length}
-use Rattle.pseudo_time.specs.declared.nodes.NodeId.{NodeId}
-use Rattle.effect_form.specs.declared.effects.Effect.{Effect}
-use Rattle.stream_port.specs.declared.fates.Asked.{Asked}
-use Rattle.plan_form.specs.declared.plans.Plan.{Plan}
-use Rattle.seat_lock.specs.Words.{fresh, knows}
-use Rattle.world_core.specs.declared.traces.Opened.{Opened}
-use Rattle.world_core.specs.Walks.{opened_log}
-use Rattle.run_starts.specs.Wires.{WireParts}
-use Rattle.run_starts.specs.Boards.{owner_for}
-use Rattle.run_starts.specs.Sights.{Sight}
-use Rattle.run_media.specs.declared.openings.Opening.{Opening}
-use Rattle.run_media.specs.Openings.{log_in, opened_from}
-use Rattle.run_media.specs.Places.{node_at}
-use Rattle.run_media.proofs.OrderLemmas.{log-at}
-use Rattle.run_starts.specs.Seats.{Along}
-use Rattle.run_starts.specs.Starts.{IsSetUp, IsUnseen, fresh_for}
-use Rattle.run_rounds.specs.Closings.{Pass}
+use Rattle.run_rounds.proofs.Names.{NodeId, Effect, Asked, Plan, fresh, knows, Opened, opened_log, WireParts, owner_for, Sight, Opening, log_in, opened_from, node_at, log-at, Along, IsSetUp, IsUnseen, fresh_for, Pass}
 
 first-same : {T : Type 0} {x y : T} {xs ys : List T} → x ∷ xs ≡ y ∷ ys → x ≡ y
 first-same e = cc

@@ -4,53 +4,16 @@ use Rattle.std.specs.Prelude.{All, Any}
 use Rattle.std.specs.List.{AllZip}
 use Rattle.std.proofs.lemmas.Option.{get_or_from_slice_get, slice_get_within}
 use Rattle.std.proofs.lemmas.Slice.Zip.{AllZip-long}
-use Rattle.pseudo_time.specs.declared.nodes.NodeId.{NodeId}
-use Rattle.pseudo_time.specs.Nodes.{broker, is_broker}
-use Rattle.pseudo_time.specs.declared.nodes.NodeKind.{NodeKind}
-use Rattle.pseudo_time.specs.declared.nodes.NodeKind.TheVariants.{Repository, Broker}
-use Rattle.pseudo_time.specs.declared.down_causes.DownCause.{DownCause}
-use Rattle.stream_port.specs.declared.fates.Asked.{Asked}
-use Rattle.medium_port.specs.Image.{Image}
-use Rattle.medium_port.specs.Moment.{LeftNow}
-use Rattle.seat_lock.specs.declared.views.View.{View}
-use Rattle.seat_lock.specs.declared.views.Founding.{Founding}
-use Rattle.seat_lock.specs.declared.locks.LockTable.{LockTable}
-use Rattle.seat_lock.specs.Words.{CarriesOn, base_of as lock_base, knows}
-use Rattle.plan_form.specs.declared.plans.Plan.{Plan}
-use Rattle.plan_form.specs.PlanTexts.{IsOfLanguage}
-use Rattle.broker_core.specs.Readings.{reading}
-use Rattle.world_core.specs.declared.entries.Entry.{Entry}
-use Rattle.world_core.specs.declared.entries.Entry.TheVariants.{Tick}
-use Rattle.world_core.specs.declared.traces.Trace.{Trace}
-use Rattle.world_core.specs.Walks.{Base, World, walk}
-use Rattle.world_core.specs.Legal.{Idle, base_of, fates_of, in_plan, is_within, most_of}
-use Rattle.run_starts.specs.Wires.{Origin, WireParts, base_from}
-use Rattle.run_starts.specs.Boards.{owner_of}
-use Rattle.run_starts.specs.Sights.{IsOf, IsWirePass}
-use Rattle.run_starts.specs.Stories.{IsUntold, LeavesUntold}
-use Rattle.world_core.specs.Counts.{tick_count}
-use Rattle.run_starts.specs.Condition.{Condition}
+use Rattle.run_rounds.proofs.Names.{NodeId, broker, is_broker, NodeKind, Repository, Broker, DownCause, Asked, Image, LeftNow, View, Founding, LockTable, CarriesOn, knows, Plan, IsOfLanguage, reading, Entry, Tick, Trace, Base, World, walk, Idle, base_of, fates_of, in_plan, is_within, most_of, Origin, WireParts, base_from, owner_of, IsOf, IsWirePass, LeavesUntold, tick_count, Condition, NodeParts, IsAtRest, Stands, sight, is_over, Limits, Reason, GoesOn, IsUp, HasMemory, IsDone, IsLateAfter, is_done_at, Opening, Media, AreReady, HasOpened, IsOpen, node_at, node_count, in-at, Along, IsNewNode, IsSetUp, fresh_for, End, ClosedAs, HaveGone, IfRan, IfWanting, ListEnds, Pass, EndsAs, IsKeptWhole, account_of, tellers, IsTold, Ran, along-length}
+use Rattle.seat_lock.specs.Words.{base_of as lock_base}
+use Rattle.run_starts.specs.Stories.{IsUntold}
 use Rattle.run_starts.specs.Condition.TheVariants as condition
-use Rattle.run_starts.specs.TurnNodes.{NodeParts, IsAtRest, Stands, sight}
-use Rattle.run_starts.specs.Logs.{is_over}
-use Rattle.run_starts.specs.Limits.{Limits}
-use Rattle.run_starts.specs.Reason.{Reason}
 use Rattle.run_starts.specs.Reason.TheVariants as reason
-use Rattle.run_starts.specs.Nodes.{GoesOn, IsUp}
-use Rattle.run_starts.specs.Reasons.{HasMemory, IsDone, IsLateAfter, is_done_after, is_done_at}
-use Rattle.run_media.specs.declared.openings.Opening.{Opening}
-use Rattle.run_media.specs.Media.{Media}
-use Rattle.run_media.specs.Openings.{AreReady, HasOpened, IsOpen}
-use Rattle.run_media.specs.Places.{node_at, node_count}
-use Rattle.run_media.proofs.OrderLemmas.{in-at}
-use Rattle.run_starts.specs.Seats.{Along, IsNewNode}
-use Rattle.run_starts.specs.Starts.{IsSetUp, fresh_for}
-use Rattle.run_rounds.specs.declared.ends.End.{End}
+use Rattle.run_starts.specs.Reasons.{is_done_after}
 use Rattle.run_rounds.specs.declared.ends.End.TheVariants as end
-use Rattle.run_rounds.specs.Closings.{ClosedAs, HasClosed, HaveGone, IfRan, IfWanting, ListEnds, Pass}
+use Rattle.run_rounds.specs.Closings.{HasClosed}
 use Rattle.run_rounds.specs.Ends.{AllDone, HasEnded, HasRunOut, TicksAreWanted, broker_done_after, some_down}
-use Rattle.run_rounds.specs.Finishes.{EndsAs, IsKeptWhole, account_of, tellers}
-use Rattle.run_rounds.specs.Runs.{IsTold, Ran, RanUntold}
+use Rattle.run_rounds.specs.Runs.{RanUntold}
 use Rattle.run_rounds.proofs.ListLemmas.{all-end, all-front, all-mapped, along-at, one-of}
 use Rattle.run_starts.proofs.WantedLemmas.{story-ticks, tick-before, ticks-whole}
 use Rattle.run_rounds.proofs.EndLemmas.{down-whole, done-whole, enough-whole}
@@ -62,7 +25,6 @@ use Rattle.run_rounds.proofs.KeptLemmas.{all-kept}
 use Rattle.run_rounds.proofs.KillLemmas.{IsUnseenAt, survives}
 use Rattle.run_rounds.proofs.RangeLemmas.{ranges-of, ranges-opened}
 use Rattle.run_rounds.proofs.ToldLemmas.{is-told, nodes-told, ready-told, run as run-of}
-use Rattle.run_starts.proofs.AlongLemmas.{along-length}
 
 -- ---- memory
 

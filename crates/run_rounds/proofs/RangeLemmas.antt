@@ -4,22 +4,8 @@ use Rattle.std.specs.Prelude.{All}
 use Rattle.std.specs.List.{AllZip}
 use Rattle.std.proofs.lemmas.Bool.Decides.{nat_tests}
 use Rattle.std.proofs.lemmas.List.Elements.{All-nil, All-cons}
-use Rattle.pseudo_time.specs.Lists.{Every}
-use Rattle.pseudo_time.specs.Nodes.{repository, broker}
-use Rattle.stream_port.specs.declared.fates.Asked.{Asked}
-use Rattle.plan_form.specs.declared.plans.Plan.{Plan}
-use Rattle.plan_form.specs.PlanTexts.{IsOfLanguage}
-use Rattle.world_core.specs.declared.traces.Opened.{Opened}
-use Rattle.world_core.specs.declared.traces.Trace.{Trace}
-use Rattle.run_starts.specs.Wires.{Origin}
-use Rattle.run_starts.specs.Stories.{IsWhole}
+use Rattle.run_rounds.proofs.Names.{Every, repository, broker, Asked, Plan, IsOfLanguage, Opened, Trace, Origin, IsWhole, Opening, Open, Shut, Wanting, Media, HasOpened, IsInRange, log_in, opened_from, node_at, node_count, IsSetUp}
 use Rattle.trace_report.specs.Replays.{IsOpened}
-use Rattle.run_media.specs.declared.openings.Opening.{Opening}
-use Rattle.run_media.specs.declared.openings.Opening.TheVariants.{Open, Shut, Wanting}
-use Rattle.run_media.specs.Media.{Media}
-use Rattle.run_media.specs.Openings.{HasOpened, IsInRange, log_in, opened_from}
-use Rattle.run_media.specs.Places.{node_at, node_count}
-use Rattle.run_starts.specs.Starts.{IsSetUp}
 use Rattle.run_rounds.specs.Runs.{HasRanges}
 use Rattle.run_rounds.proofs.ListLemmas.{all-first, all-rest}
 

@@ -5,36 +5,8 @@ use Rattle.std.specs.List.{AllZip}
 use Rattle.std.proofs.lemmas.Slice.Zip.{AllZip-long}
 use Rattle.std.proofs.lemmas.List.Elements.{All-map}
 use Rattle.std.proofs.lemmas.Option.{get_or_from_slice_get, slice_get_within, same_Some}
-use Rattle.pseudo_time.specs.declared.nodes.NodeId.{NodeId}
-use Rattle.stream_port.specs.declared.fates.Asked.{Asked}
-use Rattle.stream_port.specs.Causes.{RoseBy, rose_by_none}
-use Rattle.medium_port.specs.Image.{Image}
-use Rattle.effect_form.specs.declared.effects.Effect.{Effect}
-use Rattle.version_store.specs.Storage.{storage}
-use Rattle.version_store.specs.StoreWords.{medium_of}
-use Rattle.plan_form.specs.declared.plans.Plan.{Plan}
-use Rattle.seat_lock.specs.Words.{fresh, knows}
-use Rattle.world_core.specs.declared.traces.Opened.{Opened}
-use Rattle.world_core.specs.Legal.{in_plan}
-use Rattle.world_core.specs.Walks.{opened_log}
-use Rattle.run_starts.specs.Wires.{Origin, WireParts}
-use Rattle.run_starts.specs.Boards.{owner_for}
-use Rattle.run_starts.specs.Sights.{Sight}
-use Rattle.run_starts.specs.Cores.{IsIntact}
+use Rattle.run_rounds.proofs.Names.{NodeId, Asked, RoseBy, rose_by_none, Image, Effect, storage, medium_of, Plan, fresh, knows, Opened, in_plan, opened_log, Origin, WireParts, owner_for, Sight, IsIntact, costs, NodeParts, IsAtRest, sight, GoesOn, Opening, Open, Shut, Wanting, Media, IsBack, AreBack, HasOpened, IsOpen, log_in, medium_in, opened_from, node_at, node_count, place_of, at-place, log-at, Along, IsNewNode, IsSetUp, fresh_for, Pass, Became, inner, medium_at}
 use Rattle.run_starts.specs.Condition.TheVariants as condition
-use Rattle.run_starts.specs.Costs.{costs}
-use Rattle.run_starts.specs.TurnNodes.{NodeParts, IsAtRest, sight}
-use Rattle.run_starts.specs.Nodes.{GoesOn}
-use Rattle.run_media.specs.declared.openings.Opening.{Opening}
-use Rattle.run_media.specs.declared.openings.Opening.TheVariants.{Open, Shut, Wanting}
-use Rattle.run_media.specs.Media.{Media, IsBack, AreBack}
-use Rattle.run_media.specs.Openings.{HasOpened, IsOpen, log_in, medium_in, opened_from}
-use Rattle.run_media.specs.Places.{node_at, node_count, place_of}
-use Rattle.run_media.proofs.OrderLemmas.{at-place, log-at}
-use Rattle.run_starts.specs.Seats.{Along, IsNewNode}
-use Rattle.run_starts.specs.Starts.{IsSetUp, fresh_for}
-use Rattle.run_rounds.specs.Closings.{Pass}
-use Rattle.run_rounds.specs.Media.{Became, inner, medium_at}
 use Rattle.run_rounds.proofs.ListLemmas.{all-first, all-mapped, all-rest, along-at, along-mapped, get-mapped}
 
 -- ---- new passes

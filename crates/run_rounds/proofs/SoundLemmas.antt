@@ -3,29 +3,9 @@ use Rattle.std.proofs.Common.{◌≡◌, ◌≤◌, ◌<◌, ◌+◌, ◌∙◌,
 use Rattle.std.specs.Prelude.{All}
 use Rattle.std.specs.List.{AllZip}
 use Rattle.std.proofs.lemmas.List.Elements.{All-nil, All-cons, All-weaker}
-use Rattle.stream_port.specs.declared.fates.Asked.{Asked}
-use Rattle.plan_form.specs.declared.plans.Plan.{Plan}
-use Rattle.seat_lock.specs.declared.views.View.{View}
-use Rattle.seat_lock.specs.declared.views.Founding.{Founding}
-use Rattle.seat_lock.specs.declared.locks.LockTable.{LockTable}
-use Rattle.seat_lock.specs.Words.{fresh, knows}
-use Rattle.world_core.specs.declared.entries.Entry.{Entry}
-use Rattle.world_core.specs.declared.traces.Opened.{Opened}
-use Rattle.run_starts.specs.Wires.{Origin, WireParts}
-use Rattle.run_starts.specs.Boards.{owner_for}
-use Rattle.run_starts.specs.Sights.{IsWirePass, Sight}
-use Rattle.run_starts.specs.TurnNodes.{NodeParts}
-use Rattle.run_starts.specs.Nodes.{IsReady}
-use Rattle.run_media.specs.declared.openings.Opening.{Opening}
-use Rattle.run_media.specs.declared.openings.Opening.TheVariants.{Open, Shut, Wanting}
-use Rattle.run_media.specs.Media.{Media}
-use Rattle.run_media.specs.Openings.{AreReady, HasOpened, IsOpen, log_in, opened_from}
-use Rattle.run_media.specs.Places.{node_at}
-use Rattle.run_starts.specs.Seats.{Along, CanOpen, CanSeat, IsNewNode, IsSound}
-use Rattle.run_starts.specs.Starts.{IsSetUp, fresh_for}
-use Rattle.run_starts.proofs.DealLemmas.{all-at}
+use Rattle.run_rounds.proofs.Names.{Asked, Plan, View, Founding, LockTable, fresh, knows, Entry, Opened, Origin, WireParts, owner_for, IsWirePass, Sight, NodeParts, IsReady, Opening, Open, Shut, Wanting, Media, AreReady, HasOpened, IsOpen, log_in, opened_from, node_at, Along, IsNewNode, IsSetUp, fresh_for, all-at, Pass}
+use Rattle.run_starts.specs.Seats.{CanOpen, CanSeat, IsSound}
 use Rattle.run_starts.proofs.SeatLemmas.{can-open}
-use Rattle.run_rounds.specs.Closings.{Pass}
 use Rattle.run_rounds.proofs.ListLemmas.{all-first, all-mapped, all-rest}
 use Rattle.run_rounds.proofs.PlaceLemmas.{fresh-along}
 

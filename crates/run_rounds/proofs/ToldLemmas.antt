@@ -1,27 +1,11 @@
 -- What the closing of a run's wire tells, of the plan that the run was set up for.
 use Rattle.std.proofs.Common.{◌≡◌, ◌∙◌, ℕ, true, IsTrue, List, length, Option, Some, refl, ap, sym, subst}
-use Rattle.pseudo_time.specs.declared.nodes.NodeId.{NodeId}
+use Rattle.run_rounds.proofs.Names.{NodeId, Effect, Asked, Plan, IsOfLanguage, reading, Opened, Trace, is_ready, opened_log, base_of, Origin, IsWhole, Opening, AreReady, node_count, IsSetUp, account_of, tellers, IsTold}
 use Rattle.value_form.specs.declared.acts.ActSpec.{ActSpec}
-use Rattle.effect_form.specs.declared.effects.Effect.{Effect}
-use Rattle.stream_port.specs.declared.fates.Asked.{Asked}
-use Rattle.plan_form.specs.declared.plans.Plan.{Plan}
-use Rattle.plan_form.specs.PlanTexts.{IsOfLanguage}
-use Rattle.broker_core.specs.Readings.{reading}
-use Rattle.world_core.specs.declared.traces.Opened.{Opened}
-use Rattle.world_core.specs.declared.traces.Trace.{Trace}
-use Rattle.world_core.specs.Nodes.{is_ready}
-use Rattle.world_core.specs.Walks.{opened_log}
-use Rattle.world_core.specs.Legal.{AllReady, JustNodes, base_of}
-use Rattle.run_starts.specs.Wires.{IsRunOf, Origin}
+use Rattle.world_core.specs.Legal.{AllReady, JustNodes}
+use Rattle.run_starts.specs.Wires.{IsRunOf}
 use Rattle.run_starts.specs.Clocked.{IsClocked}
-use Rattle.run_starts.specs.Stories.{IsWhole}
-use Rattle.run_media.specs.declared.openings.Opening.{Opening}
-use Rattle.run_media.specs.Openings.{AreReady}
-use Rattle.run_media.specs.Places.{node_count}
-use Rattle.run_starts.specs.Starts.{IsSetUp}
 use Rattle.run_starts.proofs.StartLemmas.{run-of}
-use Rattle.run_rounds.specs.Finishes.{account_of, tellers}
-use Rattle.run_rounds.specs.Runs.{IsTold}
 
 -- what is set up is so for what its wire began with
 pub set-up-own : {M : Type 0} {g : _} (plan : Plan) (os : List (Opening M g)) (asked : List Asked) (answers : Option (List ℕ)) (o : Origin) → IsSetUp plan os asked answers o → IsSetUp plan os o.asked o.answers o

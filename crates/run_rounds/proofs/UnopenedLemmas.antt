@@ -4,62 +4,18 @@ use Rattle.std.specs.List.{AllZip}
 use Rattle.std.specs.Option.{option_map, unwrap_or}
 use Rattle.std.proofs.Math.Seq.{take-length}
 use Rattle.std.proofs.lemmas.Option.{slice_get-map, slice_get_within, same_Some}
-use Rattle.pseudo_time.specs.Lists.{Every, Has}
-use Rattle.pseudo_time.specs.declared.nodes.NodeId.{NodeId}
-use Rattle.pseudo_time.specs.declared.down_causes.DownCause.{DownCause}
+use Rattle.run_rounds.proofs.Names.{Every, Has, NodeId, DownCause, Asked, Rose, RoseBy, rose_by_none, Image, LeftNow, Goes, goes_nowhere, Effect, storage, Plan, IsOfLanguage, IsOneOf, entries_of, CarriesOn, fresh, knows, Entry, Down, Opened, Trace, Life, opened_life, opened_log, own, walk, base_of, in_plan, WasNotOpened, life_after, open_effects, reading, Origin, WireParts, owner_for, owner_of, Sight, owners_for, down_cause, IsIntact, costs, IsKept, kept-none, Reason, Opening, Open, Shut, Wanting, Media, Passes, cuts_of, AreReady, HasOpened, IsOpen, log_in, medium_in, opened_from, node_at, node_count, place_of, at-place, in-at, log-at, place-at, Along, HasFallen, IsSetUp, downs_of, zip-at, zip-back, End, Pass, ClosedAs, IfRan, EndsAs, account_of, tellers, KeepsThroughout, SurvivesKills, AreCounted, Became, HaveCauses, KeepsLog, RestoresLogs, inner, medium_at, Ran}
 use Rattle.pseudo_time.specs.declared.down_causes.DownCause.TheVariants as down
-use Rattle.stream_port.specs.declared.fates.Asked.{Asked}
-use Rattle.stream_port.specs.Causes.{Rose, RoseBy, rose_by_none}
-use Rattle.medium_port.specs.Image.{Image}
-use Rattle.medium_port.specs.Moment.{LeftNow, Goes, goes_nowhere}
-use Rattle.effect_form.specs.declared.effects.Effect.{Effect}
-use Rattle.version_store.specs.Storage.{storage}
-use Rattle.plan_form.specs.declared.plans.Plan.{Plan}
-use Rattle.plan_form.specs.PlanTexts.{IsOfLanguage}
-use Rattle.seat_lock.specs.Rule.{IsOneOf}
-use Rattle.seat_lock.specs.Story.{entries_of}
-use Rattle.seat_lock.specs.Words.{CarriesOn, Known, fresh, knows}
-use Rattle.world_core.specs.declared.entries.Entry.{Entry}
-use Rattle.world_core.specs.declared.entries.Entry.TheVariants.{Down}
-use Rattle.world_core.specs.declared.traces.Opened.{Opened}
-use Rattle.world_core.specs.declared.traces.Trace.{Trace}
-use Rattle.world_core.specs.Walks.{Life, opened_life, opened_log, own, walk}
-use Rattle.world_core.specs.Legal.{base_of, in_plan}
-use Rattle.world_core.specs.Pasts.{WasNotOpened}
-use Rattle.world_core.specs.Readings.{life_after, open_effects}
-use Rattle.broker_core.specs.Readings.{reading}
-use Rattle.run_starts.specs.Wires.{Origin, WireParts}
-use Rattle.run_starts.specs.Boards.{owner_for, owner_of}
-use Rattle.run_starts.specs.Sights.{Sight, owners_for}
-use Rattle.world_core.specs.Counts.{down_cause}
-use Rattle.run_starts.specs.Cores.{IsIntact}
-use Rattle.run_starts.specs.Costs.{costs}
-use Rattle.run_starts.specs.Lives.{IsKept}
-use Rattle.run_starts.proofs.LifeLemmas.{kept-none}
+use Rattle.seat_lock.specs.Words.{Known}
 use Rattle.run_starts.proofs.TurnPageLemmas.{whole-same}
 use Rattle.run_starts.proofs.StepLemmas.{passes-between}
-use Rattle.run_starts.specs.Reason.{Reason}
 use Rattle.run_starts.specs.Reason.TheVariants as reason
-use Rattle.run_media.specs.declared.openings.Opening.{Opening}
-use Rattle.run_media.specs.declared.openings.Opening.TheVariants.{Open, Shut, Wanting}
-use Rattle.run_media.specs.Media.{Media}
-use Rattle.run_starts.specs.Windows.{Passes, cuts_of}
-use Rattle.run_media.specs.Openings.{AreReady, HasOpened, IsAsItWas, IsOpen, IsShutFor, log_in, medium_in, opened_from}
-use Rattle.run_media.specs.Places.{node_at, node_count, place_of}
-use Rattle.run_media.proofs.OrderLemmas.{at-place, in-at, log-at, one-place, place-at}
-use Rattle.run_starts.specs.Seats.{Along}
-use Rattle.run_starts.specs.Starts.{HasFallen, IsSetUp, downs_of}
-use Rattle.run_starts.proofs.AlongLemmas.{zip-at, zip-back}
+use Rattle.run_media.specs.Openings.{IsAsItWas, IsShutFor}
+use Rattle.run_media.proofs.OrderLemmas.{one-place}
 use Rattle.run_starts.proofs.DealLemmas.{some-within}
 use Rattle.run_starts.proofs.StartLemmas.{all-front, all-last}
-use Rattle.run_rounds.specs.declared.ends.End.{End}
 use Rattle.run_rounds.specs.declared.ends.End.TheVariants as end
-use Rattle.run_rounds.specs.Closings.{Pass, ClosedAs, IfRan}
 use Rattle.run_rounds.specs.Ends.{IsUnopened}
-use Rattle.run_rounds.specs.Finishes.{EndsAs, account_of, tellers}
-use Rattle.run_rounds.specs.Kills.{KeepsThroughout, SurvivesKills}
-use Rattle.run_rounds.specs.Media.{AreCounted, Became, HaveCauses, KeepsLog, RestoresLogs, inner, medium_at}
-use Rattle.run_rounds.specs.Runs.{Ran}
 use Rattle.run_rounds.proofs.BackLemmas.{opened-alone, opened-back, opened-in-range, opened-kept, ready-at}
 use Rattle.run_rounds.proofs.DownTraces.{AreOwn, IsFall, all-downs, all-falls, cause-at, cause-of, fall-of, falls-at, life-still, none-of, own-along}
 use Rattle.run_rounds.proofs.KillLemmas.{inner-some, keeps-places}

@@ -5,47 +5,26 @@ use Rattle.std.proofs.lemmas.Bool.{false≢true}
 use Rattle.std.proofs.lemmas.Bool.Decides.{nat_tests}
 use Rattle.std.proofs.lemmas.List.Sums.{sum_by-cons}
 use Rattle.std.proofs.lemmas.Option.{slice_get-get_or}
-use Rattle.pseudo_time.specs.Lists.{Every, Has}
-use Rattle.pseudo_time.specs.Nodes.{broker}
-use Rattle.pseudo_time.specs.declared.nodes.NodeId.{NodeId}
+use Rattle.swallow_top.proofs.Names.{Every, Has, broker, NodeId, Rose, RoseBy, rise_of_fewer, storage, Plan, IsOfLanguage, book, keep, Trace, in_plan, open_acts, Options, Media, Opening, Open, Shut, Wanting, HasOpened, place_of, Tellers, account_of, Became, inner, medium_at, Ran, WentSmoothly, IsSmoothRun, blank-none, IsGiven, IsTaken, ShelfSight, first_names, kept_under, Kept, HasVolumes, NodeVolumes, all_left, all_taken, names_from, work_taken, zip-long, status_of, Sinking}
 use Rattle.pseudo_time.specs.declared.nodes.NodeKind.{NodeKind}
 use Rattle.pseudo_time.specs.declared.nodes.NodeKind.TheVariants.{Repository, Broker}
-use Rattle.stream_port.specs.Causes.{Rose, RoseBy, rise_of_fewer}
 use Rattle.medium_port.specs.Image.{Image, IsBlankImage}
-use Rattle.version_store.specs.Storage.{storage}
-use Rattle.plan_form.specs.declared.plans.Plan.{Plan}
-use Rattle.plan_form.specs.PlanTexts.{IsOfLanguage}
-use Rattle.broker_core.specs.Book.{book}
-use Rattle.broker_core.specs.Fits.{keep, other_plan, plan_fault}
+use Rattle.broker_core.specs.Fits.{other_plan, plan_fault}
 use Rattle.broker_core.specs.declared.resume_faults.ResumeFault.{ResumeFault}
 use Rattle.broker_core.specs.declared.resume_faults.ResumeFault.TheVariants as resuming
-use Rattle.world_core.specs.declared.traces.Trace.{Trace}
-use Rattle.world_core.specs.Legal.{in_plan}
-use Rattle.run_rounds.specs.Reports.{open_acts}
-use Rattle.command_words.specs.declared.commands.Options.{Options}
-use Rattle.plan_volumes.specs.Media.{Media}
-use Rattle.plan_volumes.specs.Opening.{Opening}
-use Rattle.plan_volumes.specs.Opening.TheVariants.{Open, Shut, Wanting}
-use Rattle.plan_volumes.specs.Openings.{HasOpened, fault_in}
-use Rattle.plan_volumes.specs.Places.{node_at, place_of}
+use Rattle.plan_volumes.specs.Openings.{fault_in}
+use Rattle.plan_volumes.specs.Places.{node_at}
 use Rattle.plan_volumes.proofs.OrderLemmas.{at-place}
-use Rattle.run_rounds.specs.Finishes.{Tellers, account_of}
-use Rattle.run_rounds.specs.Media.{Became, inner, medium_at}
-use Rattle.run_rounds.specs.Runs.{IsFirstFault, Ran}
-use Rattle.swallow_top.specs.Smooth.{WentSmoothly, IsSmoothRun, pages_for, volumes_of_blank}
-use Rattle.plan_volumes.proofs.BlankImageLemmas.{blank-none}
+use Rattle.run_rounds.specs.Runs.{IsFirstFault}
+use Rattle.swallow_top.specs.Smooth.{pages_for, volumes_of_blank}
 use Rattle.swallow_top.proofs.SmoothLemmas.{complete, none-down}
 use Rattle.swallow_top.proofs.StandingLemmas.{none-open}
 use Rattle.swallow_top.specs.Contract.{IsSmooth}
-use Rattle.plan_volumes.specs.Shelves.{IsGiven, IsTaken, ShelfSight, first_names, is_missing, volume_name}
+use Rattle.plan_volumes.specs.Shelves.{is_missing, volume_name}
 use Rattle.plan_volumes.specs.RunVolumes.{EndRightly, GoOn, follows, goes_on}
-use Rattle.plan_volumes.specs.Kept.{kept_under}
-use Rattle.plan_volumes.specs.KeptMedium.{Kept}
-use Rattle.plan_volumes.specs.Volumes.{HasVolumes, IsNodes, NodeVolumes, all_left, all_taken, names_from, work_taken, working}
-use Rattle.plan_volumes.proofs.ApartLemmas.{ends-some, working-below, zip-long}
+use Rattle.plan_volumes.specs.Volumes.{IsNodes, working}
+use Rattle.plan_volumes.proofs.ApartLemmas.{ends-some, working-below}
 use Rattle.plan_volumes.proofs.PlaceLemmas.{node-given, node-there, volume-at, work-kept}
-use Rattle.swallow_top.specs.Tellings.{status_of}
-use Rattle.swallow_top.specs.Written.{Sinking}
 use Rattle.run_rounds.proofs.DealLemmas.{some-within}
 
 -- the status of a complete run

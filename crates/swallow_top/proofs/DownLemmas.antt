@@ -2,15 +2,10 @@
 use Rattle.std.proofs.Common.{◌≡◌, ◌∙◌, ◌++◌, ◌&&◌, Bool, true, false, List, [], ◌∷◌, cond, refl, ap, sym, append_assoc, if◌then◌else◌}
 use Rattle.std.proofs.lemmas.List.{append-nil}
 use Rattle.std.proofs.lemmas.List.Elements.{filter-append}
-use Rattle.pseudo_time.specs.declared.nodes.NodeId.{NodeId}
-use Rattle.pseudo_time.specs.declared.down_causes.DownCause.{DownCause}
+use Rattle.swallow_top.proofs.Names.{NodeId, DownCause, same_node-refl, Entry, Down, Base, names, own, start_world, walk, Meets}
 use Rattle.pseudo_time.specs.Nodes.{same_node}
-use Rattle.message_core.proofs.NodeLemmas.{same_node-refl}
 use Rattle.stream_port.specs.declared.fates.Fate.{Fate}
-use Rattle.world_core.specs.declared.entries.Entry.{Entry}
-use Rattle.world_core.specs.declared.entries.Entry.TheVariants.{Down}
-use Rattle.world_core.specs.Walks.{Base, World, lives_on, names, own, start_world, step, walk, walk_from}
-use Rattle.world_core.specs.Legal.{Meets}
+use Rattle.world_core.specs.Walks.{World, lives_on, step, walk_from}
 use Rattle.world_core.proofs.Lives.{same-life, walk-append}
 use Rattle.world_core.proofs.Others.{Silent}
 use Rattle.run_rounds.proofs.FlagLemmas.{fell, stays-down, stays-known, up-named}

@@ -2,24 +2,10 @@
 use Rattle.std.proofs.Common.{◌≡◌, inl, inr, ℕ, List, [], ◌++◌, length, map, Option, refl, ap, sym, subst, ◌∙◌}
 use Rattle.std.proofs.lemmas.List.{length-map}
 use Rattle.std.proofs.lemmas.Slice.Zip.{AllZip-long}
-use Rattle.pseudo_time.specs.declared.nodes.NodeId.{NodeId}
-use Rattle.pseudo_time.specs.declared.down_causes.DownCause.{DownCause}
-use Rattle.value_form.specs.declared.objects.ObjectId.{ObjectId}
-use Rattle.report_writer.specs.Reports.{down_text}
-use Rattle.report_writer.specs.Histories.{history_text}
-use Rattle.plan_volumes.specs.Opening.{Opening}
-use Rattle.plan_volumes.specs.Media.{Media}
-use Rattle.plan_volumes.specs.Openings.{HasOpened, medium_in}
-use Rattle.plan_volumes.specs.KeptMedium.{Kept}
-use Rattle.plan_volumes.specs.Kept.{AllKept, kept_under}
-use Rattle.plan_volumes.specs.Shelves.{ShelfSight, first_names}
+use Rattle.swallow_top.proofs.Names.{NodeId, DownCause, ObjectId, down_text, history_text, Opening, Media, HasOpened, medium_in, Kept, AllKept, kept_under, ShelfSight, first_names, node_log, logs_of, all-kept, back-all, TellsHistory, TellsVolumes, home_of, Sinking, EndsIfAny}
 use Rattle.plan_volumes.specs.Standings.{HasShut}
-use Rattle.forward_copy.specs.Currents.{node_log}
-use Rattle.plan_volumes.specs.RunVolumes.{AreOpen, AreVolumes, logs_of}
-use Rattle.plan_volumes.proofs.ShelfLemmas.{all-kept}
-use Rattle.plan_volumes.proofs.StandLemmas.{back-all, given-back, stand-all}
-use Rattle.swallow_top.specs.Histories.{TellsHistory, TellsVolumes, home_of}
-use Rattle.swallow_top.specs.Written.{Sinking, EndsIfAny}
+use Rattle.plan_volumes.specs.RunVolumes.{AreOpen, AreVolumes}
+use Rattle.plan_volumes.proofs.StandLemmas.{given-back, stand-all}
 
 module _ {M : Type 0} {g : _} (object : ObjectId) (os : List (Opening M g)) (status : ℕ) (s : Sinking) where
   pub open-told : AreOpen os → EndsIfAny status s 0 (history_text object (node_log (logs_of os))) → TellsVolumes object os status s

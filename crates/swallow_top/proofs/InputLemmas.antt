@@ -5,19 +5,10 @@ use Rattle.std.specs.Io.KnownBytes.{Consumes, IsAtEnd}
 use Rattle.std.proofs.lemmas.List.{length-append}
 use Rattle.plan_form.specs.declared.plan_faults.PlanKind.{PlanKind}
 use Rattle.plan_form.specs.declared.plan_faults.PlanKind.TheVariants as kind
-use Rattle.plan_form.specs.PlanFaults.{IsPlanFault}
-use Rattle.plan_form.specs.declared.plans.Plan.{Plan}
-use Rattle.plan_form.specs.Plans.{IsPlan}
-use Rattle.swallow_top.specs.declared.stops.Stop.{Stop}
+use Rattle.swallow_top.proofs.Names.{IsPlanFault, Plan, IsPlan, Stop, OfInput, IsReadAs, ReadsPlan, AreReadAs, ReadsPolls, IsInputFault, IsInput, PollLine}
 use Rattle.swallow_top.specs.declared.stops.Stop.TheVariants as stop
-use Rattle.swallow_top.specs.Inputs.{OfInput}
-use Rattle.swallow_top.specs.Plans.{IsReadAs, ReadsPlan}
-use Rattle.swallow_top.specs.Votes.{AreReadAs, ReadsPolls}
 use Rattle.std.specs.Prelude.{Vec}
 use Rattle.std.specs.declared.alloc.Global.{Global}
-use Rattle.votes_command.specs.Faults.{IsInputFault}
-use Rattle.votes_command.specs.Inputs.{IsInput}
-use Rattle.votes_command.specs.PollLine.{PollLine}
 
 -- all of the input was read
 pub of_whole : (left new : Option (List ℕ)) (bytes : List ℕ) (P : List ℕ → Type 0) → Consumes left new bytes → IsAtEnd new → P bytes → OfInput left P

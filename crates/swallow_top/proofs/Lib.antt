@@ -13,3 +13,4 @@ pub mod StandingLemmas
 pub mod StreamLemmas
 pub mod TopLemmas
 pub mod VoteLemmas
+pub mod Names

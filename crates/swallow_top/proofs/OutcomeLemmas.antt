@@ -1,29 +1,18 @@
 -- How it is told what came of a question to an archive or of a watch, and what is handed back of it.
 use Rattle.std.proofs.Common.{◌≡◌, ◌⊎◌, ◌≤◌, inl, inr, ℕ, List, length, map, ap, sym, subst, ◌∙◌, arith}
 use Rattle.std.proofs.lemmas.Slice.Zip.{AllZip-long}
-use Rattle.plan_volumes.specs.Opening.{Opening}
-use Rattle.plan_volumes.specs.Media.{Media}
-use Rattle.plan_volumes.specs.Openings.{HasOpened, medium_in}
-use Rattle.plan_volumes.specs.KeptMedium.{Kept}
-use Rattle.plan_volumes.specs.Kept.{AllKept, kept_under}
-use Rattle.plan_volumes.specs.Shelves.{ShelfSight, first_names}
-use Rattle.plan_volumes.specs.RunVolumes.{logs_of}
-use Rattle.plan_volumes.proofs.ShelfLemmas.{all-kept}
-use Rattle.plan_volumes.proofs.StandLemmas.{back-all}
+use Rattle.swallow_top.proofs.Names.{Opening, Media, HasOpened, medium_in, Kept, AllKept, kept_under, ShelfSight, first_names, logs_of, all-kept, back-all, Rule, AskedNothing, IsOfStamp, TellsAnswer, TellsWatch, Sinking, Ends}
 use Rattle.archive_promise.specs.Outcome.{Outcome}
 use Rattle.archive_promise.specs.Outcome.TheVariants.{Told, Refused, Fallen, NoMemory}
 use Rattle.archive_promise.specs.Question.{Question}
 use Rattle.archive_promise.specs.Question.TheVariants.{AsOf, Audit}
 use Rattle.archive_promise.specs.Answers.{Answers, AnswersOver, TookNothing, asked_of}
-use Rattle.command_words.specs.declared.rules.Rule.{Rule}
 use Rattle.archive_promise.specs.Watches.{StopsBefore, WatchesOver}
 use Rattle.archive_promise.proofs.KeptLemmas.{watch-kept}
-use Rattle.swallow_top.specs.Histories.{AskedNothing}
-use Rattle.archive_promise.specs.Answered.{IsLawful, IsOfStamp}
+use Rattle.archive_promise.specs.Answered.{IsLawful}
 use Rattle.archive_promise.proofs.AnsweredLemmas.{is-lawful}
 use Rattle.archive_promise.proofs.WatchedLemmas.{counts-on}
-use Rattle.swallow_top.specs.Outcomes.{TellsAnswer, TellsOutcome, TellsWatch}
-use Rattle.swallow_top.specs.Written.{Sinking, Ends}
+use Rattle.swallow_top.specs.Outcomes.{TellsOutcome}
 
 module _ {M : Type 0} (w : Media M) (old new : ShelfSight) (kept : List (Kept M)) (s : Sinking) (status : ℕ) where
   asked-nothing : (r : Outcome) → TookNothing w old new kept r → TellsOutcome r status s → AskedNothing w old new kept status

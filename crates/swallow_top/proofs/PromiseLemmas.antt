@@ -2,56 +2,26 @@
 use Rattle.std.proofs.Common.{◌≡◌, ◌⊎◌, ◌≤◌, ◌==◌, inl, inr, ℕ, Bool, true, false, IsTrue, List, [], ◌∷◌, length, Option, Result, Some, None, Ok, Err, refl, ap, sym, subst, ◌∙◌, arith, if◌then◌else◌}
 use Rattle.std.specs.Io.KnownBytes.{IsAtEnd}
 use Rattle.std.specs.Option.{unwrap_or}
-use Rattle.pseudo_time.specs.Lists.{Every, Has}
-use Rattle.plan_form.specs.declared.plans.Plan.{Plan}
-use Rattle.plan_form.specs.PlanFaults.{IsPlanFault}
-use Rattle.plan_form.specs.Plans.{IsPlan}
-use Rattle.plan_form.specs.PlanTexts.{IsOfLanguage}
+use Rattle.swallow_top.proofs.Names.{Every, Has, Plan, IsPlanFault, IsPlan, IsOfLanguage, Trace, open_acts, ObjectId, no_trace, Options, AreWords, Media, some_down, Account, AllKept, Kept, Wanted, Stop, CameOf, HasNoRun, RefusedAs, RunsPlan, AskedNothing, TellsHistory, TellsVolumes, OfInput, ReadsPlan, ShelfSight, Retired, Rule, TellsAnswer, TellsWatch, TellsRetired, TellsRetirement, mark_at, status_of, Sinking, Ends, EndsIfAny, VoteEnd, Told, IsInputFault, IsInput, IsPoll, PollLine, HavePolled, ReadsPolls, TellsVotes, limits_of, tellers_of, votes_status}
 use Rattle.plan_form.specs.Making.{made_plan}
 use Rattle.plan_form.proofs.PlanTextLemmas.{plan_is_whole}
-use Rattle.world_core.specs.declared.traces.Trace.{Trace}
-use Rattle.run_rounds.specs.Reports.{open_acts}
-use Rattle.value_form.specs.declared.objects.ObjectId.{ObjectId}
-use Rattle.run_rounds.specs.Stories.{no_trace}
-use Rattle.command_words.specs.declared.commands.Options.{Options}
 use Rattle.command_words.specs.declared.commands.Command.{Command}
 use Rattle.command_words.specs.declared.commands.Command.TheVariants.{Run, Load, History, Retire, Votes, Watch, AsOf, Audit}
 use Rattle.command_words.specs.declared.options.Given.{Given}
-use Rattle.command_words.specs.Words.{AreGiven, AreNone, AreOptions, AreWords, IsWith}
-use Rattle.plan_volumes.specs.Media.{Media}
-use Rattle.run_rounds.specs.Ends.{some_down}
-use Rattle.run_rounds.specs.Runs.{Account}
-use Rattle.plan_volumes.specs.Kept.{AllKept}
-use Rattle.plan_volumes.specs.KeptMedium.{Kept}
-use Rattle.swallow_top.specs.declared.reports.Wanted.{Wanted}
+use Rattle.command_words.specs.Words.{AreGiven, AreNone, AreOptions, IsWith}
 use Rattle.swallow_top.specs.declared.reports.Wanted.TheVariants.{Report, Summary}
-use Rattle.swallow_top.specs.declared.stops.Stop.{Stop}
 use Rattle.swallow_top.specs.declared.stops.Stop.TheVariants as stop
-use Rattle.swallow_top.specs.Contract.{CameOf, HasNoRun, IsNoPlan, RefusedAs, RunsPlan}
-use Rattle.swallow_top.specs.Histories.{AskedNothing, TellsHistory, TellsVolumes}
-use Rattle.swallow_top.specs.Inputs.{OfInput}
-use Rattle.swallow_top.specs.Plans.{ReadsPlan}
+use Rattle.swallow_top.specs.Contract.{IsNoPlan}
 use Rattle.swallow_top.specs.Promise.{Call, HasNoWords, TouchedNothing, IsUnread, Promise, WasDone}
-use Rattle.plan_volumes.specs.Shelves.{ShelfSight}
-use Rattle.retire_command.specs.declared.outcomes.Retired.{Retired}
 use Rattle.retire_command.specs.declared.outcomes.Retired.TheVariants.{Done, Refused, Fallen, NoMemory}
 use Rattle.archive_promise.specs.Question.TheVariants as question
-use Rattle.command_words.specs.declared.rules.Rule.{Rule}
-use Rattle.swallow_top.specs.Outcomes.{TellsAnswer, TellsWatch}
-use Rattle.swallow_top.specs.Retirements.{TellsRetired, TellsRetirement, mark_at}
-use Rattle.swallow_top.specs.Tellings.{status_of, status_with}
-use Rattle.swallow_top.specs.Written.{Sinking, Ends, EndsIfAny}
+use Rattle.swallow_top.specs.Tellings.{status_with}
 use Rattle.std.specs.Prelude.{Vec}
 use Rattle.std.specs.declared.alloc.Global.{Global}
 use Rattle.votes_command.specs.Tellings.{some_down as voters_down}
-use Rattle.votes_command.specs.VoteEnd.{VoteEnd}
-use Rattle.votes_command.specs.VoteEnd.TheVariants.{Told}
 use Rattle.votes_command.specs.VoteEnd.TheVariants as voted
-use Rattle.votes_command.specs.Faults.{IsInputFault}
-use Rattle.votes_command.specs.Inputs.{IsInput, IsPoll}
-use Rattle.votes_command.specs.PollLine.{PollLine}
 use Rattle.votes_command.specs.Statuses.{all_held}
-use Rattle.swallow_top.specs.Votes.{AreNoPolls, HavePolled, ReadsPolls, TellsVotes, limits_of, tellers_of, votes_status}
+use Rattle.swallow_top.specs.Votes.{AreNoPolls}
 use Rattle.swallow_top.proofs.VoteLemmas.{votes-kept}
 use Rattle.swallow_top.proofs.HistoryLemmas.{history-kept}
 use Rattle.swallow_top.proofs.InputLemmas.{of_input-all, of_input-with}

@@ -3,17 +3,9 @@ use Rattle.std.proofs.Common.{◌≡◌, ◌⊎◌, inl, inr, ℕ, List, length,
 use Rattle.std.proofs.lemmas.Slice.Zip.{AllZip-long}
 use Rattle.pseudo_time.specs.Nodes.{repository as named}
 use Rattle.pseudo_time.specs.TimeParts.{TimeParts}
-use Rattle.plan_volumes.specs.Media.{IsBack, Media}
-use Rattle.plan_volumes.specs.KeptMedium.{Kept}
-use Rattle.plan_volumes.specs.Kept.{AllKept, kept_under}
-use Rattle.plan_volumes.specs.Shelves.{ShelfSight, first_names}
-use Rattle.plan_volumes.proofs.ShelfLemmas.{all-kept}
-use Rattle.retire_command.specs.declared.outcomes.Retired.{Retired}
+use Rattle.swallow_top.proofs.Names.{IsBack, Media, Kept, AllKept, kept_under, ShelfSight, first_names, all-kept, Retired, AskedNothing, TellsRetired, TellsRetirement, mark_at, Sinking}
 use Rattle.retire_command.specs.Retires.{RetiresOver, TookNothing}
 use Rattle.retire_command.proofs.RetireLemmas.{comes-back}
-use Rattle.swallow_top.specs.Histories.{AskedNothing}
-use Rattle.swallow_top.specs.Retirements.{TellsRetired, TellsRetirement, mark_at}
-use Rattle.swallow_top.specs.Written.{Sinking}
 
 pub tells-retirement : {M : Type 0} (w : Media M) (old new : ShelfSight) (repository clock : ℕ) (kept : List (Kept M)) (s : Sinking) (status : ℕ) (at : TimeParts) (r : Retired) → at ≡ mark_at clock →
     TookNothing w old new kept r ⊎ RetiresOver w old new (named repository) at kept r → TellsRetired r status s → AskedNothing w old new kept status ⊎ TellsRetirement w old new repository clock kept s status

@@ -3,30 +3,19 @@ use Rattle.std.proofs.Common.{◌≡◌, ◌⊎◌, inl, inr, ℕ, Bool, true, f
 use Rattle.std.specs.List.{AllZip}
 use Rattle.std.proofs.lemmas.Slice.Zip.{AllZip-long}
 use Rattle.stream_port.specs.declared.fates.Asked.{Asked}
-use Rattle.plan_form.specs.declared.plans.Plan.{Plan}
-use Rattle.plan_form.specs.PlanTexts.{IsOfLanguage}
-use Rattle.world_core.specs.declared.traces.Trace.{Trace}
+use Rattle.swallow_top.proofs.Names.{Plan, IsOfLanguage, Trace, IsLegal, no_trace, Options, Media, AreBack, IsBack, IsLeftAlone, Ran, IsKeptWhole, Tellers, account_of, AllKept, ShelfSight, Kept, HasVolumes, NodeVolumes, work_taken, Wanted, CameOf, RunsPlan, status_of, Sinking}
 use Rattle.world_core.specs.Legal.{JustNodes}
-use Rattle.world_core.specs.Readings.{IsLegal}
-use Rattle.run_rounds.specs.Stories.{no_trace}
-use Rattle.command_words.specs.declared.commands.Options.{Options}
-use Rattle.plan_volumes.specs.Media.{Media, AreBack, IsBack, IsLeftAlone}
 use Rattle.run_rounds.specs.declared.ends.End.{End}
 use Rattle.run_rounds.specs.declared.ends.End.TheVariants as end
-use Rattle.run_rounds.specs.Runs.{Ran, RanUntold, HasRanges}
-use Rattle.run_rounds.specs.Finishes.{EndsAs, IsKeptWhole, Tellers, account_of}
+use Rattle.run_rounds.specs.Runs.{RanUntold, HasRanges}
+use Rattle.run_rounds.specs.Finishes.{EndsAs}
 use Rattle.complete_law.specs.Serials.{HoldsFinals, IsSerialOver}
 use Rattle.complete_law.specs.Acknowledged.{KeepsAnswers, SpendsRightly}
 use Rattle.complete_law.specs.Reasons.{AddedHaveReasons, HaveReasons}
 use Rattle.run_rounds.specs.Places.{PlacesHavePasts}
-use Rattle.plan_volumes.specs.Kept.{AllKept}
-use Rattle.plan_volumes.specs.Shelves.{ShelfSight}
-use Rattle.plan_volumes.specs.KeptMedium.{Kept}
-use Rattle.plan_volumes.specs.Volumes.{HadMemory, HasVolumes, NodeVolumes, work_taken}
-use Rattle.swallow_top.specs.declared.reports.Wanted.{Wanted}
-use Rattle.swallow_top.specs.Contract.{CameOf, Completes, RanOver, RunsPlan, WantedMemory}
-use Rattle.swallow_top.specs.Tellings.{OfRun, TellsEnd, status_of}
-use Rattle.swallow_top.specs.Written.{Sinking}
+use Rattle.plan_volumes.specs.Volumes.{HadMemory}
+use Rattle.swallow_top.specs.Contract.{Completes, RanOver, WantedMemory}
+use Rattle.swallow_top.specs.Tellings.{OfRun, TellsEnd}
 use Rattle.swallow_top.proofs.CompleteLemmas.{complete-status, run-complete, unrefused}
 use Rattle.swallow_top.proofs.ShelfLemmas.{all-kept, alone-whole, none-lost}
 

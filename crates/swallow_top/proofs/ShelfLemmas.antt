@@ -1,24 +1,15 @@
 -- Media that are handed back under their names lose nothing.
 use Rattle.std.proofs.Common.{◌≡◌, ◌⊎◌, inl, inr, Bool, List, length, [], ◌∷◌, Option, Some, None, ap, map, sym, subst, ◌∙◌}
 use Rattle.std.specs.List.{AllZip}
-use Rattle.pseudo_time.specs.Lists.{Every}
+use Rattle.swallow_top.proofs.Names.{Every, storage, Plan, Opening, Open, Shut, Wanting, Media, AreBack, IsBack, IsLeftAlone, HasOpened, medium_in, IsKeptWhole, AllKept, kept_under, IsGiven, IsTaken, ShelfSight, Kept, IsAside, HasVolumes, NodeVolumes, all_left, all_taken, names_from, work_taken, zip-long}
 use Rattle.medium_port.specs.declared.shelves.MediumName.{MediumName}
-use Rattle.version_store.specs.Storage.{storage}
-use Rattle.plan_form.specs.declared.plans.Plan.{Plan}
-use Rattle.plan_volumes.specs.Opening.{Opening}
-use Rattle.plan_volumes.specs.Opening.TheVariants.{Open, Shut, Wanting}
-use Rattle.plan_volumes.specs.Media.{Media, AreBack, IsBack, IsLeftAlone, IsUntouched}
-use Rattle.plan_volumes.specs.Openings.{HasOpened, medium_in}
+use Rattle.plan_volumes.specs.Media.{IsUntouched}
 use Rattle.plan_volumes.specs.Places.{node_count}
-use Rattle.run_rounds.specs.Finishes.{IsKeptWhole, HasItsLog}
-use Rattle.plan_volumes.specs.Kept.{AllKept, kept_under, node_of}
-use Rattle.plan_volumes.specs.Shelves.{IsGiven, IsTaken, ShelfSight}
-use Rattle.plan_volumes.specs.KeptMedium.{Kept}
+use Rattle.run_rounds.specs.Finishes.{HasItsLog}
+use Rattle.plan_volumes.specs.Kept.{node_of}
 use Rattle.plan_volumes.proofs.ShelfLemmas as volumes
-use Rattle.plan_volumes.specs.Asides.{AreApart, IsAside}
-use Rattle.plan_volumes.specs.Volumes.{HasVolumes, NodeVolumes, all_left, all_taken, names_from, work_taken}
+use Rattle.plan_volumes.specs.Asides.{AreApart}
 use Rattle.plan_volumes.specs.declared.asides.Aside.{Aside}
-use Rattle.plan_volumes.proofs.ApartLemmas.{zip-long}
 use Rattle.plan_volumes.proofs.KeepLemmas.{all-opened, all-volumes, opened-back}
 use Rattle.swallow_top.specs.Contract.{LosesNothing}
 

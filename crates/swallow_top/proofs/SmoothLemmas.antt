@@ -3,60 +3,38 @@ use Rattle.std.proofs.Common.{◌≡◌, ◌⊎◌, ◌+◌, ◌≤◌, ◌∙�
 use Rattle.std.proofs.lemmas.Bool.{eqb-true}
 use Rattle.std.proofs.lemmas.List.{append-nil, length-map}
 use Rattle.std.proofs.lemmas.List.Elements.{filter-append}
-use Rattle.pseudo_time.specs.Lists.{Every, Has}
-use Rattle.pseudo_time.proofs.ListLemmas.{every-has, every-right, every-left, every-map, has-right}
-use Rattle.pseudo_time.specs.declared.nodes.NodeId.{NodeId}
-use Rattle.pseudo_time.specs.declared.down_causes.DownCause.{DownCause}
+use Rattle.swallow_top.proofs.Names.{Every, Has, every-has, NodeId, DownCause, broker, same_node-refl, RoseBy, rise_of_fewer, Effect, Outcome, pages_apart, Plan, InRange, IsOfLanguage, Act, Book, Try, book, keep, reading, Entry, Take, Crash, Down, Tick, Trace, Base, names, own, start_world, walk, Meets, in_plan, IsLegal, counted_by, shown_end, tasks_of, Media, IsBack, place_of, some_down, Became, inner, medium_at, Account, Ran, HasOutcome, filled_by, AllBegun, WentSmoothly, IsSmoothRun, blank-none}
+use Rattle.pseudo_time.proofs.ListLemmas.{every-right, every-left, every-map, has-right}
 use Rattle.pseudo_time.specs.declared.down_causes.DownCause.TheVariants as down
-use Rattle.pseudo_time.specs.Nodes.{broker}
-use Rattle.message_core.proofs.NodeLemmas.{same_node-refl}
-use Rattle.stream_port.specs.Causes.{RoseBy, rise_of_fewer}
-use Rattle.effect_form.specs.declared.effects.Effect.{Effect}
-use Rattle.effect_form.specs.declared.outcomes.Outcome.{Outcome}
 use Rattle.effect_form.specs.declared.outcomes.Outcome.TheVariants as ended
-use Rattle.version_store.specs.Filling.{pages_apart}
 use Rattle.version_store.proofs.FillingLemmas.{filling-apart}
 use Rattle.value_form.proofs.ValueLaws.{ok_is}
-use Rattle.plan_form.specs.declared.plans.Plan.{Plan}
-use Rattle.plan_form.specs.Plans.{InRange}
-use Rattle.plan_form.specs.PlanTexts.{IsOfLanguage}
-use Rattle.broker_core.specs.Book.{Act, Book, Try, book, tries_of}
-use Rattle.broker_core.specs.Fits.{keep}
+use Rattle.broker_core.specs.Book.{tries_of}
 use Rattle.broker_core.specs.Owed.{all_over, done}
-use Rattle.broker_core.specs.Readings.{reading}
 use Rattle.broker_core.specs.declared.heards.Heard.{Heard}
 use Rattle.broker_core.proofs.SoundLemmas.{and-left}
-use Rattle.world_core.specs.declared.entries.Entry.{Entry}
-use Rattle.world_core.specs.declared.entries.Entry.TheVariants.{Take, Crash, Down, Tick}
-use Rattle.world_core.specs.declared.traces.Trace.{Trace}
-use Rattle.world_core.specs.Walks.{Base, Life, all_effects, names, own, start_world, walk}
-use Rattle.world_core.specs.Legal.{Meets, base_of, fates_of, in_plan, post_of}
+use Rattle.world_core.specs.Walks.{Life, all_effects}
+use Rattle.world_core.specs.Legal.{base_of, fates_of, post_of}
 use Rattle.world_core.specs.Pasts.{WasNotOpened}
-use Rattle.world_core.specs.Readings.{IsLegal, gated_log, life_after}
-use Rattle.run_rounds.specs.Acts.{counted_by, shown_end, tasks_of}
+use Rattle.world_core.specs.Readings.{gated_log, life_after}
 use Rattle.world_core.specs.Counts.{down_cause}
 use Rattle.run_rounds.specs.Costs.{cost_of, costs}
 use Rattle.run_rounds.proofs.TrailLemmas.{costs-append}
-use Rattle.plan_volumes.specs.Media.{Media, IsBack}
-use Rattle.plan_volumes.specs.Places.{place_of}
 use Rattle.run_rounds.proofs.AlongLemmas.{zip-at}
 use Rattle.run_rounds.specs.Ends as ends
-use Rattle.run_rounds.specs.Ends.{HasEnded, IsUnopened, some_down}
-use Rattle.run_rounds.specs.Media.{Became, inner, medium_at}
-use Rattle.run_rounds.specs.Runs.{Account, Ran}
+use Rattle.run_rounds.specs.Ends.{HasEnded, IsUnopened}
 use Rattle.run_rounds.proofs.FlagLemmas.{named-opened, one-down, told-of}
 use Rattle.complete_law.specs.Calm as calm
-use Rattle.complete_law.specs.Calm.{AllDone, CalmPlace, CalmRun, HasOutcome, IsUnstopped, MayStop, book_at, filled_by, is_done_at, log_at, most_pages}
+use Rattle.complete_law.specs.Calm.{AllDone, CalmPlace, CalmRun, IsUnstopped, MayStop, book_at, is_done_at, log_at, most_pages}
 use Rattle.complete_law.proofs.Counts.{few-pages}
 use Rattle.complete_law.proofs.Messages.{few-messages}
 use Rattle.complete_law.proofs.OneBroker.{never-ended}
 use Rattle.complete_law.proofs.Outcomes.{outcomes}
 use Rattle.complete_law.proofs.Steps.{never-stuck}
 use Rattle.complete_law.proofs.Stops.{nothing-stops}
-use Rattle.swallow_top.specs.Finished.{AllBegun}
-use Rattle.swallow_top.specs.Smooth.{WentSmoothly, IsSmoothRun, WasRefused}
+use Rattle.swallow_top.specs.Smooth.{WasRefused}
 use Rattle.swallow_top.proofs.DownLemmas.{life-down}
-use Rattle.plan_volumes.proofs.BlankImageLemmas.{blank-count, blank-none}
+use Rattle.plan_volumes.proofs.BlankImageLemmas.{blank-count}
 use Rattle.swallow_top.proofs.PageLemmas.{apart-filled, filled-append, filled-reverse}
 use Rattle.swallow_top.proofs.StandingLemmas.{all-finished, all-tries}
 use Rattle.complete_law.proofs.SerialRanges.{in-range, within}

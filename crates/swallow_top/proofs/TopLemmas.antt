@@ -2,15 +2,11 @@
 use Rattle.std.proofs.Common.{◌≡◌, ◌<◌, ◌≤◌, ◌^◌, ℕ, List, [], ◌∷◌, inl, inr, Ok, Err, subst, arith}
 use Rattle.std.specs.Prelude.{Option, Result, OnOk, OnErr, IfOk}
 use Rattle.std.specs.Io.KnownBytes.{Appends}
-use Rattle.pseudo_time.specs.Lists.{Every}
-use Rattle.stream_port.specs.Causes.{Rose}
-use Rattle.world_core.specs.declared.entries.Entry.{Entry}
-use Rattle.world_core.specs.declared.entries.Entry.TheVariants.{Take, Go, Learn, Hear, Gate, Crash, Down, Tick}
+use Rattle.swallow_top.proofs.Names.{Every, Rose, Entry, Take, Crash, Down, Tick, Stop, AppendsFront, Ends, EndsIfAny, GotLine, Sinking, sinking}
+use Rattle.world_core.specs.declared.entries.Entry.TheVariants.{Go, Learn, Hear, Gate}
 use Rattle.run_rounds.specs.Clocked.{tick_moments}
 use Rattle.run_rounds.specs.Replays.{IsMoment}
-use Rattle.swallow_top.specs.declared.stops.Stop.{Stop}
 use Rattle.swallow_top.specs.Histories.{TellsText}
-use Rattle.swallow_top.specs.Written.{AppendsFront, Ends, EndsIfAny, GotLine, Sinking, sinking}
 
 -- a text, or a prefix of it where the count rose
 pub written : (old new : Option (List ℕ)) (before after : ℕ) (text : List ℕ) (r : Result (Unit {0}) Stop) → OnOk r (Appends old new text) → OnErr r (AppendsFront old new text) → OnErr r (Rose before after) → GotLine (sinking old new before after) text

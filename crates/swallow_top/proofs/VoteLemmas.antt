@@ -1,22 +1,11 @@
 -- What votes over the shelf's media come to is what is promised of them.
 use Rattle.std.proofs.Common.{◌≡◌, ◌⊎◌, ◌≤◌, inl, inr, ℕ, IsTrue, List, [], length, map, refl, sym, ap, subst, ◌∙◌, arith}
 use Rattle.std.proofs.lemmas.List.{length-map}
-use Rattle.stream_port.specs.Causes.{Rose}
-use Rattle.world_core.specs.declared.traces.Trace.{Trace}
+use Rattle.swallow_top.proofs.Names.{Rose, Trace, AreBack, Media, Account, no_trace, AllKept, ShelfSight, Kept, all-kept, Options, VoteEnd, Told, PollLine, HasNoRun, AskedNothing, HavePolled, TellsVotes, limits_of, tellers_of, votes_status, EndsIfAny, Sinking}
 use Rattle.world_core.specs.Counts.{tick_count}
-use Rattle.plan_volumes.specs.Media.{AreBack, Media}
-use Rattle.run_rounds.specs.Runs.{Account}
-use Rattle.run_rounds.specs.Stories.{no_trace}
-use Rattle.plan_volumes.specs.Kept.{AllKept}
-use Rattle.plan_volumes.specs.Shelves.{ShelfSight}
-use Rattle.plan_volumes.specs.KeptMedium.{Kept}
-use Rattle.plan_volumes.proofs.ShelfLemmas.{all-kept}
-use Rattle.command_words.specs.declared.commands.Options.{Options}
 use Rattle.votes_command.specs.Ends.{EndsAs}
 use Rattle.votes_command.specs.MemberMedia.{MemberMedia}
-use Rattle.votes_command.specs.VoteEnd.{VoteEnd}
-use Rattle.votes_command.specs.VoteEnd.TheVariants.{Told, NoMemory}
-use Rattle.votes_command.specs.PollLine.{PollLine}
+use Rattle.votes_command.specs.VoteEnd.TheVariants.{NoMemory}
 use Rattle.votes_command.specs.Clauses.{AllHold, Tellers}
 use Rattle.votes_command.specs.Polls.{lines_of}
 use Rattle.votes_command.specs.Statuses.{status_with}
@@ -26,10 +15,7 @@ use Rattle.votes_command.specs.PollStanding.{PollStanding}
 use Rattle.votes_command.specs.Limits.{Limits}
 use Rattle.votes_command.specs.Members.{in_order, member_names}
 use Rattle.votes_command.specs.Votes.{AreSmooth, TookNothing, VotesOver}
-use Rattle.swallow_top.specs.Contract.{HasNoRun}
-use Rattle.swallow_top.specs.Histories.{AskedNothing}
-use Rattle.swallow_top.specs.Votes.{AreFew, HavePolled, TellsVotes, limits_of, tellers_of, votes_status}
-use Rattle.swallow_top.specs.Written.{EndsIfAny, Sinking}
+use Rattle.swallow_top.specs.Votes.{AreFew}
 
 module _ {M : Type 0} (w : Media M) (old new : ShelfSight) where
   -- there is one standing for each poll

@@ -1,11 +1,6 @@
 use Rattle.std.proofs.Common.{◌≡◌, ◌∙◌, ◌++◌, ◌∷◌, [], length, sym, ap, subst, arith}
 use Rattle.std.proofs.lemmas.List.{length-map}
-use Rattle.seat_lock.specs.Words.{knows}
-use Rattle.world_core.specs.Walks.{Base}
-use Rattle.run_starts.specs.Wires.{base_from}
-use Rattle.run_starts.proofs.SightLemmas.{pass-origin}
-use Rattle.run_starts.specs.Nodes.{IsReady}
-use Rattle.run_starts.specs.Reasons.{TicksAreWanted}
+use Rattle.run_rounds.proofs.Names.{knows, Base, base_from, pass-origin, IsReady, TicksAreWanted}
 use Rattle.run_starts.proofs.AlongLemmas.{each-shared}
 use Rattle.run_rounds.proofs.CourseLemmas.{all-passes, dealt-again, have-gone, shares-count}
 use Rattle.run_rounds.proofs.courses.rounds.Goals as goal

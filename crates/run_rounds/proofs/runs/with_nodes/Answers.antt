@@ -1,14 +1,10 @@
 use Rattle.std.proofs.Common.{◌≡◌, ◌∙◌, [], length, map, sym, subst, ap, arith, inl}
 use Rattle.std.proofs.lemmas.List.{length-map}
 use Rattle.std.specs.Prelude.{All}
-use Rattle.seat_lock.specs.Words.{base_of, knows}
-use Rattle.run_starts.specs.Sights.{IsWirePass}
-use Rattle.run_starts.specs.TurnNodes.{NodeParts}
-use Rattle.run_starts.specs.Deals.{HaveRoom, IsDealt}
-use Rattle.run_starts.specs.Seats.{IsNewNode}
+use Rattle.run_rounds.proofs.Names.{knows, IsWirePass, NodeParts, IsDealt, IsNewNode, Pass, EndsAs, tellers, along-length}
+use Rattle.seat_lock.specs.Words.{base_of}
+use Rattle.run_starts.specs.Deals.{HaveRoom}
 use Rattle.run_rounds.specs.declared.ends.End.TheVariants as end
-use Rattle.run_rounds.specs.Closings.{Pass}
-use Rattle.run_rounds.specs.Finishes.{EndsAs, tellers}
 use Rattle.run_rounds.proofs.BackLemmas.{opened-alone, opened-back, opened-kept}
 use Rattle.run_rounds.proofs.CloseLemmas.{new-conductor}
 use Rattle.run_rounds.proofs.KillLemmas.{unseen-nodes}
@@ -18,7 +14,6 @@ use Rattle.run_rounds.proofs.RanLemmas.{ends-as}
 use Rattle.run_rounds.proofs.SeenLemmas.{none-own}
 use Rattle.run_rounds.proofs.SoundLemmas.{can-seat, open-of, ready-nodes}
 use Rattle.run_rounds.proofs.runs.with_nodes.Goals as goal
-use Rattle.run_starts.proofs.AlongLemmas.{along-length}
 
 pub stopped-requires-clause-all : goal.stopped-requires-clause-all
 stopped-requires-clause-all g c =

@@ -1,7 +1,5 @@
 use Rattle.std.proofs.Common.{inr, subst}
-use Rattle.plan_volumes.specs.Shelves.{shelf_sight}
-use Rattle.swallow_top.specs.Histories.{TellsVolumes}
-use Rattle.swallow_top.specs.Written.{sinking}
+use Rattle.swallow_top.proofs.Names.{shelf_sight, TellsVolumes, sinking}
 use Rattle.swallow_top.proofs.HistoryLemmas.{handed-back, tells-history}
 use Rattle.swallow_top.proofs.histories.tell_history.Goals as goal
 

@@ -1,11 +1,6 @@
 use Rattle.std.proofs.Common.{◌≡◌, sym, subst}
 use Rattle.std.specs.Prelude.{IfOk}
-use Rattle.report_writer.specs.Histories.{history_text}
-use Rattle.report_writer.specs.Reports.{down_text}
-use Rattle.forward_copy.specs.Currents.{node_log}
-use Rattle.plan_volumes.specs.RunVolumes.{logs_of}
-use Rattle.swallow_top.specs.Histories.{home_of}
-use Rattle.swallow_top.specs.Written.{sinking}
+use Rattle.swallow_top.proofs.Names.{history_text, down_text, node_log, logs_of, home_of, sinking}
 use Rattle.swallow_top.proofs.HistoryLemmas.{open-told, shut-told}
 use Rattle.swallow_top.proofs.TopLemmas.{tells-text}
 use Rattle.swallow_top.proofs.histories.tell_volumes.Goals as goal

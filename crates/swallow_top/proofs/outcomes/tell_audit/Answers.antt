@@ -1,6 +1,5 @@
 use Rattle.archive_promise.specs.Question.TheVariants as question
-use Rattle.plan_volumes.specs.Shelves.{shelf_sight}
-use Rattle.swallow_top.specs.Written.{sinking}
+use Rattle.swallow_top.proofs.Names.{shelf_sight, sinking}
 use Rattle.swallow_top.proofs.OutcomeLemmas.{tells-answer}
 use Rattle.swallow_top.proofs.outcomes.tell_audit.Goals as goal
 

@@ -1,10 +1,6 @@
 use Rattle.std.proofs.Common.{◌⊎◌, refl, subst, sym}
 use Rattle.archive_promise.specs.Question.TheVariants as question
-use Rattle.archive_promise.specs.Answered.{IsOfStamp}
-use Rattle.plan_volumes.specs.Shelves.{shelf_sight}
-use Rattle.swallow_top.specs.Histories.{AskedNothing}
-use Rattle.swallow_top.specs.Outcomes.{TellsAnswer}
-use Rattle.swallow_top.specs.Written.{sinking}
+use Rattle.swallow_top.proofs.Names.{IsOfStamp, shelf_sight, AskedNothing, TellsAnswer, sinking}
 use Rattle.swallow_top.proofs.OutcomeLemmas.{tells-answer}
 use Rattle.swallow_top.proofs.outcomes.tell_map.Goals as goal
 

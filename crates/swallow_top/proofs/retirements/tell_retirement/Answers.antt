@@ -1,5 +1,4 @@
-use Rattle.plan_volumes.specs.Shelves.{shelf_sight}
-use Rattle.swallow_top.specs.Written.{sinking}
+use Rattle.swallow_top.proofs.Names.{shelf_sight, sinking}
 use Rattle.swallow_top.proofs.RetirementLemmas.{tells-retirement}
 use Rattle.swallow_top.proofs.retirements.tell_retirement.Goals as goal
 

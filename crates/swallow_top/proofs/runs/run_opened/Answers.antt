@@ -1,8 +1,6 @@
 use Rattle.std.proofs.Common.{◌≡◌, ◌∙◌, inl, map, sym, subst}
 use Rattle.std.specs.List.{AllZip}
-use Rattle.plan_volumes.specs.Media.{AreBack, IsLeftAlone}
-use Rattle.plan_volumes.specs.Openings.{medium_in}
-use Rattle.run_rounds.specs.Finishes.{IsKeptWhole}
+use Rattle.swallow_top.proofs.Names.{AreBack, IsLeftAlone, medium_in, IsKeptWhole}
 use Rattle.swallow_top.proofs.ShelfLemmas.{alone-whole, opened-left, opened-there}
 use Rattle.swallow_top.proofs.runs.run_opened.Goals as goal
 

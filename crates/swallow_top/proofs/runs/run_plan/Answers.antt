@@ -1,14 +1,7 @@
 use Rattle.std.proofs.Common.{◌∙◌, ap, sym, subst, length, map, arith}
 use Rattle.std.specs.List.{AllZip}
 use Rattle.std.proofs.lemmas.List.{length-map}
-use Rattle.plan_volumes.specs.Media.{IsLeftAlone}
-use Rattle.run_rounds.specs.Finishes.{tellers}
-use Rattle.plan_volumes.specs.Kept.{kept_under}
-use Rattle.plan_volumes.specs.Shelves.{shelf_sight}
-use Rattle.plan_volumes.specs.Asides.{IsAside}
-use Rattle.plan_volumes.specs.Volumes.{all_left, names_from, work_taken}
-use Rattle.plan_volumes.proofs.ApartLemmas.{zip-long}
-use Rattle.swallow_top.specs.Written.{sinking}
+use Rattle.swallow_top.proofs.Names.{IsLeftAlone, tellers, kept_under, shelf_sight, IsAside, all_left, names_from, work_taken, zip-long, sinking}
 use Rattle.swallow_top.proofs.RunLemmas.{end-long, end-nodes, end-ranges, runs-kept, runs-plan}
 use Rattle.swallow_top.proofs.ShelfLemmas.{has-volumes, opened-left}
 use Rattle.swallow_top.proofs.runs.run_plan.Goals as goal

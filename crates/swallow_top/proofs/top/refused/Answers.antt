@@ -1,6 +1,5 @@
 use Rattle.std.proofs.Common.{refl, inr, subst, ◌∙◌, sym}
-use Rattle.swallow_top.specs.Contract.{RefusedAs}
-use Rattle.swallow_top.specs.Written.{GotLine, sinking}
+use Rattle.swallow_top.proofs.Names.{RefusedAs, GotLine, sinking}
 use Rattle.swallow_top.proofs.TopLemmas.{written}
 use Rattle.swallow_top.proofs.top.refused.Goals as goal
 

@@ -1,17 +1,9 @@
 use Rattle.std.proofs.Common.{◌⊎◌, ◌∙◌, ◌≤◌, ap, length, refl, sym, subst}
-use Rattle.pseudo_time.specs.Lists.{Every}
-use Rattle.plan_form.specs.PlanTexts.{IsOfLanguage}
+use Rattle.swallow_top.proofs.Names.{Every, IsOfLanguage, AreWords, IsPoll, RefusedAs, AskedNothing, TellsHistory, TellsAnswer, TellsWatch, TellsRetirement, mark_at, shelf_sight, sinking}
 use Rattle.plan_form.proofs.MadeLemmas.{made_is_whole}
-use Rattle.command_words.specs.Words.{AreWords, said}
+use Rattle.command_words.specs.Words.{said}
 use Rattle.command_words.proofs.WordLemmas.{few-ticks}
-use Rattle.votes_command.specs.Inputs.{IsPoll}
-use Rattle.swallow_top.specs.Contract.{RefusedAs}
-use Rattle.swallow_top.specs.Histories.{AskedNothing, TellsHistory}
 use Rattle.archive_promise.specs.Question.TheVariants as question
-use Rattle.swallow_top.specs.Outcomes.{TellsAnswer, TellsWatch}
-use Rattle.swallow_top.specs.Retirements.{TellsRetirement, mark_at}
-use Rattle.plan_volumes.specs.Shelves.{shelf_sight}
-use Rattle.swallow_top.specs.Written.{sinking}
 use Rattle.swallow_top.proofs.PromiseLemmas.{language-of, polls-of, promise-audit, promise-history, promise-load, promise-map, promise-no-polls, promise-refused, promise-retire, promise-run, promise-votes, promise-watch, quiet-call, some-workers}
 use Rattle.swallow_top.proofs.top.swallow.Goals as goal
 

@@ -1,8 +1,5 @@
 use Rattle.std.proofs.Common.{refl}
-use Rattle.run_rounds.specs.Finishes.{account_of, tellers}
-use Rattle.plan_volumes.specs.Shelves.{shelf_sight}
-use Rattle.swallow_top.specs.Votes.{limits_of}
-use Rattle.swallow_top.specs.Written.{sinking}
+use Rattle.swallow_top.proofs.Names.{account_of, tellers, shelf_sight, limits_of, sinking}
 use Rattle.swallow_top.proofs.VoteLemmas.{few-end, polled}
 use Rattle.swallow_top.proofs.votes.tell_votes.Goals as goal
 
