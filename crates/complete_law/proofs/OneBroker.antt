@@ -1,10 +1,9 @@
 -- With one broker no write is refused, at any calm place.
-use Rattle.std.proofs.Common.{◌≡◌, ◌≢◌, ◌⊎◌, ℕ, ◌+◌, ◌==◌, nat_le, Bool, true, false, ◌&&◌, length, List, [], ◌∷◌, ◌++◌, map, reverse, refl, sym, ◌∙◌, ap, subst, Option, Some, None, if◌then◌else◌, inl, inr, append-nil, arith}
+use Rattle.std.proofs.Common.{◌≡◌, ◌≢◌, ◌⊎◌, ℕ, ◌+◌, ◌≤◌, ◌==◌, nat_le, Bool, true, false, ◌&&◌, length, List, [], ◌∷◌, ◌++◌, map, reverse, refl, sym, ◌∙◌, ap, subst, Option, Some, None, if◌then◌else◌, inl, inr, append-nil, arith}
 use Rattle.std.proofs.lemmas.Grind.{common_steps}
 use Rattle.std.proofs.lemmas.Bool.{false≢true, true≢false}
 use Rattle.std.proofs.lemmas.List.{reverse-append}
-use Rattle.std.specs.List.{filter}
-use Rattle.complete_law.proofs.Names.{Every, Has, every-has, has-either, has-right, StampParts, TimeParts, lt, NodeId, NodeKind, broker, repository, same_node, ObjectId, Value, Effect, Outcome, Message, same_node-refl, Out, Grew, Post, WasSent, post, posts, Fate, Answer, Asks, Got, Over, Request, Stored, ToRead, ToWrite, stop, WriteStep, floor_of, stands_written, write_step, and-left, and-right, eq-from, Hand, accepts, is_broker_of, on_learn, on_message, hand_at, known, marks, tidy-through, broker-is, filter-has, Book, Try, book, find, tries, tries_of, state, EndsBy, FitsLog, IsTidy, EndCame, IsAskOf, IsPlayed, IsProven, PostHolds, TurnHolds, each-found, one-request, kept, post-grown, played, proven, Entry, gives, leaves, Learning, Taking, Base, Life, Sending, World, after_input, all_effects, leaving, lives_on, sent_by, start_world, step, took, MayGate, MayGo, MayLearn, MayTake, Rule, base_of, LogFacts, Refines, logs_at, soft_of, kind_post, node_facts, node_turns, NodeOk, around, happened, numbered-has, each-has, map-has, node-laws, facts-of, sent-gate, CalmPlace, IsUnstopped, IsRefusal, book_at, log_at, sent_at, world_at, found-in}
+use Rattle.complete_law.proofs.Names.{Every, Has, has-right, StampParts, TimeParts, lt, NodeId, NodeKind, broker, repository, same_node, ObjectId, Value, Effect, Outcome, Message, same_node-refl, Out, Grew, Post, WasSent, post, Answer, Asks, Got, Over, Request, Stored, ToRead, ToWrite, stop, WriteStep, floor_of, stands_written, write_step, and-left, and-right, eq-from, Hand, accepts, is_broker_of, on_learn, on_message, hand_at, known, marks, tidy-through, broker-is, Book, Try, book, find, tries, tries_of, state, EndsBy, FitsLog, IsTidy, EndCame, IsAskOf, IsPlayed, IsProven, PostHolds, TurnHolds, each-found, one-request, kept, post-grown, played, proven, Entry, Base, Life, Sending, World, sent_by, start_world, step, Rule, base_of, LogFacts, Refines, logs_at, soft_of, kind_post, node_facts, node_turns, NodeOk, around, happened, each-has, node-laws, facts-of, CalmPlace, IsUnstopped, IsRefusal, book_at, log_at, sent_at, world_at, found-in}
 use Rattle.pseudo_time.proofs.OrderLemmas.{lt-asymmetric, lt-irreflexive}
 use Rattle.pseudo_time.specs.declared.decisions.Decision.TheVariants as decision
 use Rattle.pseudo_time.specs.declared.nodes.NodeKind.TheVariants as kind
@@ -15,7 +14,6 @@ use Rattle.message_form.specs.declared.messages.Message.TheVariants as message
 use Rattle.object_history.specs.declared.steps.WriteStep.TheVariants as write
 use Rattle.object_history.specs.declared.marks.Mark.TheVariants as mark
 use Rattle.object_history.proofs.AnswerLemmas.{later-read, later-version}
-use Rattle.repository_core.specs.Turns as hands
 use Rattle.repository_laws.specs.Facts as repositories
 use Rattle.repository_laws.proofs.Logs.{put-logged, grown-floor, grown-floors}
 use Rattle.broker_laws.specs.Posts.{IsFitting, at}
@@ -24,19 +22,49 @@ use Rattle.world_core.specs.declared.entries.Entry.TheVariants as entry
 use Rattle.serial_law.proofs.OldChains.{grown-alone, grown-more}
 use Rattle.complete_law.specs.Calm.{WasRefused}
 use Rattle.complete_law.proofs.BrokerMoves.{node-there, turn-there}
-use Rattle.complete_law.proofs.Frames.{not-same, parted}
+use Rattle.complete_law.proofs.Frames.{came-sent}
+use Rattle.complete_law.proofs.Loads.{Fed, by-entry, if-from, issued, load, load-append, sent-load}
 use Rattle.complete_law.proofs.Hearings.{asking-undecided, gated-same, says}
 use Rattle.complete_law.proofs.Outcomes.{book-is, own-tries, unknown-book}
-use Rattle.complete_law.proofs.Places.{CalmWorld, IsBegun, IsDecided, desk_of, log_of, tasks_of, all-off, both-on}
+use Rattle.complete_law.proofs.Places.{CalmWorld, IsBegun, IsDecided, desk_of, log_of, tasks_of}
 use Rattle.complete_law.proofs.Refusals.{ArePlain, IsNotRefused, IsRefusing, learn-plain, put-written, take-plain}
-use Rattle.complete_law.proofs.RepositoryEntries.{life-hand}
+use Rattle.complete_law.proofs.RepositoryEntries.{hand-learns, hand-takes, life-hand}
 use Rattle.complete_law.proofs.Rising.{asked-before, falling, undecided-last}
-use Rattle.complete_law.proofs.Steps.{Facts-at, fates, always, calm-there, empty-life, facts-there, no-moment}
+use Rattle.complete_law.proofs.Steps.{Facts-at, fates, always, calm-there, empty-life, facts-there}
 use Rattle.serial_law.proofs.CauseLemmas.{stretch-logged}
+
+-- a message that refuses a write counts one
+abbrev refusal : Message → ℕ
+refusal (message.LaterRead x e) = 1
+refusal (message.LaterVersion x y) = 1
+refusal m = 0
+
+refusal-one : (m : Message) → IsRefusal m → refusal m ≡ 1
+refusal-one (message.LaterRead x e) is = refl
+refusal-one (message.LaterVersion x y) is = refl
+refusal-one _ is = absurd is
+
+refusal-none : (m : Message) → (IsRefusal m → ⊥) → refusal m ≡ 0
+refusal-none (message.LaterRead x e) no-refusal = absurd (no-refusal tt)
+refusal-none (message.LaterVersion x y) no-refusal = absurd (no-refusal tt)
+refusal-none _ no-refusal = refl
+
+plain-load : (outs : List Out) → ArePlain outs → load refusal outs ≡ 0
+plain-load [] k = refl
+plain-load (o ∷ outs) k = let i = plain-load outs k.1 in let j = refusal-none o.message k.0 in omega (arith, i, j)
+
+sent-none : (n : NodeId) (ss : List Sending) → sent-load refusal n ss ≡ 0 → (o : Out) → IsRefusal o.message → Has (post n o) (map (λ (s : Sending). s.post) ss) → ⊥
+sent-none n [] z o is h = h
+sent-none n (s ∷ ss) z o is (inl e) =
+    let k : if-from (same_node s.post.from n) (refusal s.post.message) ≡ refusal o.message =
+    ap (λ (p : Post). if-from (same_node p.from n) (refusal p.message)) e ∙ ap (λ c. if-from c (refusal o.message)) (same_node-refl n) in
+    let j = refusal-one o.message is in
+    absurd (omega (arith, z, k, j))
+sent-none n (s ∷ ss) z o is (inr h) = sent-none n ss (omega (arith, z)) o is h
 
 -- no repository says, or owes, that a write is refused
 abbrev pub NoRefusal : World → Type 0
-NoRefusal w = (r : ℕ) (o : Out) → IsRefusal o.message → (Has o (w.life (repository r)).outs → ⊥) × (Has (post (repository r) o) (sent_by w) → ⊥)
+NoRefusal w = (r : ℕ) → issued refusal w (repository r) ≡ 0
 
 -- all brokers that were opened are one
 abbrev pub OneBroker : World → Type 0
@@ -55,7 +83,7 @@ module _ (b : Base) (w : World) (calm : CalmWorld b w) (f : Refines (node_turns 
     where
       go : (kd : NodeKind) (i : ℕ) (m : Message) → IsRefusal m → Has (record { from = record { kind = kd; number = i }; to = to; message = m }) (sent_by w) →
           kind_post b.script (sent_by w) kd i (reverse (logs_at (λ n. []) w (record { kind = kd; number = i }))) (record { to = to; message = m }) → ⊥
-      go kind.Repository i m is h p = (none i (record { to = to; message = m }) is).1 h
+      go kind.Repository i m is h p = let k = none i in sent-none (repository i) w.sendings (omega (arith, k)) (record { to = to; message = m }) is h
       go kind.Broker i (message.LaterRead x e) is h p = p
       go kind.Broker i (message.LaterVersion x y) is h p = p
       go kind.Broker i _ is h p = is
@@ -271,146 +299,26 @@ module _ (b : Base) (w : World) (calm : CalmWorld b w) (f : Refines (node_turns 
   no-floor : (n : ℕ) → (w.flags (repository n)).known ≡ true → floor_of (marks (log_of w (repository n))) ≡ None
   no-floor n opened = grown-floor n (log_of w (repository n)) (log-grown n opened)
 
-  -- ---- entries
+  -- ---- a repository's turn
 
-  repository-is : (i r : ℕ) → repository i ≡ repository r → i ≡ r
-  repository-is i r e = ap (λ (x : NodeId). x.number) e
-
-  -- nothing is sent, and what this repository comes to owe is plain
-  stays : (e : Entry) (outs : List Out) → (step b w e).sendings ≡ w.sendings → ((r : ℕ) → ((step b w e).life (repository r) ≡ w.life (repository r)) ⊎ (((step b w e).life (repository r)).outs ≡ (w.life (repository r)).outs ++ outs)) → ArePlain outs →
-      NoRefusal (step b w e)
-  stays e outs same lives plain r o is = (owes (lives r), λ h. (none r o is).1 (subst (λ s. Has (post (repository r) o) (map (λ (x : Sending). x.post) s)) same h))
-    where
-      owes : ((step b w e).life (repository r) ≡ w.life (repository r)) ⊎ (((step b w e).life (repository r)).outs ≡ (w.life (repository r)).outs ++ outs) → Has o ((step b w e).life (repository r)).outs → ⊥
-      owes (inl q) h = (none r o is).0 (subst (λ (l : Life). Has o l.outs) q h)
-      owes (inr q) h = elim (has-either (w.life (repository r)).outs outs o (subst (Has o) q h)) [
-        | inl a ↦ (none r o is).0 a
-        | inr c ↦ every-has (λ (x : Out). IsRefusal x.message → ⊥) outs o plain c is
-      ]
-
-  not-broker : (i r : ℕ) → repository r ≢ broker i
-  not-broker i r e = let k : kind.Repository ≡ kind.Broker = ap (λ (x : NodeId). x.kind) e in cc k
-
-  module _ (i k : ℕ) (fates : List Fate) (may : MayTake fates w (repository i) k) where
-    abbrev from0 : NodeId
-    from0 = may.sending.post.from
-
-    abbrev m0 : Message
-    m0 = may.sending.post.message
-
-    abbrev h : Hand
-    h = on_message (hand_at i (log_of w (repository i)) (w.life (repository i)).mind.hands) from0 m0
-
-    abbrev tw : World
-    tw = step b w (entry.Take (repository i) k)
-
+  module _ (i : ℕ) (up : (w.flags (repository i)).up ≡ true) where
     opened : (w.flags (repository i)).known ≡ true
-    opened = sym (calm.ups (repository i)) ∙ may.up
+    opened = sym (calm.ups (repository i)) ∙ up
 
-    takes : after_input b (repository i) (w.life (repository i)) (Taking from0 m0) ≡ life-hand (w.life (repository i)) h
-    unfolding gives hands.gives
-    takes = refl
-
-    here : (tw.life (repository i)).outs ≡ (w.life (repository i)).outs ++ h.outs
-    here = ap (λ (l : Life). l.outs) (both-on (same_node (repository i) (repository i)) (w.flags (repository i)).known (lives_on b w (repository i) (w.life (repository i)) (entry.Take (repository i) k)) (w.life (repository i)) (same_node-refl (repository i)) opened
-        ∙ ap (took b (repository i) (w.life (repository i))) may.sent ∙ takes)
-
-    lives : (r : ℕ) → (tw.life (repository r) ≡ w.life (repository r)) ⊎ ((tw.life (repository r)).outs ≡ (w.life (repository r)).outs ++ h.outs)
-    lives r = elim (parted (repository i) (repository r)) [
-      | inl e ↦ inr (subst (λ z. (tw.life z).outs ≡ (w.life z).outs ++ h.outs) (sym e) here)
-      | inr ne ↦ inl (all-off (same_node (repository i) (repository r)) (w.flags (repository r)).known (lives_on b w (repository r) (w.life (repository r)) (entry.Take (repository i) k)) (w.life (repository r)) (not-same (repository i) (repository r) ne))
-    ]
-
-    was-sent : Has (record { from = from0; to = repository i; message = m0 }) (sent_by w)
-    was-sent = subst (λ z. Has (record { from = from0; to = z; message = m0 }) (sent_by w)) may.to (numbered-has (λ (x : Sending). x.post) w.sendings k may.sending may.sent)
-
-    never : (x : TimeParts) (o : ObjectId) (v : Value) → m0 ≡ message.Write x o v → accepts i from0 m0 ≡ true → IsNotRefused (log_of w (repository i)) x o v
-    never x o v is takes-it =
-        let accepted : accepts i from0 (message.Write x o v) ≡ true = subst (λ z. accepts i from0 z ≡ true) is takes-it in
-        let own : from0 ≡ broker x.stamp.broker = broker-is x.stamp.broker from0 (and-left (is_broker_of x.stamp.broker from0) (o.repository == i) accepted) in
+    never : (from : NodeId) (m : Message) → Has (record { from = from; to = repository i; message = m }) (sent_by w) → (x : TimeParts) (o : ObjectId) (v : Value) → m ≡ message.Write x o v → accepts i from m ≡ true →
+        IsNotRefused (log_of w (repository i)) x o v
+    never from m sent x o v is takes-it =
+        let accepted : accepts i from (message.Write x o v) ≡ true = subst (λ z. accepts i from z ≡ true) is takes-it in
+        let own : from ≡ broker x.stamp.broker = broker-is x.stamp.broker from (and-left (is_broker_of x.stamp.broker from) (o.repository == i) accepted) in
         not-refused i opened x o v
-        (subst (λ z. Has (record { from = z; to = repository i; message = message.Write x o v }) (sent_by w)) own (subst (λ z. Has (record { from = from0; to = repository i; message = z }) (sent_by w)) is was-sent))
-        (eq-from o.repository i (and-right (is_broker_of x.stamp.broker from0) (o.repository == i) accepted))
+        (subst (λ z. Has (record { from = z; to = repository i; message = message.Write x o v }) (sent_by w)) own (subst (λ z. Has (record { from = from; to = repository i; message = z }) (sent_by w)) is sent))
+        (eq-from o.repository i (and-right (is_broker_of x.stamp.broker from) (o.repository == i) accepted))
 
-    take-there : NoRefusal tw
-    take-there = stays (entry.Take (repository i) k) h.outs refl lives (take-plain i (log_of w (repository i)) (w.life (repository i)).mind.hands (no-floor i opened) from0 m0 never)
+    pub take-none : (from : NodeId) (m : Message) → Has (record { from = from; to = repository i; message = m }) (sent_by w) → ArePlain (on_message (hand_at i (log_of w (repository i)) (w.life (repository i)).mind.hands) from m).outs
+    take-none from m sent = take-plain i (log_of w (repository i)) (w.life (repository i)).mind.hands (no-floor i opened) from m (never from m sent)
 
-  pub take-keeps : (n : NodeId) (k : ℕ) (fates : List Fate) → MayTake fates w n k → NoRefusal (step b w (entry.Take n k))
-  take-keeps n k fates may = go n.kind n.number may
-    where
-      go : (kd : NodeKind) (i : ℕ) → MayTake fates w (record { kind = kd; number = i }) k → NoRefusal (step b w (entry.Take (record { kind = kd; number = i }) k))
-      go kind.Broker i may = stays (entry.Take (broker i) k) [] refl
-          (λ r. inl (all-off (same_node (broker i) (repository r)) (w.flags (repository r)).known (lives_on b w (repository r) (w.life (repository r)) (entry.Take (broker i) k)) (w.life (repository r)) (not-same (broker i) (repository r) (not-broker i r)))) tt
-      go kind.Repository i may = take-there i k fates may
-
-  pub go-keeps : (n : NodeId) → MayGo w n → NoRefusal (step b w (entry.Go n))
-  go-keeps n may = go n.kind n.number may
-    where
-      go : (kd : NodeKind) (i : ℕ) → MayGo w (record { kind = kd; number = i }) → NoRefusal (step b w (entry.Go (record { kind = kd; number = i })))
-      go kind.Repository i may = absurd (false≢true may.broker)
-      go kind.Broker i may = stays (entry.Go (broker i)) [] refl
-          (λ r. inl (all-off (same_node (broker i) (repository r)) (w.flags (repository r)).known (lives_on b w (repository r) (w.life (repository r)) (entry.Go (broker i))) (w.life (repository r)) (not-same (broker i) (repository r) (not-broker i r)))) tt
-
-  module _ (i : ℕ) (s : StampParts) (c : Bool) (may : MayLearn w (repository i) s c) where
-    abbrev learned-hand : Hand
-    learned-hand = on_learn (hand_at i (log_of w (repository i)) (w.life (repository i)).mind.hands) s c
-
-    abbrev lw : World
-    lw = step b w (entry.Learn (repository i) s c)
-
-    up-there : (w.flags (repository i)).known ≡ true
-    up-there = sym (calm.ups (repository i)) ∙ may.up
-
-    learns : after_input b (repository i) (w.life (repository i)) (Learning s c) ≡ life-hand (w.life (repository i)) learned-hand
-    unfolding gives hands.gives
-    learns = refl
-
-    learned-here : (lw.life (repository i)).outs ≡ (w.life (repository i)).outs ++ learned-hand.outs
-    learned-here = ap (λ (l : Life). l.outs) (both-on (same_node (repository i) (repository i)) (w.flags (repository i)).known (lives_on b w (repository i) (w.life (repository i)) (entry.Learn (repository i) s c)) (w.life (repository i)) (same_node-refl (repository i)) up-there ∙ learns)
-
-    learned-lives : (r : ℕ) → (lw.life (repository r) ≡ w.life (repository r)) ⊎ ((lw.life (repository r)).outs ≡ (w.life (repository r)).outs ++ learned-hand.outs)
-    learned-lives r = elim (parted (repository i) (repository r)) [
-      | inl e ↦ inr (subst (λ z. (lw.life z).outs ≡ (w.life z).outs ++ learned-hand.outs) (sym e) learned-here)
-      | inr ne ↦ inl (all-off (same_node (repository i) (repository r)) (w.flags (repository r)).known (lives_on b w (repository r) (w.life (repository r)) (entry.Learn (repository i) s c)) (w.life (repository r)) (not-same (repository i) (repository r) ne))
-    ]
-
-    learn-there : NoRefusal lw
-    learn-there = stays (entry.Learn (repository i) s c) learned-hand.outs refl learned-lives (learn-plain i (log_of w (repository i)) (w.life (repository i)).mind.hands (no-floor i up-there) s c)
-
-  pub learn-keeps : (n : NodeId) (s : StampParts) (c : Bool) → MayLearn w n s c → NoRefusal (step b w (entry.Learn n s c))
-  learn-keeps n s c may = go n.kind n.number may
-    where
-      go : (kd : NodeKind) (i : ℕ) → MayLearn w (record { kind = kd; number = i }) s c → NoRefusal (step b w (entry.Learn (record { kind = kd; number = i }) s c))
-      go kind.Broker i may = absurd (true≢false may.repository)
-      go kind.Repository i may = learn-there i s c may
-
-  pub gate-keeps : (n : NodeId) → MayGate w n → NoRefusal (step b w (entry.Gate n))
-  gate-keeps n may r o is = (owes, sends)
-    where
-      mine : (w.flags n).known ≡ true
-      mine = sym (calm.ups n) ∙ may.up
-
-      owes : Has o ((step b w (entry.Gate n)).life (repository r)).outs → ⊥
-      owes h = elim (parted n (repository r)) [
-        | inl e ↦ subst (λ (l : Life). Has o l.outs) (both-on (same_node n (repository r)) (w.flags (repository r)).known (lives_on b w (repository r) (w.life (repository r)) (entry.Gate n)) (w.life (repository r))
-            (subst (λ z. same_node n z ≡ true) (sym e) (same_node-refl n)) (subst (λ z. (w.flags z).known ≡ true) (sym e) mine)) h
-        | inr ne ↦ (none r o is).0 (subst (λ (l : Life). Has o l.outs) (all-off (same_node n (repository r)) (w.flags (repository r)).known (lives_on b w (repository r) (w.life (repository r)) (entry.Gate n)) (w.life (repository r)) (not-same n (repository r) ne)) h)
-      ]
-
-      leaving-is : leaving w n ≡ posts n (filter (leaves (all_effects (w.life n))) (w.life n).outs)
-      leaving-is = ap (λ c. if c then posts n (filter (leaves (all_effects (w.life n))) (w.life n).outs) else []) mine
-
-      new : ((x : Out) × Has x (filter (leaves (all_effects (w.life n))) (w.life n).outs) × (post n x ≡ post (repository r) o)) → ⊥
-      new (x, h, e) =
-          let at-r : n ≡ repository r = ap (λ (p : Post). p.from) e in
-          let same : x.message ≡ o.message = ap (λ (p : Post). p.message) e in
-          (none r x (subst IsRefusal (sym same) is)).0 (subst (λ z. Has x (w.life z).outs) at-r (filter-has (leaves (all_effects (w.life n))) (w.life n).outs x h))
-
-      sends : Has (post (repository r) o) (sent_by (step b w (entry.Gate n))) → ⊥
-      sends h = elim (has-either (sent_by w) (leaving w n) (post (repository r) o) (subst (Has (post (repository r) o)) (sent-gate b w n) h)) [
-        | inl a ↦ (none r o is).1 a
-        | inr c ↦ new (map-has (post n) (filter (leaves (all_effects (w.life n))) (w.life n).outs) (post (repository r) o) (subst (Has (post (repository r) o)) leaving-is c))
-      ]
+    pub learn-none : (s : StampParts) (c : Bool) → ArePlain (on_learn (hand_at i (log_of w (repository i)) (w.life (repository i)).mind.hands) s c).outs
+    learn-none s c = learn-plain i (log_of w (repository i)) (w.life (repository i)).mind.hands (no-floor i opened) s c
 
 -- ---- at a place
 
@@ -427,16 +335,30 @@ module _ (p : CalmPlace) (single : p.run.plan.brokers ≡ 1) where
   ones : (w : World) → Facts-at p.run w → OneBroker w
   ones w f = one-broker base w f (λ i e. first p.run.plan.brokers i single (sym (p.run.legal.nodes.just (broker i)) ∙ sym (f.models.known (broker i)) ∙ e))
 
-  keeps : (w : World) (e : Entry) → Facts-at p.run w → CalmWorld base w → IsUnstopped e → Rule base (fates p.run) w e → NoRefusal w → NoRefusal (step base w e)
-  keeps w (entry.Take n k) f c q rule none = take-keeps base w c f none (ones w f) n k (fates p.run) rule
-  keeps w (entry.Go n) f c q rule none = go-keeps base w c f none (ones w f) n rule
-  keeps w (entry.Learn n s d) f c q rule none = learn-keeps base w c f none (ones w f) n s d rule
-  keeps w (entry.Hear n) f c q rule none = absurd (no-moment p.run w n f rule)
-  keeps w (entry.Gate n) f c q rule none = gate-keeps base w c f none (ones w f) n rule
-  keeps w e f c q rule none = absurd q
+  module _ (w : World) (e : Entry) (f : Facts-at p.run w) (c : CalmWorld base w) (q : IsUnstopped e) (rule : Rule base (fates p.run) w e) (none : NoRefusal w) (n : ℕ) where
+    abbrev w' : World
+    w' = step base w e
+
+    turn-none : (h : Hand) (l : Life) → l ≡ life-hand (w.life (repository n)) h → Fed w w' (repository n) l → ArePlain h.outs → issued refusal w' (repository n) ≡ 0
+    turn-none h l is fed plain =
+        let x : load refusal (w'.life (repository n)).outs ≡ load refusal ((w.life (repository n)).outs ++ h.outs) = ap (λ (y : Life). load refusal y.outs) (fed.life ∙ is) in
+        let y = load-append refusal (w.life (repository n)).outs h.outs in
+        let s : sent-load refusal (repository n) w'.sendings ≡ sent-load refusal (repository n) w.sendings = ap (sent-load refusal (repository n)) fed.sendings in
+        let z = plain-load h.outs plain in
+        let k = none n in
+        omega (arith, x, y, s, z, k)
+
+    keeps : issued refusal w' (repository n) ≡ 0
+    keeps = by-entry p.run w f c (issued refusal w' (repository n) ≡ 0) e (repository n) q rule (record {
+      kept = λ same. (let x = same.issued refusal in let k = none n in omega (arith, x, k));
+      takes = λ k may ks gone fed. turn-none (on_message (hand_at n (log_of w (repository n)) (w.life (repository n)).mind.hands) may.sending.post.from may.sending.post.message) _ (hand-takes base w n may.sending.post.from may.sending.post.message) fed
+          (take-none base w c f none (ones w f) n may.up may.sending.post.from may.sending.post.message (came-sent base w c (repository n) k (fates p.run) may));
+      goes = λ may gone fed. absurd (false≢true may.broker);
+      learns = λ s d may fed. turn-none (on_learn (hand_at n (log_of w (repository n)) (w.life (repository n)).mind.hands) s d) _ (hand-learns base w n s d) fed (learn-none base w c f none (ones w f) n may.up s d);
+    })
 
   begins : NoRefusal (start_world base)
-  begins r o is = (λ h. subst (λ (l : Life). Has o l.outs) (empty-life p.run (repository r)) h, λ h. h)
+  begins n = let x : load refusal ((start_world base).life (repository n)).outs ≡ 0 = ap (λ (l : Life). load refusal l.outs) (empty-life p.run (repository n)) in omega (arith, x)
 
   no-refusal : NoRefusal (world_at p)
   no-refusal = always p NoRefusal begins keeps
@@ -448,14 +370,9 @@ module _ (p : CalmPlace) (single : p.run.plan.brokers ≡ 1) where
   unrefused i t k = go t.end refl
     where
       go : (e : Option Outcome) → t.end ≡ e → WasRefused e → ⊥
-      go None q h = h
       go (Some (outcome.LaterRead o e)) q h = let came = k.ends (outcome.LaterRead o e) q in said-never came.0 (broker i) _ came.1 tt
       go (Some (outcome.LaterVersion o e)) q h = let came = k.ends (outcome.LaterVersion o e) q in said-never came.0 (broker i) _ came.1 tt
-      go (Some outcome.Committed) q h = h
-      go (Some (outcome.Withdrawn l)) q h = h
-      go (Some (outcome.Failed l x)) q h = h
-      go (Some (outcome.Expired d m)) q h = h
-      go (Some (outcome.Spent c)) q h = h
+      go _ q h = h
 
   all-unrefused : (i : ℕ) (ts : List Try) → Every (IsProven i (sent_at p)) ts → Every (λ (t : Try). WasRefused t.end → ⊥) ts
   all-unrefused i [] k = tt

@@ -1,19 +1,30 @@
 -- An entry at which a repository takes a turn keeps what always holds, where the message that it took is served.
-use Rattle.std.proofs.Common.{◌≡◌, ◌≢◌, ◌⊎◌, ℕ, ◌≤◌, ◌==◌, Bool, true, false, List, ◌++◌, map, reverse, sym, ◌∙◌, ap, subst, Some, inl, inr, append_assoc}
+use Rattle.std.proofs.Common.{◌≡◌, ◌≢◌, ◌⊎◌, ℕ, ◌≤◌, ◌==◌, Bool, true, false, List, ◌++◌, map, reverse, refl, sym, ◌∙◌, ap, subst, Some, inl, inr, append_assoc}
 use Rattle.std.proofs.lemmas.List.{reverse-append, reverse-reverse}
-use Rattle.complete_law.proofs.Names.{Has, every-has, has-right, StampParts, TimeParts, Decision, NodeId, ObjectId, Effect, Message, Out, Post, post, ToRead, ToWrite, HeldRead, Asker, Hand, now, waits_for, hand_at, Heard, Ignored, Try, book, find, time_of, tries, is_none, row, news, Stage, Idle, Refused, Opening, Asking, Finishing, Stopping, Closing, stage, standing, repository, broker, desk_at, state, IsRested, Base, Life, Sending, World, sent_by, all_effects, Waits, standing_at, read_to, Askers, DeskSound, Answers, Keeps, Serves, ask_of, tell_of}
+use Rattle.complete_law.proofs.Names.{Has, every-has, has-right, StampParts, TimeParts, Decision, NodeId, ObjectId, Effect, Message, Out, Post, post, ToRead, ToWrite, HeldRead, Asker, Hand, now, waits_for, hand_at, on_learn, on_message, gives, after_input, Taking, Learning, Heard, Ignored, Try, book, find, time_of, tries, is_none, row, news, Stage, Idle, Refused, Opening, Asking, Finishing, Stopping, Closing, stage, standing, repository, broker, desk_at, state, IsRested, Base, Life, Sending, World, sent_by, all_effects, Waits, standing_at, read_to, Askers, DeskSound, Answers, Keeps, Serves, ask_of, tell_of}
 use Rattle.pseudo_time.specs.declared.nodes.NodeKind.TheVariants as kind
 use Rattle.effect_form.specs.declared.effects.Effect.TheVariants as effect
 use Rattle.message_form.specs.declared.messages.Message.TheVariants as message
 use Rattle.repository_core.specs.Turns.{mind_of}
 use Rattle.complete_law.proofs.BrokerEntries.{sound-more}
 use Rattle.complete_law.proofs.Answering.{heeds-read}
+use Rattle.repository_core.specs.Turns as hands
 use Rattle.complete_law.proofs.Frames.{OneTurn, turn-flies, turn-outside, turn-shut, turn-still, turn-ups}
 use Rattle.complete_law.proofs.Places.{log_of, held_of, IsBegun, IsDecided, Flying, AskedFor, tasks_of, desk_of, standing_in, Heeds, Placed, SaidOf, CalmWorld}
 
 -- a life after a repository's turn
 abbrev pub life-hand : Life → Hand → Life
 life-hand l h = record { gated = l.gated; fresh = l.fresh ++ reverse h.added; outs = l.outs ++ h.outs; mind = record { hands = mind_of h; heard = l.mind.heard } }
+
+pub hand-takes : (b : Base) (w : World) (n : ℕ) (from : NodeId) (m : Message) →
+    after_input b (repository n) (w.life (repository n)) (Taking from m) ≡ life-hand (w.life (repository n)) (on_message (hand_at n (log_of w (repository n)) (w.life (repository n)).mind.hands) from m)
+unfolding gives hands.gives
+hand-takes b w n from m = refl
+
+pub hand-learns : (b : Base) (w : World) (n : ℕ) (s : StampParts) (c : Bool) →
+    after_input b (repository n) (w.life (repository n)) (Learning s c) ≡ life-hand (w.life (repository n)) (on_learn (hand_at n (log_of w (repository n)) (w.life (repository n)).mind.hands) s c)
+unfolding gives hands.gives
+hand-learns b w n s c = refl
 
 -- one repository's turn: `h` is its hand after it, and of a message that it took `Taken` holds
 pub record Turned (w w' : World) (n : ℕ) (h : Hand) (Taken : Post → Type 0) : Type 0 where

@@ -2,8 +2,7 @@
 use Rattle.std.proofs.Common.{◌≡◌, ℕ, zero, suc, ◌+◌, ◌≤◌, ◌<◌, ◌==◌, min, Bool, true, false, List, [], ◌∷◌, ◌++◌, map, reverse, cond, refl, sym, ◌∙◌, ap, subst, Some, if◌then◌else◌, arith, slice_get}
 use Rattle.std.proofs.lemmas.Grind.{common_steps}
 use Rattle.std.proofs.lemmas.Bool.{false≢true}
-use Rattle.complete_law.proofs.Names.{Every, StampParts, NodeId, Message, same_node, same_node-refl, copies_of, Post, Hand, now, hand_at, accepts, on_learn, on_message, HeldHolds, begun-fine, on-learn-fine, take-fine, repository, count, Entry, gives, Taking, Learning, Base, Life, Sending, World, leaving, numbered, sent_by, start_world, step, after_input, MayLearn, MayTake, Rule, times_taken, every-at, CalmPlace, CalmRun, IsPlain, IsUnstopped, world_at}
-use Rattle.repository_core.specs.Turns as hands
+use Rattle.complete_law.proofs.Names.{Every, StampParts, same_node, same_node-refl, copies_of, Post, Hand, now, hand_at, accepts, on_learn, on_message, HeldHolds, begun-fine, on-learn-fine, take-fine, repository, count, Entry, Taking, Learning, Base, Life, Sending, World, leaving, numbered, sent_by, start_world, step, after_input, MayLearn, MayTake, Rule, times_taken, every-at, CalmPlace, CalmRun, IsPlain, IsUnstopped, world_at}
 use Rattle.world_core.specs.declared.entries.Entry.TheVariants as entry
 use Rattle.world_core.specs.Walks.{sendings_after, taken_after}
 use Rattle.world_core.specs.Walks as walks
@@ -12,7 +11,7 @@ use Rattle.complete_law.proofs.Frames.{came-sent, grown-log}
 use Rattle.complete_law.proofs.HandLoads.{learnt, measure, price, rest, taken, wt}
 use Rattle.complete_law.proofs.Loads.{Fed, Kept, by-entry, if-from, load, load-append, sent-load}
 use Rattle.complete_law.proofs.Places.{CalmWorld, log_of}
-use Rattle.complete_law.proofs.RepositoryEntries.{life-hand}
+use Rattle.complete_law.proofs.RepositoryEntries.{hand-learns, hand-takes, life-hand}
 use Rattle.complete_law.proofs.Steps as steps
 use Rattle.complete_law.proofs.Steps.{Facts-at}
 
@@ -167,14 +166,6 @@ module _ (a t s q : ℕ) where
           let same : used (gain n) 1 (suc i ∷ w.taken) w.sendings ≡ used (gain n) 1 ((1 + i) ∷ w.taken) w.sendings = ap (λ m. used (gain n) 1 (m ∷ w.taken) w.sendings) next in
           omega (arith, k, same)
 
-      hand-takes : (from : NodeId) (m : Message) → after_input b (repository n) (w.life (repository n)) (Taking from m) ≡ life-hand (w.life (repository n)) (on_message hand0 from m)
-      unfolding gives hands.gives
-      hand-takes from m = refl
-
-      hand-learns : (x : StampParts) (d : Bool) → after_input b (repository n) (w.life (repository n)) (Learning x d) ≡ life-hand (w.life (repository n)) (on_learn hand0 x d)
-      unfolding gives hands.gives
-      hand-learns x d = refl
-
       take-case : (number : ℕ) (may : MayTake (steps.fates r) w (repository n) number) → w'.taken ≡ number ∷ w.taken → (w'.flags (repository n)).gone ≡ (w.flags (repository n)).gone →
           Fed w w' (repository n) (after_input b (repository n) (w.life (repository n)) (Taking may.sending.post.from may.sending.post.message)) → IsPaidFor w' n
       take-case number may ks gone fed =
@@ -186,7 +177,7 @@ module _ (a t s q : ℕ) where
           let grows = brings number may.sending may.sent (once number may) in
           let after : used-in (gain n) w' ≡ used (gain n) 1 (number ∷ w.taken) w.sendings = ap (λ ks. used (gain n) 1 ks w'.sendings) ks ∙ ap (used (gain n) 1 (number ∷ w.taken)) fed.sendings in
           turn-paid (on_message hand0 may.sending.post.from may.sending.post.message) (if-from (accepts n may.sending.post.from may.sending.post.message) (price a t s q may.sending.post.message))
-          (after_input b (repository n) (w.life (repository n)) (Taking may.sending.post.from may.sending.post.message)) (hand-takes may.sending.post.from may.sending.post.message) base fed
+          (after_input b (repository n) (w.life (repository n)) (Taking may.sending.post.from may.sending.post.message)) (hand-takes b w n may.sending.post.from may.sending.post.message) base fed
           (taken a t s q hand0 may.sending.post.from may.sending.post.message) (omega (arith, worth, grows, after))
 
       learn-case : (x : StampParts) (d : Bool) → MayLearn w (repository n) x d → Fed w w' (repository n) (after_input b (repository n) (w.life (repository n)) (Learning x d)) → IsPaidFor w' n
@@ -194,7 +185,7 @@ module _ (a t s q : ℕ) where
           let base = (on-learn-fine (sent_by w) n (log_of w (repository n)) hand0 x d (begun-fine (sent_by w) n (log_of w (repository n)) (w.life (repository n)).mind.hands (reads may.up))).past in
           let u = used-on (gain n) b w e in
           let l = learnt a t s q hand0 x d in
-          turn-paid (on_learn hand0 x d) 0 (after_input b (repository n) (w.life (repository n)) (Learning x d)) (hand-learns x d) base fed (omega (arith, l)) (omega (arith, u))
+          turn-paid (on_learn hand0 x d) 0 (after_input b (repository n) (w.life (repository n)) (Learning x d)) (hand-learns b w n x d) base fed (omega (arith, l)) (omega (arith, u))
 
       paid-case : IsUnstopped e → Rule b (steps.fates r) w e → IsPaidFor w' n
       paid-case p rule = by-entry r w f c (IsPaidFor w' n) e (repository n) p rule (record { kept = kept-paid; takes = take-case; goes = λ may gone fed. absurd (false≢true may.broker); learns = learn-case })

@@ -2,11 +2,10 @@
 use Rattle.std.proofs.Common.{◌≡◌, ◌⊎◌, ℕ, ◌==◌, Bool, true, false, ◌&&◌, List, [], ◌∷◌, ◌++◌, reverse, refl, sym, ◌∙◌, ap, subst, Option, Some, None, if◌then◌else◌, inl, inr}
 use Rattle.std.proofs.lemmas.Bool.{eq-eqb, false≢true}
 use Rattle.std.proofs.lemmas.List.{reverse-append}
-use Rattle.complete_law.proofs.Names.{Every, Has, has-left, every-has, has-right, StampParts, TimeParts, NodeId, NodeKind, ObjectId, Effect, Message, Out, Post, post, eq-from, Fate, ToRead, HeldRead, Hand, now, accepts, is_broker_of, on_learn, on_message, waits_for, known, hand_at, HasBegun, HeldHolds, broker-is, and-left, and-right, begun-fine, on-learn-fine, take-fine, Ignored, row, news, desk_at, state, book, tries, stage, repository, broker, one-request, gives, Learning, Taking, Base, Flags, Life, World, sent_by, step, after_input, all_effects, MayTake, LogFacts, Refines, logs_at, soft_of, kind_post, node_turns, node_facts, NodeOk, SentOk, around, happened, each-has, every-of, node-laws, facts-of, Waits, read_to, Askers, Keeps, ask_of, tell_of, has-record}
+use Rattle.complete_law.proofs.Names.{Every, Has, has-left, every-has, has-right, StampParts, TimeParts, NodeId, NodeKind, ObjectId, Effect, Message, Out, Post, post, eq-from, Fate, ToRead, HeldRead, Hand, now, accepts, is_broker_of, on_learn, on_message, waits_for, known, hand_at, HasBegun, HeldHolds, broker-is, and-left, and-right, begun-fine, on-learn-fine, take-fine, Ignored, row, news, desk_at, state, book, tries, stage, repository, broker, one-request, Base, Flags, Life, World, sent_by, step, all_effects, MayTake, LogFacts, Refines, logs_at, soft_of, kind_post, node_turns, node_facts, NodeOk, SentOk, around, happened, each-has, every-of, node-laws, facts-of, Waits, read_to, Askers, Keeps, ask_of, tell_of, has-record}
 use Rattle.pseudo_time.specs.declared.nodes.NodeKind.TheVariants as kind
 use Rattle.effect_form.specs.declared.effects.Effect.TheVariants as effect
 use Rattle.message_form.specs.declared.messages.Message.TheVariants as message
-use Rattle.repository_core.specs.Turns as hands
 use Rattle.repository_laws.specs.Facts.{ReadSent}
 use Rattle.repository_laws.specs.AnyLogs.{RefusesRightly}
 use Rattle.complete_law.proofs.Idles.{waits-has}
@@ -20,7 +19,7 @@ use Rattle.complete_law.proofs.BrokerServices.{serves-broker}
 use Rattle.repository_laws.proofs.ReadSteps.{Asks, begins, on-learn-keeps, on-message-keeps}
 use Rattle.complete_law.proofs.Places.{log_of, held_of, AskedFor, Flying, Heeds, IsBegun, Placed, standing_in, tasks_of, CalmWorld}
 use Rattle.repository_laws.proofs.AskServices.{ask-serves}
-use Rattle.complete_law.proofs.RepositoryEntries.{Turned, broker-life, life-hand, log-here, owed-flies, turned-calm, waits-there}
+use Rattle.complete_law.proofs.RepositoryEntries.{Turned, broker-life, hand-learns, hand-takes, life-hand, log-here, owed-flies, turned-calm, waits-there}
 
 abbrev known-in : List Effect → StampParts → Option Bool
 known-in = known
@@ -93,16 +92,12 @@ module _ (b : Base) (w : World) (calm : CalmWorld b w) (f : Refines (node_turns 
       abbrev lw : World
       lw = step b w (entry.Learn (repository n) s committed)
 
-      learns : after_input b (repository n) (w.life (repository n)) (Learning s committed) ≡ life-hand (w.life (repository n)) h
-      unfolding gives hands.gives
-      learns = refl
-
       fine : RefusesRightly (sent_by w) n (log_of w (repository n)) h
       fine = on-learn-fine (sent_by w) n (log_of w (repository n)) old s committed (begun-fine (sent_by w) n (log_of w (repository n)) (w.life (repository n)).mind.hands reads)
 
       learn-turned : Turned w lw n h (λ p. ⊥)
       learn-turned = record {
-        turn = one-turn b w calm (repository n) (entry.Learn (repository n) s committed) (λ m. refl) (calm.ups (repository n) ∙ opened) learned-known refl refl refl (life-hand (w.life (repository n)) h) (λ p. ⊥) learns
+        turn = one-turn b w calm (repository n) (entry.Learn (repository n) s committed) (λ m. refl) (calm.ups (repository n) ∙ opened) learned-known refl refl refl (life-hand (w.life (repository n)) h) (λ p. ⊥) (hand-learns b w n s committed)
             (λ o i. has-left (w.life (repository n)).outs h.outs o i) (λ j x at none. inl none) calm.untaken;
         past = fine.past;
         number = fine.number;
@@ -131,10 +126,6 @@ module _ (b : Base) (w : World) (calm : CalmWorld b w) (f : Refines (node_turns 
       abbrev Taken : Post → Type 0
       Taken p = p ≡ record { from = from0; to = repository n; message = m0 }
 
-      takes : after_input b (repository n) (w.life (repository n)) (Taking from0 m0) ≡ life-hand (w.life (repository n)) th
-      unfolding gives hands.gives
-      takes = refl
-
       was-sent : Has (record { from = from0; to = repository n; message = m0 }) (sent_by w)
       was-sent = came-sent b w calm (repository n) k fates may
 
@@ -143,7 +134,7 @@ module _ (b : Base) (w : World) (calm : CalmWorld b w) (f : Refines (node_turns 
 
       take-turned : Turned w tw n th Taken
       take-turned = record {
-        turn = take-turn b w calm (repository n) k fates may (life-hand (w.life (repository n)) th) takes (λ o i. has-left (w.life (repository n)).outs th.outs o i);
+        turn = take-turn b w calm (repository n) k fates may (life-hand (w.life (repository n)) th) (hand-takes b w n from0 m0) (λ o i. has-left (w.life (repository n)).outs th.outs o i);
         past = t-fine.past;
         number = t-fine.number;
       }

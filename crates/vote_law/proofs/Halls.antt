@@ -4,41 +4,14 @@ use Rattle.std.specs.Prelude.{Option, Some, None, ◌==◌, ◌&&◌, ◌⊎◌,
 use Rattle.std.proofs.lemmas.Bool.{eqb-true, and_parts}
 use Rattle.std.proofs.Math.Bool.{and-false}
 use Rattle.std.proofs.lemmas.List.{append-nil, append_assoc, length-append}
-use Rattle.pseudo_time.specs.Lists.{Every, Has}
-use Rattle.pseudo_time.proofs.ListLemmas.{every-append, every-map}
-use Rattle.pseudo_time.specs.Nodes.{repository, broker, is_broker, same_node}
-use Rattle.pseudo_time.specs.declared.nodes.NodeId.{NodeId}
-use Rattle.pseudo_time.specs.declared.nodes.NodeKind.{NodeKind}
+use Rattle.vote_law.proofs.Names.{Every, Has, every-append, repository, broker, is_broker, same_node, NodeId, NodeKind, Effect, Message, Out, Post, posts, count, numbered, same_is, same_node-refl, Fate, RecordState, Unknown, Decided, StampParts, Decision, same_stamp, record_of, Ballot, MemberNumber, First, Second, Third, book, quiet, owed, begin_by, close_by, row, on_message, Given, number_of, member, voter_at, voter_of, PollState, PollGiven, ballot, with_ballot, held, to_member, outstanding, asked, unless_held, begin_to, begun_heard, vote_heard, heard_from, heard_by, ignored, poll_goes, poll_takes, Member, Line, all_effects, took, shut, voter-member, Entry, Take, Go, Learn, Hear, Gate, Crash, Down, Tick, MayTake, Flags, Sending, names, flagged, Base, Hall, world_of, member_took, poll_took, voter_life, life_of, leaving, step, Rule, IsPlain}
+use Rattle.pseudo_time.proofs.ListLemmas.{every-map}
 use Rattle.pseudo_time.specs.declared.nodes.NodeKind.TheVariants as kind
 use Rattle.pseudo_time.specs.declared.down_causes.DownCause.{DownCause}
-use Rattle.effect_form.specs.declared.effects.Effect.{Effect}
-use Rattle.message_form.specs.declared.messages.Message.{Message}
 use Rattle.message_form.specs.declared.messages.Message.TheVariants as message
-use Rattle.message_form.specs.declared.turns.Out.{Out}
-use Rattle.message_form.specs.Posts.{Post, posts}
-use Rattle.message_core.specs.Tallies.{count, numbered}
-use Rattle.message_core.proofs.NodeLemmas.{same_is, same_node-refl}
-use Rattle.stream_port.specs.declared.fates.Fate.{Fate}
-use Rattle.commit_record.specs.declared.states.RecordState.{RecordState}
-use Rattle.commit_record.specs.declared.states.RecordState.TheVariants.{Unknown, Decided}
-use Rattle.pseudo_time.specs.StampParts.{StampParts}
-use Rattle.pseudo_time.specs.declared.decisions.Decision.{Decision}
-use Rattle.pseudo_time.specs.Order.{same_stamp}
-use Rattle.repository_log.specs.Logs.{record_of}
-use Rattle.record_votes.specs.declared.ballots.Ballot.{Ballot}
-use Rattle.record_votes.specs.declared.member_numbers.MemberNumber.{MemberNumber}
-use Rattle.record_votes.specs.declared.member_numbers.MemberNumber.TheVariants.{First, Second, Third}
-use Rattle.record_votes.specs.Members.{book, quiet, owed, begin_by, close_by, row, on_message, Given}
-use Rattle.record_votes.specs.Polls.{number_of, member, voter_at, voter_of, PollState, PollGiven, ballot, with_ballot, held, to_member, outstanding, asked, unless_held, begin_to, begun_heard, vote_heard, heard_from, heard_by, ignored, poll_goes, poll_takes}
-use Rattle.record_votes.specs.Voting.{Member, Line, all_effects, took, shut}
-use Rattle.record_votes.proofs.PollLemmas.{voter-member, takes-hears, held-stays}
-use Rattle.world_core.specs.declared.entries.Entry.{Entry}
-use Rattle.world_core.specs.declared.entries.Entry.TheVariants.{Take, Go, Learn, Hear, Gate, Crash, Down, Tick}
-use Rattle.world_core.specs.Legal.{MayTake, MayGo, MayGate}
-use Rattle.world_core.specs.Walks.{Flags, Sending, names, flagged, with_due}
-use Rattle.vote_traces.specs.Walks.{Base, Hall, world_of, member_took, poll_took, voter_life, life_of, leaving, step}
-use Rattle.vote_traces.specs.Legal.{Rule}
-use Rattle.vote_law.specs.Smooth.{IsPlain}
+use Rattle.record_votes.proofs.PollLemmas.{takes-hears, held-stays}
+use Rattle.world_core.specs.Legal.{MayGo, MayGate}
+use Rattle.world_core.specs.Walks.{with_due}
 use Rattle.vote_law.proofs.Letters.{Mark, marked, sendings_of, FreeFrom, other-number, waiting, waiting-append, Flips, flips-behind, between, marks, marks-append, own-marks, other-marks, passed-marks, flipped-marks}
 use Rattle.vote_law.proofs.Talks.{Says, Talks, member-gives, poll-gives, talks-later, poll-holds-none, poll-went, with-says}
 
@@ -464,8 +437,7 @@ module _ (b : Base) (h : Hall) where
 
   own-life : (s : MemberNumber) → (life_of h kind.Repository (number_of s)).outs ≡ (h.members s).owed
   own-life First = refl
-  own-life Second = refl
-  own-life Third = refl
+  own-life _ = refl
 
   member-outs : (n : NodeId) (s : MemberNumber) → same_node n (member s) ≡ true → (life_of h n.kind n.number).outs ≡ (h.members s).owed
   member-outs n s e = ap (λ (z : NodeId). (life_of h z.kind z.number).outs) (same_is n (member s) e) ∙ own-life s
@@ -527,14 +499,9 @@ module _ (b : Base) (h : Hall) where
 
 -- an entry of a calm trace
 abbrev pub is_quiet : Entry → Bool
-is_quiet (Take n number) = true
-is_quiet (Go n) = true
-is_quiet (Learn n stamp committed) = true
-is_quiet (Hear n) = true
-is_quiet (Gate n) = true
 is_quiet (Crash n kept) = false
-is_quiet (Down n cause) = true
 is_quiet (Tick moment) = false
+is_quiet _ = true
 
 pub record HallFacts (b : Base) (h : Hall) : Type 0 where
   pub polls : (i : ℕ) (l : Line) → numbered b.lines i ≡ Some l → PollFacts h i l
@@ -576,9 +543,8 @@ module _ (b : Base) (h : Hall) (c : HallFacts b h) (fates : List Fate) (plain : 
   polls-on (Learn n stamp committed) r q i l f = absurd r
   polls-on (Hear n) r q i l f = absurd (not-heard n r.some)
   polls-on (Gate n) r q i l f = gating b h n i l c.free f
-  polls-on (Crash n kept) r q i l f = no q
   polls-on (Down n cause) r q i l f = fell-polls n.kind n.number cause r.0 i l f
-  polls-on (Tick moment) r q i l f = no q
+  polls-on _ r q i l f = no q
 
   -- ---- numbers
 
@@ -598,27 +564,21 @@ module _ (b : Base) (h : Hall) (c : HallFacts b h) (fates : List Fate) (plain : 
 
   free-on : (e : Entry) → Rule b fates h e → is_quiet e ≡ true → FreeFrom (step b h e).taken (1 + length (step b h e).sendings)
   free-on (Take n number) r q = took-free n number r
-  free-on (Go n) r q = c.free
   free-on (Learn n stamp committed) r q = absurd r
-  free-on (Hear n) r q = c.free
   free-on (Gate n) r q = gated-free n
   free-on (Crash n kept) r q = no q
-  free-on (Down n cause) r q = c.free
   free-on (Tick moment) r q = no q
+  free-on _ r q = c.free
 
   early-sendings : (ticks : ℕ) (n : NodeId) (outs : List Out) → ticks ≡ 0 → Every (λ (x : Sending). x.ticks ≡ 0) (sendings_of ticks n outs)
   early-sendings ticks n [] e = tt
   early-sendings ticks n (o ∷ outs) e = (e, early-sendings ticks n outs e)
 
   early-on : (e : Entry) → is_quiet e ≡ true → Every (λ (x : Sending). x.ticks ≡ 0) (step b h e).sendings
-  early-on (Take n number) q = c.early
-  early-on (Go n) q = c.early
-  early-on (Learn n stamp committed) q = c.early
-  early-on (Hear n) q = c.early
   early-on (Gate n) q = every-append (λ (x : Sending). x.ticks ≡ 0) h.sendings (sendings_of h.ticks n (life_of h n.kind n.number).outs) c.early (early-sendings h.ticks n (life_of h n.kind n.number).outs c.ticks)
   early-on (Crash n kept) q = no q
-  early-on (Down n cause) q = c.early
   early-on (Tick moment) q = no q
+  early-on _ q = c.early
 
   -- ---- flags
 
@@ -668,13 +628,12 @@ module _ (b : Base) (h : Hall) (c : HallFacts b h) (fates : List Fate) (plain : 
   polls-closed-on (Hear n) r q i = absurd (not-heard n r.some)
   polls-closed-on (Gate n) r q i = closed-both (same_node n (broker i)) (h.flags (broker i)) (record { known = (h.flags (broker i)).known; up = (h.flags (broker i)).up; gone = (h.flags (broker i)).gone; due = false }) [] (h.owed i)
       (λ e. c.known (broker i) (subst (λ z. (h.flags z).up ≡ true) (same_is n (broker i) e) r.up)) (λ _. refl) (c.polls_closed i)
-  polls-closed-on (Crash n kept) r q i = no q
   polls-closed-on (Down n cause) r q i = fell n.kind n.number r.0
     where
       fell : (k : NodeKind) (j : ℕ) → is_broker k ≡ false → ((step b h (Down (node k j) cause)).flags (broker i)).due ≡ false → (step b h (Down (node k j) cause)).owed i ≡ []
       fell kind.Repository j e = c.polls_closed i
       fell kind.Broker j e = no (sym e)
-  polls-closed-on (Tick moment) r q i = no q
+  polls-closed-on _ r q i = no q
 
   abbrev Closed : Member → Type 0
   Closed m = m.owed ≡ []
@@ -697,30 +656,19 @@ module _ (b : Base) (h : Hall) (c : HallFacts b h) (fates : List Fate) (plain : 
   members-closed-on (Gate n) r q s due = owed-if (same_node n (member s)) (shut (h.members s)) (h.members s)
       (closed-both (same_node n (member s)) (h.flags (member s)) (record { known = (h.flags (member s)).known; up = (h.flags (member s)).up; gone = (h.flags (member s)).gone; due = false }) [] (h.members s).owed
       (λ e. c.known (member s) (subst (λ z. (h.flags z).up ≡ true) (same_is n (member s) e) r.up)) (λ _. refl) (c.members_closed s) due)
-  members-closed-on (Crash n kept) r q s due = no q
   members-closed-on (Down n cause) r q s due = ap (λ (m : Member). m.owed) (if-same (same_node n (member s)) (h.members s))
       ∙ closed-same (same_node n (member s)) (h.flags (member s)) (record { known = (h.flags (member s)).known; up = false; gone = (h.flags (member s)).gone; due = (h.flags (member s)).due }) (h.members s).owed refl (c.members_closed s) due
-  members-closed-on (Tick moment) r q s due = no q
+  members-closed-on _ r q s due = no q
 
   last-on : (e : Entry) → is_quiet e ≡ true → (step b h e).last ≡ None
-  last-on (Take n number) q = c.last
-  last-on (Go n) q = c.last
-  last-on (Learn n stamp committed) q = c.last
-  last-on (Hear n) q = c.last
-  last-on (Gate n) q = c.last
   last-on (Crash n kept) q = no q
-  last-on (Down n cause) q = c.last
   last-on (Tick moment) q = no q
+  last-on _ q = c.last
 
   ticks-on : (e : Entry) → is_quiet e ≡ true → (step b h e).ticks ≡ 0
-  ticks-on (Take n number) q = c.ticks
-  ticks-on (Go n) q = c.ticks
-  ticks-on (Learn n stamp committed) q = c.ticks
-  ticks-on (Hear n) q = c.ticks
-  ticks-on (Gate n) q = c.ticks
   ticks-on (Crash n kept) q = no q
-  ticks-on (Down n cause) q = c.ticks
   ticks-on (Tick moment) q = no q
+  ticks-on _ q = c.ticks
 
   pub step-facts : (e : Entry) → Rule b fates h e → is_quiet e ≡ true → HallFacts b (step b h e)
   step-facts e r q = record {

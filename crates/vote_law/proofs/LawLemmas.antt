@@ -5,48 +5,29 @@ use Rattle.std.specs.Option.{unwrap_or}
 use Rattle.std.proofs.lemmas.Bool.{and_parts, le-leb}
 use Rattle.std.proofs.lemmas.Bool.Decides.{nat_tests}
 use Rattle.std.proofs.lemmas.List.{append-nil, append_assoc, length-append}
-use Rattle.pseudo_time.specs.Lists.{Every, Has}
-use Rattle.pseudo_time.proofs.ListLemmas.{every-append, every-has, has-left}
-use Rattle.pseudo_time.specs.Nodes.{repository, broker, is_broker, same_node}
-use Rattle.pseudo_time.specs.StampParts.{StampParts}
-use Rattle.pseudo_time.specs.declared.decisions.Decision.{Decision}
+use Rattle.vote_law.proofs.Names.{Every, Has, every-append, repository, broker, is_broker, same_node, StampParts, Decision, NodeId, NodeKind, Effect, Out, Post, count, numbered, same_is, Fate, is_commit, Ballot, Wish, MemberNumber, First, Second, Third, member, PollState, ballot, held, held_of, Member, Line, all_effects, Entry, Take, Go, Learn, Hear, Gate, Crash, Down, Tick, Flags, Sending, names, flagged, Base, Hall, log_at, world_of, life_of, step, Rule, flagged-up, AreVotes, IsPlain}
+use Rattle.pseudo_time.proofs.ListLemmas.{every-has, has-left}
 use Rattle.pseudo_time.specs.declared.decisions.Decision.TheVariants as decision
-use Rattle.pseudo_time.specs.declared.nodes.NodeId.{NodeId}
-use Rattle.pseudo_time.specs.declared.nodes.NodeKind.{NodeKind}
 use Rattle.pseudo_time.specs.declared.nodes.NodeKind.TheVariants as kind
-use Rattle.effect_form.specs.declared.effects.Effect.{Effect}
 use Rattle.effect_form.specs.declared.effects.Effect.TheVariants as effect
-use Rattle.message_form.specs.declared.turns.Out.{Out}
-use Rattle.message_form.specs.Posts.{Post}
-use Rattle.message_core.specs.Tallies.{count, numbered}
-use Rattle.message_core.proofs.NodeLemmas.{same_is}
 use Rattle.stream_port.specs.declared.fates.Asked.{Asked}
-use Rattle.stream_port.specs.declared.fates.Fate.{Fate}
-use Rattle.repository_log.specs.Logs.{is_commit}
-use Rattle.record_votes.specs.declared.ballots.Ballot.{Ballot}
-use Rattle.record_votes.specs.declared.ballots.Wish.{Wish}
 use Rattle.record_votes.specs.declared.ballots.Wish.TheVariants as wish
-use Rattle.record_votes.specs.declared.member_numbers.MemberNumber.{MemberNumber}
-use Rattle.record_votes.specs.declared.member_numbers.MemberNumber.TheVariants.{First, Second, Third}
-use Rattle.record_votes.specs.Polls.{member, PollState, ballot, held, held_of}
-use Rattle.record_votes.specs.Voting.{Member, Line, all_effects, entered, run, new_poll}
+use Rattle.record_votes.specs.Voting.{entered, run, new_poll}
 use Rattle.record_votes.specs.Voting as voting
 use Rattle.record_votes.proofs.PollLemmas.{Two, votes_of, two-hold}
 use Rattle.record_votes.proofs.LogLemmas.{voted, voted-has}
 use Rattle.record_votes.proofs.WorldLemmas.{run-facts, entered-facts}
-use Rattle.world_core.specs.declared.entries.Entry.{Entry}
-use Rattle.world_core.specs.declared.entries.Entry.TheVariants.{Take, Go, Learn, Hear, Gate, Crash, Down, Tick}
 use Rattle.world_core.specs.declared.traces.Trace.{Trace}
 use Rattle.world_core.specs.Legal.{Idle, IsIdle, IsReleased, fates_of, is_within}
-use Rattle.world_core.specs.Walks.{Flags, Sending, World, opened_log, names, flagged}
-use Rattle.vote_traces.specs.Walks.{Base, Hall, line_at, log_at, no_line, start_hall, world_of, life_of, step, walk_from, walk}
-use Rattle.vote_traces.specs.Legal.{Rule, Meets, Legal, base_of}
+use Rattle.world_core.specs.Walks.{World, opened_log}
+use Rattle.vote_traces.specs.Walks.{line_at, no_line, start_hall, walk_from, walk}
+use Rattle.vote_traces.specs.Legal.{Meets, Legal, base_of}
 use Rattle.vote_traces.specs.Causes.{IsWanted, IsCaused, HasCause, HaveCauses}
 use Rattle.vote_traces.proofs.WalkLemmas.{walk-append, meets-parts}
-use Rattle.vote_traces.proofs.CauseLemmas.{HallCauses, HaveLines, start-causes, walk-causes, flagged-up, numbered-within}
+use Rattle.vote_traces.proofs.CauseLemmas.{HallCauses, HaveLines, start-causes, walk-causes, numbered-within}
 use Rattle.vote_traces.proofs.ReplayLemmas.{Follow, walk-follows}
 use Rattle.world_core.specs.Counts.{is_crash, is_tick}
-use Rattle.vote_law.specs.Smooth.{AreVotes, IsPlain, HoldAll, IsUp, IsFit, WishAlike, HasQuorum, IsCalm, TicksForPolls}
+use Rattle.vote_law.specs.Smooth.{HoldAll, IsUp, IsFit, WishAlike, HasQuorum, IsCalm, TicksForPolls}
 use Rattle.vote_law.proofs.Letters.{Mark, FreeFrom, is_taken, waiting, between, marks, all-taken, Taken}
 use Rattle.vote_law.proofs.Talks.{Says, Talks, Silent, settled, few-asks, few-answers}
 use Rattle.vote_law.proofs.Halls.{either-way, no, plain-at, asks_of, answers_of, TalksAt, PollFacts, HallFacts, is_quiet, step-facts}
@@ -70,8 +51,7 @@ HaveNodes b = (i : ℕ) (l : Line) → numbered b.lines i ≡ Some l → is_some
 
 new-ballot : (i : ℕ) (l : Line) (s : MemberNumber) → ballot (new_poll i l) s ≡ record { begun = false; vote = None }
 new-ballot i l First = refl
-new-ballot i l Second = refl
-new-ballot i l Third = refl
+new-ballot i l _ = refl
 
 start-facts : (b : Base) → HaveNodes b → HallFacts b (start_hall b)
 start-facts b have = record {
@@ -183,9 +163,8 @@ wishes_commit wish.Withdraw = false
 
 caused-wish : (lines : List Line) (es : List Entry) (log : List Effect) (s : StampParts) (d : Decision) (l : Line) (i : ℕ) → AllQuiet es → WishAlike lines → numbered lines i ≡ Some l → l.stamp ≡ s
     → IsCaused lines es log s d → is_commit d ≡ wishes_commit l.wish
-caused-wish lines es log s decision.Committed l i q alike there is c = sym (ap wishes_commit (alike i c.poll l c.line there c.there (is ∙ sym c.stamp) ∙ c.wish))
-caused-wish lines es log s decision.Withdrawn l i q alike there is c = sym (ap wishes_commit (alike i c.poll l c.line there c.there (is ∙ sym c.stamp) ∙ c.wish))
 caused-wish lines es log s (decision.Expired deadline moment) l i q alike there is c = absurd (quiet-tick es moment q c.1)
+caused-wish lines es log s _ l i q alike there is c = sym (ap wishes_commit (alike i c.poll l c.line there c.there (is ∙ sym c.stamp) ∙ c.wish))
 
 -- each Decide among these has its cause by some log
 has-cause : (lines : List Line) (es : List Entry) (log more : List Effect) (s : StampParts) (d : Decision) → HaveCauses lines es log more → Has (effect.Decide s d) more → (before : List Effect) × IsCaused lines es before s d
@@ -315,14 +294,9 @@ record HasFirstTick (es : List Entry) : Type 0 where
   quiet : AllQuiet front
 
 one-first : (e : Entry) → is_crash e ≡ false → (is_quiet e ≡ true) ⊎ ((moment : ℕ) × (e ≡ Tick moment))
-one-first (Take n number) h = inl refl
-one-first (Go n) h = inl refl
-one-first (Learn n stamp committed) h = inl refl
-one-first (Hear n) h = inl refl
-one-first (Gate n) h = inl refl
 one-first (Crash n kept) h = no (sym h)
-one-first (Down n cause) h = inl refl
 one-first (Tick moment) h = inr (moment, refl)
+one-first _ h = inl refl
 
 first-tick : (es : List Entry) → Every (λ (e : Entry). is_crash e ≡ false) es → AllQuiet es ⊎ HasFirstTick es
 first-tick [] h = inl tt
@@ -388,14 +362,9 @@ module _ (lines : List Line) (asked : List Asked) (t : Trace) (front : List Entr
   votes-alone s blank = (facts-at-end b have-lines have-nodes (fates_of t.sent) calm.plain front meets-front all-quiet).3 s blank
 
 still-one : (e : Entry) → is_quiet e ≡ true → is_tick e ≡ false
-still-one (Take n number) q = refl
-still-one (Go n) q = refl
-still-one (Learn n stamp committed) q = refl
-still-one (Hear n) q = refl
-still-one (Gate n) q = refl
 still-one (Crash n kept) q = no q
-still-one (Down n cause) q = refl
 still-one (Tick moment) q = no q
+still-one _ q = refl
 
 pub all-still : (es : List Entry) → AllQuiet es → Every (λ (e : Entry). is_tick e ≡ false) es
 all-still [] q = tt

@@ -5,15 +5,7 @@ use Rattle.std.proofs.lemmas.Bool.{eqb-true, eq-eqb}
 use Rattle.std.proofs.Math.Bool.{and-false}
 use Rattle.std.proofs.Math.Dec.{eqb-suc-zero}
 use Rattle.std.proofs.lemmas.List.{append_assoc, append-nil}
-use Rattle.pseudo_time.specs.Lists.{Every}
-use Rattle.pseudo_time.proofs.ListLemmas.{every-append}
-use Rattle.pseudo_time.specs.Nodes.{same_node}
-use Rattle.pseudo_time.specs.declared.nodes.NodeId.{NodeId}
-use Rattle.message_form.specs.declared.messages.Message.{Message}
-use Rattle.message_form.specs.declared.turns.Out.{Out}
-use Rattle.message_form.specs.Posts.{Post, posts}
-use Rattle.message_core.specs.Tallies.{count, numbered}
-use Rattle.world_core.specs.Walks.{Sending}
+use Rattle.vote_law.proofs.Names.{Every, every-append, same_node, NodeId, Message, Out, Post, posts, count, numbered, Sending}
 
 -- a message, and whether its copy was taken
 abbrev pub Mark : Type 0

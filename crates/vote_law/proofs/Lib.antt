@@ -7,3 +7,4 @@ pub mod LawLemmas
 pub use Rattle.vote_traces.proofs.CauseLemmas
 pub use Rattle.vote_traces.proofs.ReplayLemmas
 pub use Rattle.vote_traces.proofs.WalkLemmas
+pub mod Names

@@ -3,34 +3,10 @@ use Rattle.std.proofs.Common.{◌≡◌, ℕ, zero, suc, ◌+◌, ◌*◌, ◌�
 use Rattle.std.specs.Prelude.{Option, Some, None, ◌==◌, ◌&&◌, ◌⊎◌, not, cond, is_some, slice_get, if◌then◌else◌}
 use Rattle.std.proofs.lemmas.Bool.{eqb-true, eqb-false}
 use Rattle.std.proofs.lemmas.List.{append-nil, append_assoc, length-append}
-use Rattle.pseudo_time.specs.Lists.{Every}
-use Rattle.pseudo_time.proofs.ListLemmas.{every-append}
-use Rattle.pseudo_time.specs.Nodes.{repository, broker, is_broker, same_node}
-use Rattle.pseudo_time.specs.declared.nodes.NodeId.{NodeId}
-use Rattle.pseudo_time.specs.declared.nodes.NodeKind.{NodeKind}
+use Rattle.vote_law.proofs.Names.{Every, every-append, repository, broker, is_broker, same_node, NodeId, NodeKind, StampParts, Decision, Effect, Message, count, numbered, same_is, same_node-refl, Fate, RecordState, Unknown, Decided, record_of, MemberNumber, book, quiet, begin_by, close_by, row, on_message, Given, member, Member, Line, all_effects, took, shut, Entry, Take, Go, Learn, Hear, Gate, Crash, Down, Tick, MayTake, Sending, Base, Hall, log_at, world_of, member_took, life_of, step, Rule, AreVotes, IsPlain}
 use Rattle.pseudo_time.specs.declared.nodes.NodeKind.TheVariants as kind
-use Rattle.pseudo_time.specs.StampParts.{StampParts}
-use Rattle.pseudo_time.specs.declared.decisions.Decision.{Decision}
-use Rattle.effect_form.specs.declared.effects.Effect.{Effect}
-use Rattle.message_form.specs.declared.messages.Message.{Message}
 use Rattle.message_form.specs.declared.messages.Message.TheVariants as message
-use Rattle.message_core.specs.Tallies.{count, numbered}
-use Rattle.message_core.proofs.NodeLemmas.{same_is, same_node-refl}
-use Rattle.stream_port.specs.declared.fates.Fate.{Fate}
-use Rattle.commit_record.specs.declared.states.RecordState.{RecordState}
-use Rattle.commit_record.specs.declared.states.RecordState.TheVariants.{Unknown, Decided}
-use Rattle.repository_log.specs.Logs.{record_of}
-use Rattle.record_votes.specs.declared.member_numbers.MemberNumber.{MemberNumber}
-use Rattle.record_votes.specs.Members.{book, quiet, begin_by, close_by, row, on_message, Given}
-use Rattle.record_votes.specs.Polls.{member}
-use Rattle.record_votes.specs.Voting.{Member, Line, all_effects, took, shut}
-use Rattle.world_core.specs.declared.entries.Entry.{Entry}
-use Rattle.world_core.specs.declared.entries.Entry.TheVariants.{Take, Go, Learn, Hear, Gate, Crash, Down, Tick}
-use Rattle.world_core.specs.Legal.{MayTake}
-use Rattle.world_core.specs.Walks.{Sending}
-use Rattle.vote_traces.specs.Walks.{Base, Hall, log_at, world_of, member_took, life_of, step}
-use Rattle.vote_traces.specs.Legal.{Rule}
-use Rattle.vote_law.specs.Smooth.{AreVotes, IsPlain, is_vote_effect}
+use Rattle.vote_law.specs.Smooth.{is_vote_effect}
 use Rattle.vote_law.proofs.Letters.{Mark, marked, sendings_of, between, marks, marks-append, Flips}
 use Rattle.vote_law.proofs.Halls.{no, if-same, HallFacts, is_quiet, untaken, same-marks, these-flip, not-to, it-is, shut-log}
 use Rattle.vote_law.proofs.Ways.{IsWay, HallWays, way-of, asker-of, line-place}
@@ -164,9 +140,8 @@ module _ (b : Base) (h : Hall) (c : HallFacts b h) (fates : List Fate) where
   step-votes (Learn node stamp committed) r q v s blank = absurd r
   step-votes (Hear node) r q v s blank = no (sym (ap is_some c.last) ∙ r.some)
   step-votes (Gate node) r q v s blank = votes-either (same_node node (member s)) (shut (h.members s)) (h.members s) (subst AreVotes (sym (append-nil (all_effects (h.members s)))) (v s blank)) (v s blank)
-  step-votes (Crash node kept) r q v s blank = no q
   step-votes (Down node cause) r q v s blank = votes-either (same_node node (member s)) (h.members s) (h.members s) (v s blank) (v s blank)
-  step-votes (Tick moment) r q v s blank = no q
+  step-votes _ r q v s blank = no q
 
 -- ---- the whole hall
 
@@ -248,9 +223,8 @@ module _ (b : Base) (h : Hall) (c : HallFacts b h) (w : HallWays b h) (fates : L
   step-load (Learn node stamp committed) r q = absurd r
   step-load (Hear node) r q = no (sym (ap is_some c.last) ∙ r.some)
   step-load (Gate node) r q = gating-load node
-  step-load (Crash node kept) r q = no q
   step-load (Down node cause) r q = same-member _ (if-same (same_node node (member s)) (h.members s))
-  step-load (Tick moment) r q = no q
+  step-load _ r q = no q
 
 pub step-loads : (b : Base) (h : Hall) (c : HallFacts b h) (w : HallWays b h) (fates : List Fate) (plain : Every IsPlain fates) (e : Entry) → Rule b fates h e → is_quiet e ≡ true → Loads b h → Loads b (step b h e)
 step-loads b h c w fates plain e r q l s blank = step-load b h c w fates plain s (l s blank) e r q

@@ -2,32 +2,15 @@
 use Rattle.std.proofs.Common.{◌≡◌, ℕ, ◌+◌, ◌≤◌, Bool, true, false, List, [], ◌∷◌, ◌++◌, length, inl, inr, refl, sym, ap, subst, ◌∙◌, arith}
 use Rattle.std.specs.Prelude.{Option, Some, None, ◌==◌, ◌&&◌, ◌⊎◌, is_some, if◌then◌else◌}
 use Rattle.std.proofs.lemmas.List.{append-nil, append_assoc}
-use Rattle.pseudo_time.specs.Lists.{Every}
-use Rattle.pseudo_time.specs.Nodes.{repository, broker, same_node, is_broker}
-use Rattle.pseudo_time.specs.Order.{same_stamp}
+use Rattle.vote_law.proofs.Names.{Every, repository, broker, same_node, is_broker, same_stamp, StampParts, Decision, NodeId, Effect, Message, Out, same_is, same_node-refl, RecordState, Unknown, Decided, is_commit, record_of, Wish, Ballot, MemberNumber, First, Second, Third, book, quiet, owed, begin_by, close_by, row, on_message, Given, member, voter_of, PollState, PollGiven, ballot, with_ballot, held, held_of, to_member, outstanding, asked, unless_held, begin_to, begun_heard, vote_heard, heard_from, heard_by, ignored, poll_goes, poll_takes, Line}
 use Rattle.pseudo_time.proofs.OrderLemmas.{same_stamp-is, same_stamp-self, same_stamp-of}
-use Rattle.pseudo_time.specs.StampParts.{StampParts}
-use Rattle.pseudo_time.specs.declared.decisions.Decision.{Decision}
 use Rattle.pseudo_time.specs.declared.decisions.Decision.TheVariants as decision
-use Rattle.pseudo_time.specs.declared.nodes.NodeId.{NodeId}
-use Rattle.effect_form.specs.declared.effects.Effect.{Effect}
 use Rattle.effect_form.specs.declared.effects.Effect.TheVariants as effect
-use Rattle.message_form.specs.declared.messages.Message.{Message}
 use Rattle.message_form.specs.declared.messages.Message.TheVariants as message
-use Rattle.message_form.specs.declared.turns.Out.{Out}
-use Rattle.message_core.proofs.NodeLemmas.{same_is, same_node-refl}
-use Rattle.commit_record.specs.declared.states.RecordState.{RecordState}
-use Rattle.commit_record.specs.declared.states.RecordState.TheVariants.{Unknown, Decided}
 use Rattle.object_history.specs.History.{or_else}
-use Rattle.repository_log.specs.Logs.{is_commit, first_begin, first_said, decision_of, record_from, record_of}
-use Rattle.record_votes.specs.declared.ballots.Wish.{Wish}
+use Rattle.repository_log.specs.Logs.{first_begin, first_said, decision_of, record_from}
 use Rattle.record_votes.specs.declared.ballots.Wish.TheVariants as wish
-use Rattle.record_votes.specs.declared.ballots.Ballot.{Ballot}
-use Rattle.record_votes.specs.declared.member_numbers.MemberNumber.{MemberNumber}
-use Rattle.record_votes.specs.declared.member_numbers.MemberNumber.TheVariants.{First, Second, Third}
-use Rattle.record_votes.specs.Members.{book, quiet, owed, begin_by, close_by, row, on_message, Given}
-use Rattle.record_votes.specs.Polls.{member, voter_of, PollState, PollGiven, ballot, with_ballot, held, held_of, to_member, wish_for, outstanding, asked, unless_held, begin_to, begun_heard, vote_heard, heard_from, heard_by, ignored, poll_goes, poll_takes}
-use Rattle.record_votes.specs.Voting.{Line}
+use Rattle.record_votes.specs.Polls.{wish_for}
 use Rattle.record_votes.proofs.BookLemmas.{book-begin}
 use Rattle.vote_traces.proofs.CauseLemmas.{begin-stays}
 use Rattle.vote_law.proofs.Letters.{Mark, marked, waiting, Flips}
@@ -50,48 +33,25 @@ pub data Stage : Type 0 where
 
 abbrev pub has_gone : Stage → Bool
 has_gone Silent = false
-has_gone BeginSent = true
-has_gone BegunSaid = true
-has_gone (EarlyVoted d) = true
-has_gone (EarlyHeard d) = true
-has_gone Passed = true
-has_gone WishSent = true
-has_gone (Voted d) = true
-has_gone (Heard d) = true
+has_gone _ = true
 
 -- its wish may still come to the member
 abbrev pub may_wish : Stage → Bool
-may_wish Silent = false
-may_wish BeginSent = false
 may_wish BegunSaid = true
-may_wish (EarlyVoted d) = false
-may_wish (EarlyHeard d) = false
-may_wish Passed = false
 may_wish WishSent = true
-may_wish (Voted d) = false
-may_wish (Heard d) = false
+may_wish _ = false
 
 abbrev pub is_passed : Stage → Bool
-is_passed Silent = false
-is_passed BeginSent = false
-is_passed BegunSaid = false
-is_passed (EarlyVoted d) = false
-is_passed (EarlyHeard d) = false
 is_passed Passed = true
-is_passed WishSent = false
-is_passed (Voted d) = false
-is_passed (Heard d) = false
+is_passed _ = false
 
 abbrev pub ballot_at : Stage → Ballot
-ballot_at Silent = record { begun = false; vote = None }
-ballot_at BeginSent = record { begun = false; vote = None }
-ballot_at BegunSaid = record { begun = false; vote = None }
-ballot_at (EarlyVoted d) = record { begun = false; vote = None }
 ballot_at (EarlyHeard d) = record { begun = false; vote = Some (is_commit d) }
 ballot_at Passed = record { begun = true; vote = None }
 ballot_at WishSent = record { begun = true; vote = None }
 ballot_at (Voted d) = record { begun = true; vote = None }
 ballot_at (Heard d) = record { begun = true; vote = Some (is_commit d) }
+ballot_at _ = record { begun = false; vote = None }
 
 abbrev pub begin_of : Line → Message
 begin_of l = message.Begin l.stamp l.timeout
@@ -103,18 +63,13 @@ wish_of l = wish_for l.wish l.stamp
 abbrev pub asks_at : Line → Stage → List Mark
 asks_at l Silent = []
 asks_at l BeginSent = (begin_of l, false) ∷ []
-asks_at l BegunSaid = (begin_of l, true) ∷ []
-asks_at l (EarlyVoted d) = (begin_of l, true) ∷ []
-asks_at l (EarlyHeard d) = (begin_of l, true) ∷ []
-asks_at l Passed = (begin_of l, true) ∷ []
 asks_at l WishSent = (begin_of l, true) ∷ (wish_of l, false) ∷ []
 asks_at l (Voted d) = (begin_of l, true) ∷ (wish_of l, true) ∷ []
 asks_at l (Heard d) = (begin_of l, true) ∷ (wish_of l, true) ∷ []
+asks_at l _ = (begin_of l, true) ∷ []
 
 -- and the member to the poll
 abbrev pub answers_at : Line → Stage → List Mark
-answers_at l Silent = []
-answers_at l BeginSent = []
 answers_at l BegunSaid = (message.Begun l.stamp, false) ∷ []
 answers_at l (EarlyVoted d) = (message.Decided l.stamp d, false) ∷ []
 answers_at l (EarlyHeard d) = (message.Decided l.stamp d, true) ∷ []
@@ -122,6 +77,7 @@ answers_at l Passed = (message.Begun l.stamp, true) ∷ []
 answers_at l WishSent = (message.Begun l.stamp, true) ∷ []
 answers_at l (Voted d) = (message.Begun l.stamp, true) ∷ (message.Decided l.stamp d, false) ∷ []
 answers_at l (Heard d) = (message.Begun l.stamp, true) ∷ (message.Decided l.stamp d, true) ∷ []
+answers_at l _ = []
 
 abbrev pub HasBegun : List Effect → StampParts → Type 0
 HasBegun log s = (t : ℕ) × (first_begin (book log) s ≡ Some t)
@@ -305,24 +261,20 @@ pub record Says (p : PollState) (l : Line) : Type 0 where
 
 pub with-says : (p : PollState) (l : Line) (s : MemberNumber) (b : Ballot) → Says p l → Says (with_ballot p s b) l
 with-says p l First b h = record { stamp = h.stamp; timeout = h.timeout; wish = h.wish }
-with-says p l Second b h = record { stamp = h.stamp; timeout = h.timeout; wish = h.wish }
-with-says p l Third b h = record { stamp = h.stamp; timeout = h.timeout; wish = h.wish }
+with-says p l _ b h = record { stamp = h.stamp; timeout = h.timeout; wish = h.wish }
 
 with-own : (p : PollState) (s : MemberNumber) (b : Ballot) → ballot (with_ballot p s b) s ≡ b
 with-own p First b = refl
-with-own p Second b = refl
-with-own p Third b = refl
+with-own p _ b = refl
 
 voter-own : (s : MemberNumber) → voter_of (member s) ≡ Some s
 voter-own First = refl
-voter-own Second = refl
-voter-own Third = refl
+voter-own _ = refl
 
 -- hearing Begun changes no vote
 begun-holds : (p : PollState) (s : MemberNumber) → held (begun_heard p s (ballot p s)).poll ≡ held p
 begun-holds p First = refl
-begun-holds p Second = refl
-begun-holds p Third = refl
+begun-holds p _ = refl
 
 module _ (l : Line) (s : MemberNumber) (log : List Effect) where
   -- what comes of what the poll heard
@@ -466,14 +418,7 @@ talks-later l asks answers b log more holds held-now gone f t = record {
 -- it hadn't, so nothing was said
 silent : (stage : Stage) → false ≡ has_gone stage → stage ≡ Silent
 silent Silent e = refl
-silent BeginSent e = absurd (let q : false ≡ true = e in cc q)
-silent BegunSaid e = absurd (let q : false ≡ true = e in cc q)
-silent (EarlyVoted d) e = absurd (let q : false ≡ true = e in cc q)
-silent (EarlyHeard d) e = absurd (let q : false ≡ true = e in cc q)
-silent Passed e = absurd (let q : false ≡ true = e in cc q)
-silent WishSent e = absurd (let q : false ≡ true = e in cc q)
-silent (Voted d) e = absurd (let q : false ≡ true = e in cc q)
-silent (Heard d) e = absurd (let q : false ≡ true = e in cc q)
+silent _ e = absurd (let q : false ≡ true = e in cc q)
 
 -- with three ballots without a vote it holds nothing
 holds-none : (p : PollState) → p.first.vote ≡ None → p.second.vote ≡ None → p.third.vote ≡ None → held p ≡ None
@@ -481,8 +426,7 @@ holds-none p a b c = ap (λ x. held_of x p.second.vote p.third.vote) a ∙ ap (�
 
 begins-to : (p : PollState) (s : MemberNumber) → waiting (member s) (begin_to p First ++ (begin_to p Second ++ begin_to p Third)) ≡ (message.Begin p.stamp p.timeout, false) ∷ []
 begins-to p First = refl
-begins-to p Second = refl
-begins-to p Third = refl
+begins-to p _ = refl
 
 goes-to : (p : PollState) (s : MemberNumber) → held p ≡ None → waiting (member s) (poll_goes p) ≡ (message.Begin p.stamp p.timeout, false) ∷ []
 unfolding poll_goes
@@ -531,13 +475,12 @@ settled l asks answers b log holds t all-asks all-answers =
         → Every (λ (m : Mark). m.1 ≡ true) (asks_at l stage) → Every (λ (m : Mark). m.1 ≡ true) (answers_at l stage) → (is_some b.vote ≡ true) ⊎ (holds ≡ true)
     at Silent w e f a n = not-so (sym w)
     at BeginSent w e f a n = not-so a.0
-    at BegunSaid w e f a n = not-so n.0
-    at (EarlyVoted d) w e f a n = not-so n.0
     at (EarlyHeard d) w e f a n = inl (voted-at (is_commit d) (ap (λ (z : Ballot). z.vote) e))
     at Passed w e f a n = inr (f refl)
     at WishSent w e f a n = not-so a.1.0
     at (Voted d) w e f a n = not-so n.1.0
     at (Heard d) w e f a n = inl (voted-at (is_commit d) (ap (λ (z : Ballot). z.vote) e))
+    at _ w e f a n = not-so n.0
 
 -- and no more than two messages were said each way
 pub few-asks : (l : Line) (asks answers : List Mark) (b : Ballot) (log : List Effect) (holds gone : Bool) → Talks l asks answers b log holds gone → length asks ≤ 2
@@ -545,25 +488,11 @@ few-asks l asks answers b log holds gone t = subst (λ z. length z ≤ 2) (sym t
   where
     at : (stage : Stage) → length (asks_at l stage) ≤ 2
     at Silent = omega arith
-    at BeginSent = omega arith
-    at BegunSaid = omega arith
-    at (EarlyVoted d) = omega arith
-    at (EarlyHeard d) = omega arith
-    at Passed = omega arith
-    at WishSent = omega arith
-    at (Voted d) = omega arith
-    at (Heard d) = omega arith
+    at _ = omega arith
 
 pub few-answers : (l : Line) (asks answers : List Mark) (b : Ballot) (log : List Effect) (holds gone : Bool) → Talks l asks answers b log holds gone → length answers ≤ 2
 few-answers l asks answers b log holds gone t = subst (λ z. length z ≤ 2) (sym t.talk.answers_are) (at t.stage)
   where
     at : (stage : Stage) → length (answers_at l stage) ≤ 2
     at Silent = omega arith
-    at BeginSent = omega arith
-    at BegunSaid = omega arith
-    at (EarlyVoted d) = omega arith
-    at (EarlyHeard d) = omega arith
-    at Passed = omega arith
-    at WishSent = omega arith
-    at (Voted d) = omega arith
-    at (Heard d) = omega arith
+    at _ = omega arith

@@ -3,40 +3,9 @@ use Rattle.std.proofs.Common.{◌≡◌, ℕ, zero, suc, ◌+◌, ◌*◌, ◌�
 use Rattle.std.specs.Prelude.{Option, Some, None, ◌==◌, ◌&&◌, ◌⊎◌, is_some, slice_get, if◌then◌else◌}
 use Rattle.std.proofs.lemmas.Bool.{eqb-true, eqb-false}
 use Rattle.std.proofs.lemmas.List.{append-nil, length-append}
-use Rattle.pseudo_time.specs.Lists.{Every}
-use Rattle.pseudo_time.proofs.ListLemmas.{every-append}
-use Rattle.pseudo_time.specs.Nodes.{repository, broker, is_broker, same_node}
-use Rattle.pseudo_time.specs.declared.nodes.NodeId.{NodeId}
-use Rattle.pseudo_time.specs.declared.nodes.NodeKind.{NodeKind}
+use Rattle.vote_law.proofs.Names.{Every, every-append, repository, broker, is_broker, same_node, NodeId, NodeKind, same_stamp, StampParts, Decision, Effect, Message, Out, Post, posts, numbered, same_is, same_node-refl, Fate, RecordState, Unknown, Decided, record_of, Ballot, MemberNumber, First, Second, Third, book, quiet, begin_by, close_by, row, on_message, Given, number_of, member, voter_at, voter_of, PollState, PollGiven, ballot, held, asked, unless_held, begin_to, begun_heard, vote_heard, heard_from, heard_by, ignored, poll_goes, poll_takes, Member, Line, all_effects, shut, voter-member, Entry, Take, Go, Learn, Hear, Gate, Crash, Down, Tick, MayTake, Flags, Sending, names, flagged, Base, Hall, world_of, member_took, poll_took, voter_life, life_of, leaving, step, Rule, flagged-up}
 use Rattle.pseudo_time.specs.declared.nodes.NodeKind.TheVariants as kind
-use Rattle.pseudo_time.specs.Order.{same_stamp}
-use Rattle.pseudo_time.specs.StampParts.{StampParts}
-use Rattle.pseudo_time.specs.declared.decisions.Decision.{Decision}
-use Rattle.effect_form.specs.declared.effects.Effect.{Effect}
-use Rattle.message_form.specs.declared.messages.Message.{Message}
 use Rattle.message_form.specs.declared.messages.Message.TheVariants as message
-use Rattle.message_form.specs.declared.turns.Out.{Out}
-use Rattle.message_form.specs.Posts.{Post, posts}
-use Rattle.message_core.specs.Tallies.{numbered}
-use Rattle.message_core.proofs.NodeLemmas.{same_is, same_node-refl}
-use Rattle.stream_port.specs.declared.fates.Fate.{Fate}
-use Rattle.commit_record.specs.declared.states.RecordState.{RecordState}
-use Rattle.commit_record.specs.declared.states.RecordState.TheVariants.{Unknown, Decided}
-use Rattle.repository_log.specs.Logs.{record_of}
-use Rattle.record_votes.specs.declared.ballots.Ballot.{Ballot}
-use Rattle.record_votes.specs.declared.member_numbers.MemberNumber.{MemberNumber}
-use Rattle.record_votes.specs.declared.member_numbers.MemberNumber.TheVariants.{First, Second, Third}
-use Rattle.record_votes.specs.Members.{book, quiet, begin_by, close_by, row, on_message, Given}
-use Rattle.record_votes.specs.Polls.{number_of, member, voter_at, voter_of, PollState, PollGiven, ballot, held, asked, unless_held, begin_to, begun_heard, vote_heard, heard_from, heard_by, ignored, poll_goes, poll_takes}
-use Rattle.record_votes.specs.Voting.{Member, Line, all_effects, shut}
-use Rattle.record_votes.proofs.PollLemmas.{voter-member}
-use Rattle.world_core.specs.declared.entries.Entry.{Entry}
-use Rattle.world_core.specs.declared.entries.Entry.TheVariants.{Take, Go, Learn, Hear, Gate, Crash, Down, Tick}
-use Rattle.world_core.specs.Legal.{MayTake}
-use Rattle.world_core.specs.Walks.{Flags, Sending, names, flagged}
-use Rattle.vote_traces.specs.Walks.{Base, Hall, world_of, member_took, poll_took, voter_life, life_of, leaving, step}
-use Rattle.vote_traces.specs.Legal.{Rule}
-use Rattle.vote_traces.proofs.CauseLemmas.{flagged-up}
 use Rattle.vote_law.proofs.Letters.{marked, is_taken, sendings_of, between, marks}
 use Rattle.vote_law.proofs.Halls.{either-way, no, node, number-place, is_quiet}
 
@@ -177,9 +146,8 @@ module _ (b : Base) (h : Hall) (c : HallWays b h) (fates : List Fate) where
   members-on (Learn n stamp committed) r q l s = absurd r
   members-on (Hear n) r q l s = no (sym (ap is_some l) ∙ r.some)
   members-on (Gate n) r q l s = either-way Owes (same_node n (member s)) (shut (h.members s)) (h.members s) (λ _. tt) (λ _. c.members s)
-  members-on (Crash n kept) r q l s = no q
   members-on (Down n cause) r q l s = either-way Owes (same_node n (member s)) (h.members s) (h.members s) (λ _. c.members s) (λ _. c.members s)
-  members-on (Tick moment) r q l s = no q
+  members-on _ r q l s = no q
 
   took-says : (p : PollState) (o : Option Sending) → Every ToMember (poll_took p o).outs
   took-says p None = tt
@@ -192,9 +160,8 @@ module _ (b : Base) (h : Hall) (c : HallWays b h) (fates : List Fate) where
   polls-on (Learn n stamp committed) r q l i = absurd r
   polls-on (Hear n) r q l i = no (sym (ap is_some l) ∙ r.some)
   polls-on (Gate n) r q l i = either-way (Every ToMember) (same_node n (broker i)) [] (h.owed i) (λ _. tt) (λ _. c.polls i)
-  polls-on (Crash n kept) r q l i = no q
   polls-on (Down n cause) r q l i = either-way (Every ToMember) (same_node n (broker i)) (h.owed i) (h.owed i) (λ _. c.polls i) (λ _. c.polls i)
-  polls-on (Tick moment) r q l i = no q
+  polls-on _ r q l i = no q
 
   ask-ways : (i ticks : ℕ) (outs : List Out) → HasLine b.lines i → Every ToMember outs → Every (λ (x : Sending). IsWay b.lines x.post) (sendings_of ticks (broker i) outs)
   ask-ways i ticks [] has h = tt
@@ -213,14 +180,10 @@ module _ (b : Base) (h : Hall) (c : HallWays b h) (fates : List Fate) where
   sent-from kind.Broker j up = ask-ways j h.ticks (h.owed j) (c.lines j up) (c.polls j)
 
   sent-on : (e : Entry) → Rule b fates h e → is_quiet e ≡ true → Every (λ (x : Sending). IsWay b.lines x.post) (step b h e).sendings
-  sent-on (Take n number) r q = c.sent
-  sent-on (Go n) r q = c.sent
-  sent-on (Learn n stamp committed) r q = c.sent
-  sent-on (Hear n) r q = c.sent
   sent-on (Gate n) r q = every-append (λ (x : Sending). IsWay b.lines x.post) h.sendings (sendings_of h.ticks n (life_of h n.kind n.number).outs) c.sent (sent-from n.kind n.number r.up)
   sent-on (Crash n kept) r q = no q
-  sent-on (Down n cause) r q = c.sent
   sent-on (Tick moment) r q = no q
+  sent-on _ r q = c.sent
 
   lines-on : (e : Entry) (i : ℕ) → ((step b h e).flags (broker i)).up ≡ true → HasLine b.lines i
   lines-on e i = either-way (λ (f : Flags). f.up ≡ true → HasLine b.lines i) (names (broker i) e && (h.flags (broker i)).known) (flagged h.last kind.Broker (h.flags (broker i)) e) (h.flags (broker i))

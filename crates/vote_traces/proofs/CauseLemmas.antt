@@ -6,53 +6,39 @@ use Rattle.std.specs.Option.{unwrap_or}
 use Rattle.std.proofs.lemmas.Bool.{and_parts, le-leb}
 use Rattle.std.proofs.lemmas.Bool.Decides.{nat_tests}
 use Rattle.std.proofs.lemmas.List.{append-nil, append_assoc, reverse-append, take-append-drop}
-use Rattle.pseudo_time.specs.Lists.{Every, Has}
-use Rattle.pseudo_time.proofs.ListLemmas.{every-append, has-left, has-right}
-use Rattle.pseudo_time.specs.Nodes.{repository, broker, is_broker, same_node}
-use Rattle.pseudo_time.specs.Order.{same_stamp}
+use Rattle.vote_traces.proofs.Names.{Has, has-left, has-right, repository, broker, is_broker, same_stamp, NodeId, NodeKind, Message, Out, Post, posts, numbered, Asked, Fate, first_begin, decision_of, MemberNumber, First, Second, Third, on_message, member, voter_at, voter_of, PollState, held, poll_goes, poll_hears, poll_takes, Member, Line, took, heard, shut, crashed, Entry, Take, Go, Learn, Hear, Gate, Crash, Down, Tick, Trace, fates_of, Sending, names, Base, Hall, line_at, log_at, start_hall, world_of, member_took, member_heard, poll_took, poll_heard, voter_life, step, walk_from, Rule, Meets, Legal, base_of, hall_after}
+use Rattle.pseudo_time.specs.Lists.{Every}
+use Rattle.pseudo_time.proofs.ListLemmas.{every-append}
+use Rattle.pseudo_time.specs.Nodes.{same_node}
 use Rattle.pseudo_time.specs.StampParts.{StampParts}
 use Rattle.pseudo_time.specs.declared.decisions.Decision.{Decision}
 use Rattle.pseudo_time.specs.declared.decisions.Decision.TheVariants as decision
-use Rattle.pseudo_time.specs.declared.nodes.NodeId.{NodeId}
-use Rattle.pseudo_time.specs.declared.nodes.NodeKind.{NodeKind}
 use Rattle.pseudo_time.specs.declared.nodes.NodeKind.TheVariants as kind
 use Rattle.effect_form.specs.declared.effects.Effect.{Effect}
 use Rattle.effect_form.specs.declared.effects.Effect.TheVariants as effect
-use Rattle.message_form.specs.declared.messages.Message.{Message}
 use Rattle.message_form.specs.declared.messages.Message.TheVariants as message
-use Rattle.message_form.specs.declared.turns.Out.{Out}
-use Rattle.message_form.specs.Posts.{Post, posts}
-use Rattle.message_core.specs.Tallies.{numbered}
 use Rattle.message_core.proofs.NodeLemmas.{same_is}
-use Rattle.stream_port.specs.declared.fates.Asked.{Asked}
-use Rattle.stream_port.specs.declared.fates.Fate.{Fate}
 use Rattle.commit_record.specs.declared.states.RecordState.{RecordState}
 use Rattle.commit_record.specs.declared.states.RecordState.TheVariants.{Unknown, Decided}
-use Rattle.repository_log.specs.Logs.{first_begin, first_said, begun_by, decision_of, record_from, record_of, begun}
+use Rattle.repository_log.specs.Logs.{first_said, begun_by, record_from, record_of, begun}
 use Rattle.repository_log.specs.Expiries.{is_due, expiry_of, expiries}
 use Rattle.record_votes.specs.declared.ballots.Wish.{Wish}
 use Rattle.record_votes.specs.declared.ballots.Wish.TheVariants as wish
 use Rattle.record_votes.specs.declared.ballots.Ballot.{Ballot}
-use Rattle.record_votes.specs.declared.member_numbers.MemberNumber.{MemberNumber}
-use Rattle.record_votes.specs.declared.member_numbers.MemberNumber.TheVariants.{First, Second, Third}
-use Rattle.record_votes.specs.Members.{own, book, quiet, owed, begin_by, close_by, row, on_message, on_moment, decides, Given}
-use Rattle.record_votes.specs.Polls.{member, voter_at, voter_of, PollState, PollGiven, ballot, with_ballot, held, to_member, wish_for, outstanding, asked, asked_again, unless_held, begin_to, begun_heard, vote_heard, heard_from, heard_by, ignored, poll_goes, poll_hears, poll_takes}
-use Rattle.record_votes.specs.Voting.{Member, Line, all_effects, took, heard, shut, crashed}
-use Rattle.world_core.specs.declared.entries.Entry.{Entry}
-use Rattle.world_core.specs.declared.entries.Entry.TheVariants.{Take, Go, Learn, Hear, Gate, Crash, Down, Tick}
-use Rattle.world_core.specs.declared.traces.Trace.{Trace}
-use Rattle.world_core.specs.Legal.{fates_of, is_within}
-use Rattle.world_core.specs.Walks.{Flags, Sending, opened_log, names, flagged, last_after}
-use Rattle.vote_traces.specs.Walks.{Base, Hall, line_at, log_at, no_line, start_hall, world_of, member_took, member_heard, member_on, poll_took, poll_heard, poll_on, owed_on, voter_life, life_of, leaving, step, walk_from}
-use Rattle.vote_traces.specs.Legal.{Rule, Meets, Legal, base_of, is_node, hall_after}
+use Rattle.record_votes.specs.Members.{own, book, quiet, owed, begin_by, close_by, row, on_moment, decides, Given}
+use Rattle.record_votes.specs.Polls.{PollGiven, ballot, with_ballot, to_member, wish_for, outstanding, asked, asked_again, unless_held, begin_to, begun_heard, vote_heard, heard_from, heard_by, ignored}
+use Rattle.record_votes.specs.Voting.{all_effects}
+use Rattle.world_core.specs.Legal.{is_within}
+use Rattle.world_core.specs.Walks.{Flags, opened_log, flagged, last_after}
+use Rattle.vote_traces.specs.Walks.{no_line, member_on, poll_on, owed_on, life_of, leaving}
+use Rattle.vote_traces.specs.Legal.{is_node}
 use Rattle.vote_traces.specs.Causes.{IsWanted, IsCaused, HasCause, HaveCauses}
 
 -- ---- causes stay as entries and logs go on
 
 caused-later : (lines : List Line) (es more : List Entry) (log : List Effect) (s : StampParts) (d : Decision) → IsCaused lines es log s d → IsCaused lines (es ++ more) log s d
-caused-later lines es more log s decision.Committed h = h
-caused-later lines es more log s decision.Withdrawn h = h
 caused-later lines es more log s (decision.Expired deadline moment) h = (h.0, has-left es more (Tick moment) h.1, h.2)
+caused-later lines es more log s _ h = h
 
 cause-later : (lines : List Line) (es more : List Entry) (log : List Effect) (e : Effect) → HasCause lines es log e → HasCause lines (es ++ more) log e
 cause-later lines es more log (effect.Decide s d) h = caused-later lines es more log s d h
@@ -190,8 +176,7 @@ pub record SamePoll (old new : PollState) : Type 0 where
 
 ballot-same : (p : PollState) (s : MemberNumber) (b : Ballot) → SamePoll p (with_ballot p s b)
 ballot-same p First b = record { stamp = refl; wish = refl }
-ballot-same p Second b = record { stamp = refl; wish = refl }
-ballot-same p Third b = record { stamp = refl; wish = refl }
+ballot-same p _ b = record { stamp = refl; wish = refl }
 
 vote-same : (p : PollState) (s : MemberNumber) (d : Decision) (b : Ballot) (v : Option Bool) → SamePoll p (vote_heard p s d b v).poll
 vote-same p s d b None = ballot-same p s _
@@ -414,13 +399,10 @@ module _ (b : Base) (have : HaveLines b) (es : List Entry) (h : Hall) (c : HallC
 
   member-on : (fates : List Fate) (s : MemberNumber) (e : Entry) → MemberCauses b.lines es (log_at b.opened s) (member_on b h (h.members s) e)
   member-on fates s (Take node number) = took-causes b.lines es (log_at b.opened s) (h.members s) (numbered h.sendings number) (c.members s) (λ x e. every-numbered (λ (z : Sending). Wishes b.lines z.post.message) h.sendings number x c.sent e)
-  member-on fates s (Go node) = c.members s
-  member-on fates s (Learn node stamp committed) = c.members s
   member-on fates s (Hear node) = heard-causes b.lines es (log_at b.opened s) (h.members s) h.last (c.members s) c.last
   member-on fates s (Gate node) = shut-causes b.lines es (log_at b.opened s) (h.members s) (c.members s)
   member-on fates s (Crash node kept) = crashed-causes b.lines es (log_at b.opened s) (h.members s) kept b.start (c.members s)
-  member-on fates s (Down node cause) = c.members s
-  member-on fates s (Tick moment) = c.members s
+  member-on fates s _ = c.members s
 
   abbrev SaysLine : ℕ → PollState → Type 0
   SaysLine i p = (p.stamp ≡ (line_at b.lines i).stamp) × (p.wish ≡ (line_at b.lines i).wish)
@@ -431,13 +413,7 @@ module _ (b : Base) (have : HaveLines b) (es : List Entry) (h : Hall) (c : HallC
 
   poll-on : (i : ℕ) (e : Entry) → SaysLine i (poll_on h (h.polls i) e)
   poll-on i (Take node number) = took-line i (h.polls i) (numbered h.sendings number) (c.polls i)
-  poll-on i (Go node) = c.polls i
-  poll-on i (Learn node stamp committed) = c.polls i
-  poll-on i (Hear node) = c.polls i
-  poll-on i (Gate node) = c.polls i
-  poll-on i (Crash node kept) = c.polls i
-  poll-on i (Down node cause) = c.polls i
-  poll-on i (Tick moment) = c.polls i
+  poll-on i _ = c.polls i
 
   took-outs : (p : PollState) (found : Option Sending) → IsWanted b.lines p.stamp p.wish → AllWish b.lines (poll_took p found).outs
   took-outs p None g = tt
@@ -453,12 +429,9 @@ module _ (b : Base) (have : HaveLines b) (es : List Entry) (h : Hall) (c : HallC
   owed-on-rule : (fates : List Fate) (i : ℕ) (e : Entry) → Rule b fates h e → names (broker i) e ≡ true → WishOuts (owed_on h (h.polls i) (h.owed i) e)
   owed-on-rule fates i (Take node number) r is = every-append (λ (o : Out). Wishes b.lines o.message) (h.owed i) (poll_took (h.polls i) (numbered h.sendings number)).outs (c.owed i) (took-outs (h.polls i) (numbered h.sendings number) (wanted node i is r.up))
   owed-on-rule fates i (Go node) r is = every-append (λ (o : Out). Wishes b.lines o.message) (h.owed i) (poll_goes (h.polls i)) (c.owed i) (goes-wish b.lines (h.polls i) (wanted node i is r.up))
-  owed-on-rule fates i (Learn node stamp committed) r is = c.owed i
   owed-on-rule fates i (Hear node) r is = every-append (λ (o : Out). Wishes b.lines o.message) (h.owed i) (poll_heard (h.polls i) h.last) (c.owed i) (heard-outs (h.polls i) h.last (wanted node i is r.up))
   owed-on-rule fates i (Gate node) r is = tt
-  owed-on-rule fates i (Crash node kept) r is = c.owed i
-  owed-on-rule fates i (Down node cause) r is = c.owed i
-  owed-on-rule fates i (Tick moment) r is = c.owed i
+  owed-on-rule fates i _ r is = c.owed i
 
   leaving-wish : (k : NodeKind) (i : ℕ) → WishOuts (life_of h k i).outs
   leaving-wish kind.Repository i = by-voter (voter_at i)
@@ -469,15 +442,9 @@ module _ (b : Base) (have : HaveLines b) (es : List Entry) (h : Hall) (c : HallC
   leaving-wish kind.Broker i = c.owed i
 
   sent-on : (e : Entry) → Every (λ (s : Sending). Wishes b.lines s.post.message) (step b h e).sendings
-  sent-on (Take node number) = c.sent
-  sent-on (Go node) = c.sent
-  sent-on (Learn node stamp committed) = c.sent
-  sent-on (Hear node) = c.sent
   sent-on (Gate node) = every-append (λ (s : Sending). Wishes b.lines s.post.message) h.sendings (map (λ (p : Post). let r : Sending = record { post = p; ticks = h.ticks } in r) (leaving h node)) c.sent
       (sendings-wish b.lines node h.ticks (life_of h node.kind node.number).outs (leaving-wish node.kind node.number))
-  sent-on (Crash node kept) = c.sent
-  sent-on (Down node cause) = c.sent
-  sent-on (Tick moment) = c.sent
+  sent-on _ = c.sent
 
   step-causes : (fates : List Fate) (e : Entry) → Rule b fates h e → HallCauses b (es ++ e ∷ []) (step b h e)
   step-causes fates e r = record {

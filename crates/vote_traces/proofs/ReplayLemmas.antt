@@ -4,33 +4,16 @@ use Rattle.std.specs.Prelude.{Option, Some, None, ◌==◌, if◌then◌else◌}
 use Rattle.std.proofs.lemmas.Bool.{eqb-true}
 use Rattle.std.proofs.lemmas.List.{append-nil}
 use Rattle.std.proofs.Math.Path.{fun_ext}
-use Rattle.pseudo_time.specs.Lists.{Has}
-use Rattle.pseudo_time.proofs.ListLemmas.{has-left, has-right, has-either}
-use Rattle.pseudo_time.specs.Nodes.{repository, broker, is_broker}
-use Rattle.pseudo_time.specs.declared.nodes.NodeId.{NodeId}
-use Rattle.pseudo_time.specs.declared.nodes.NodeKind.{NodeKind}
+use Rattle.vote_traces.proofs.Names.{Has, has-left, has-right, repository, broker, is_broker, NodeId, NodeKind, Message, Out, Post, posts, numbered, Fate, MemberNumber, First, Second, Third, member, voter_at, voter_of, PollState, poll_goes, poll_hears, poll_takes, held, Member, took, heard, shut, crashed, Line, Entry, Take, Go, Learn, Hear, Gate, Crash, Down, Tick, Sending, names, Base, Hall, line_at, log_at, start_hall, member_took, member_heard, poll_took, poll_heard, voter_life, world_of, step, walk_from, Trace, fates_of, Rule, Meets, Legal, base_of, hall_after, Asked}
+use Rattle.pseudo_time.proofs.ListLemmas.{has-either}
 use Rattle.pseudo_time.specs.declared.nodes.NodeKind.TheVariants as kind
-use Rattle.message_form.specs.declared.messages.Message.{Message}
-use Rattle.message_form.specs.declared.turns.Out.{Out}
-use Rattle.message_form.specs.Posts.{Post, post, posts}
-use Rattle.message_core.specs.Tallies.{numbered}
-use Rattle.stream_port.specs.declared.fates.Fate.{Fate}
-use Rattle.record_votes.specs.declared.member_numbers.MemberNumber.{MemberNumber}
-use Rattle.record_votes.specs.declared.member_numbers.MemberNumber.TheVariants.{First, Second, Third}
-use Rattle.record_votes.specs.Polls.{number_of, member, voter_at, voter_of, PollState, poll_goes, poll_hears, poll_takes, held}
-use Rattle.record_votes.specs.Voting.{Member, took, heard, shut, crashed, is_same_voter, with_member, with_poll, with_sent, post_at, to_poll, to_voter, delivered_to, delivered, Event, Goes, Delivered, Gates, Crashes, Hears, Polled, Line, Logs, entered, run, ended, left, no_logs, IsDecided}
+use Rattle.message_form.specs.Posts.{post}
+use Rattle.record_votes.specs.Polls.{number_of}
+use Rattle.record_votes.specs.Voting.{is_same_voter, with_member, with_poll, with_sent, post_at, to_poll, to_voter, delivered_to, delivered, Event, Goes, Delivered, Gates, Crashes, Hears, Polled, Logs, entered, run, ended, left, no_logs, IsDecided}
 use Rattle.record_votes.specs.Voting as voting
 use Rattle.record_votes.proofs.PollLemmas.{voter-member}
 use Rattle.record_votes.proofs.WorldLemmas.{run-facts, entered-facts, facts-two, no-two-calls}
-use Rattle.world_core.specs.declared.entries.Entry.{Entry}
-use Rattle.world_core.specs.declared.entries.Entry.TheVariants.{Take, Go, Learn, Hear, Gate, Crash, Down, Tick}
-use Rattle.world_core.specs.Walks.{Sending, names}
-use Rattle.vote_traces.specs.Walks.{Base, Hall, line_at, log_at, start_hall, member_took, member_heard, poll_took, poll_heard, voter_life, world_of, step, walk_from}
-use Rattle.world_core.specs.declared.traces.Trace.{Trace}
-use Rattle.world_core.specs.Legal.{fates_of}
-use Rattle.vote_traces.specs.Legal.{Rule, Meets, Legal, base_of, hall_after}
 use Rattle.vote_traces.specs.Replays.{IsRun, TwoDecided, Call, IsCall, AreCalls, log_left, logs_after}
-use Rattle.stream_port.specs.declared.fates.Asked.{Asked}
 use Rattle.pseudo_time.specs.declared.down_causes.DownCause.{DownCause}
 
 -- The world has the same members and polls, and all that was sent; and what polls owe.
@@ -159,8 +142,7 @@ is-voter i s h = ap voter_at (eqb-true i (number_of s) h) ∙ at-number s
   where
     at-number : (s : MemberNumber) → voter_at (number_of s) ≡ Some s
     at-number First = refl
-    at-number Second = refl
-    at-number Third = refl
+    at-number _ = refl
 
 no-voter : (i : ℕ) (s : MemberNumber) (x y : Member) → voter_at i ≡ None → (if i == number_of s then x else y) ≡ y
 no-voter i s x y none = go (i == number_of s) refl

@@ -1,19 +1,19 @@
 -- The worked trace, computed.
-use Rattle.std.proofs.Common.{◌≡◌, ◌<◌, length, true, false, inl, refl, sym, subst, arith}
+use Rattle.std.proofs.Common.{◌≡◌, ℕ, ◌<◌, length, true, false, inl, refl, sym, subst, arith}
 use Rattle.std.specs.Prelude.{Some}
-use Rattle.pseudo_time.specs.Nodes.{repository, broker}
-use Rattle.pseudo_time.specs.Order.{same_stamp}
+use Rattle.pseudo_time.specs.declared.nodes.NodeId.{NodeId}
+use Rattle.world_core.specs.Walks.{Sending, World}
+use Rattle.world_core.specs.Legal.{HasGone, HasHeard, IsReleased, MayTake, times_taken}
+use Rattle.vote_traces.proofs.Names.{repository, broker, same_stamp, numbered, Fate, first_begin, decision_of, on_message, held, poll_goes, poll_takes, start_hall, walk, walk_from, Meets}
 use Rattle.pseudo_time.specs.declared.decisions.Decision.TheVariants as decision
 use Rattle.message_form.specs.declared.messages.Message.TheVariants as message
-use Rattle.message_core.specs.Tallies.{numbered}
-use Rattle.stream_port.specs.declared.fates.Fate.{Fate}
 use Rattle.stream_port.specs.Fates.{copies_of}
-use Rattle.repository_log.specs.Logs.{first_begin, decision_of}
-use Rattle.record_votes.specs.Members.{on_message}
-use Rattle.record_votes.specs.Polls.{held, poll_goes, poll_takes}
-use Rattle.vote_traces.specs.Walks.{start_hall, walk, walk_from}
-use Rattle.vote_traces.specs.Legal.{Meets}
 use Rattle.vote_traces.specs.Rows.{row_stamp, row_base, row_fates, row_entries, plain, early_tick, taken_twice}
+
+-- a message that is taken, of one copy
+taken : (w : World) (n : NodeId) (k : ℕ) (s : Sending) → (w.flags n).up ≡ true → HasGone w n → numbered w.sendings k ≡ Some s → s.post.to ≡ n → numbered row_fates k ≡ Some plain →
+    times_taken w k < copies_of plain → IsReleased w s plain → HasHeard w n → MayTake row_fates w n k
+taken w n k s up gone sent to fated fewer released heard = record { up = up; heard = heard; gone = gone; sending = s; sent = sent; to = to; fate = plain; fated = fated; fewer = fewer; released = released }
 
 pub row-meets : Meets row_base row_fates (start_hall row_base) row_entries
 unfolding Meets poll_goes poll_takes on_message first_begin decision_of same_stamp
@@ -22,168 +22,47 @@ row-meets = (
   (
     record { up = refl; due = refl },
     (
-      record {
-        up = refl;
-        heard = inl refl;
-        gone = λ e. absurd (cc e);
-        sending = record { post = record { from = broker 1; to = repository 1; message = message.Begin row_stamp 5 }; ticks = 0 };
-        sent = refl;
-        to = refl;
-        fate = plain;
-        fated = refl;
-        fewer = omega arith;
-        released = omega arith;
-      },
+      taken _ _ _ (record { post = record { from = broker 1; to = repository 1; message = message.Begin row_stamp 5 }; ticks = 0 }) refl (λ e. absurd (cc e)) refl refl refl (omega arith) (omega arith) (inl refl),
       (
         record { up = refl; due = refl },
         (
-          record {
-            up = refl;
-            heard = inl refl;
-            gone = λ e. absurd (cc e);
-            sending = record { post = record { from = broker 1; to = repository 2; message = message.Begin row_stamp 5 }; ticks = 0 };
-            sent = refl;
-            to = refl;
-            fate = plain;
-            fated = refl;
-            fewer = omega arith;
-            released = omega arith;
-          },
+          taken _ _ _ (record { post = record { from = broker 1; to = repository 2; message = message.Begin row_stamp 5 }; ticks = 0 }) refl (λ e. absurd (cc e)) refl refl refl (omega arith) (omega arith) (inl refl),
           (
             record { up = refl; due = refl },
             (
-              record {
-                up = refl;
-                heard = inl refl;
-                gone = λ e. absurd (cc e);
-                sending = record { post = record { from = broker 1; to = repository 3; message = message.Begin row_stamp 5 }; ticks = 0 };
-                sent = refl;
-                to = refl;
-                fate = plain;
-                fated = refl;
-                fewer = omega arith;
-                released = omega arith;
-              },
+              taken _ _ _ (record { post = record { from = broker 1; to = repository 3; message = message.Begin row_stamp 5 }; ticks = 0 }) refl (λ e. absurd (cc e)) refl refl refl (omega arith) (omega arith) (inl refl),
               (
                 record { up = refl; due = refl },
                 (
-                  record {
-                    up = refl;
-                    heard = inl refl;
-                    gone = λ e. refl;
-                    sending = record { post = record { from = repository 1; to = broker 1; message = message.Begun row_stamp }; ticks = 0 };
-                    sent = refl;
-                    to = refl;
-                    fate = plain;
-                    fated = refl;
-                    fewer = omega arith;
-                    released = omega arith;
-                  },
+                  taken _ _ _ (record { post = record { from = repository 1; to = broker 1; message = message.Begun row_stamp }; ticks = 0 }) refl (λ e. refl) refl refl refl (omega arith) (omega arith) (inl refl),
                   (
                     record { up = refl; due = refl },
                     (
-                      record {
-                        up = refl;
-                        heard = inl refl;
-                        gone = λ e. absurd (cc e);
-                        sending = record { post = record { from = broker 1; to = repository 1; message = message.Commit row_stamp }; ticks = 0 };
-                        sent = refl;
-                        to = refl;
-                        fate = plain;
-                        fated = refl;
-                        fewer = omega arith;
-                        released = omega arith;
-                      },
+                      taken _ _ _ (record { post = record { from = broker 1; to = repository 1; message = message.Commit row_stamp }; ticks = 0 }) refl (λ e. absurd (cc e)) refl refl refl (omega arith) (omega arith) (inl refl),
                       (
                         record { up = refl; due = refl },
                         (
-                          record {
-                            up = refl;
-                            heard = inl refl;
-                            gone = λ e. refl;
-                            sending = record { post = record { from = repository 2; to = broker 1; message = message.Begun row_stamp }; ticks = 0 };
-                            sent = refl;
-                            to = refl;
-                            fate = plain;
-                            fated = refl;
-                            fewer = omega arith;
-                            released = omega arith;
-                          },
+                          taken _ _ _ (record { post = record { from = repository 2; to = broker 1; message = message.Begun row_stamp }; ticks = 0 }) refl (λ e. refl) refl refl refl (omega arith) (omega arith) (inl refl),
                           (
                             record { up = refl; due = refl },
                             (
-                              record {
-                                up = refl;
-                                heard = inl refl;
-                                gone = λ e. absurd (cc e);
-                                sending = record { post = record { from = broker 1; to = repository 2; message = message.Commit row_stamp }; ticks = 0 };
-                                sent = refl;
-                                to = refl;
-                                fate = plain;
-                                fated = refl;
-                                fewer = omega arith;
-                                released = omega arith;
-                              },
+                              taken _ _ _ (record { post = record { from = broker 1; to = repository 2; message = message.Commit row_stamp }; ticks = 0 }) refl (λ e. absurd (cc e)) refl refl refl (omega arith) (omega arith) (inl refl),
                               (
                                 record { up = refl; due = refl },
                                 (
-                                  record {
-                                    up = refl;
-                                    heard = inl refl;
-                                    gone = λ e. refl;
-                                    sending = record { post = record { from = repository 3; to = broker 1; message = message.Begun row_stamp }; ticks = 0 };
-                                    sent = refl;
-                                    to = refl;
-                                    fate = plain;
-                                    fated = refl;
-                                    fewer = omega arith;
-                                    released = omega arith;
-                                  },
+                                  taken _ _ _ (record { post = record { from = repository 3; to = broker 1; message = message.Begun row_stamp }; ticks = 0 }) refl (λ e. refl) refl refl refl (omega arith) (omega arith) (inl refl),
                                   (
                                     record { up = refl; due = refl },
                                     (
-                                      record {
-                                        up = refl;
-                                        heard = inl refl;
-                                        gone = λ e. absurd (cc e);
-                                        sending = record { post = record { from = broker 1; to = repository 3; message = message.Commit row_stamp }; ticks = 0 };
-                                        sent = refl;
-                                        to = refl;
-                                        fate = plain;
-                                        fated = refl;
-                                        fewer = omega arith;
-                                        released = omega arith;
-                                      },
+                                      taken _ _ _ (record { post = record { from = broker 1; to = repository 3; message = message.Commit row_stamp }; ticks = 0 }) refl (λ e. absurd (cc e)) refl refl refl (omega arith) (omega arith) (inl refl),
                                       (
                                         record { up = refl; due = refl },
                                         (
-                                          record {
-                                            up = refl;
-                                            heard = inl refl;
-                                            gone = λ e. refl;
-                                            sending = record { post = record { from = repository 1; to = broker 1; message = message.Decided row_stamp decision.Committed }; ticks = 0 };
-                                            sent = refl;
-                                            to = refl;
-                                            fate = plain;
-                                            fated = refl;
-                                            fewer = omega arith;
-                                            released = omega arith;
-                                          },
+                                          taken _ _ _ (record { post = record { from = repository 1; to = broker 1; message = message.Decided row_stamp decision.Committed }; ticks = 0 }) refl (λ e. refl) refl refl refl (omega arith) (omega arith) (inl refl),
                                           (
                                             record { up = refl; due = refl },
                                             (
-                                              record {
-                                                up = refl;
-                                                heard = inl refl;
-                                                gone = λ e. refl;
-                                                sending = record { post = record { from = repository 2; to = broker 1; message = message.Decided row_stamp decision.Committed }; ticks = 0 };
-                                                sent = refl;
-                                                to = refl;
-                                                fate = plain;
-                                                fated = refl;
-                                                fewer = omega arith;
-                                                released = omega arith;
-                                              },
+                                              taken _ _ _ (record { post = record { from = repository 2; to = broker 1; message = message.Decided row_stamp decision.Committed }; ticks = 0 }) refl (λ e. refl) refl refl refl (omega arith) (omega arith) (inl refl),
                                               (
                                                 record { up = refl; due = refl },
                                                 tt,

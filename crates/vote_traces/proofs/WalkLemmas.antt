@@ -1,19 +1,13 @@
 -- A walk that goes on, and the rules of one entry more.
 use Rattle.std.proofs.Common.{◌≡◌, ℕ, suc, ◌+◌, List, [], ◌∷◌, ◌++◌, map, length, refl, sym, ap, subst, ◌∙◌, append_assoc}
 use Rattle.std.proofs.lemmas.List.{append-nil, map-append}
-use Rattle.stream_port.specs.declared.fates.Asked.{Asked}
-use Rattle.stream_port.specs.declared.fates.Fate.{Fate}
-use Rattle.record_votes.specs.Voting.{Line}
-use Rattle.world_core.specs.declared.entries.Entry.{Entry}
-use Rattle.world_core.specs.declared.entries.Entry.TheVariants.{Take, Go, Learn, Hear, Gate, Crash, Down, Tick}
+use Rattle.vote_traces.proofs.Names.{Asked, Fate, Line, Entry, Take, Go, Learn, Hear, Gate, Crash, Down, Tick, Trace, fates_of, Base, Hall, world_of, start_hall, step, walk_from, walk, Rule, Meets, Legal, base_of}
 use Rattle.world_core.specs.declared.traces.Sent.{Sent}
-use Rattle.world_core.specs.declared.traces.Trace.{Trace}
 use Rattle.world_core.specs.Walks.{sent_by}
-use Rattle.world_core.specs.Legal.{MayTake, MayTick, Numbered, post_of, fates_of, asked_of}
+use Rattle.world_core.specs.Legal.{MayTake, MayTick, Numbered, post_of, asked_of}
 use Rattle.world_core.proofs.Lists.{numbered-append}
 use Rattle.world_core.proofs.Legality.{numbered-join}
-use Rattle.vote_traces.specs.Walks.{Base, Hall, world_of, start_hall, step, walk_from, walk}
-use Rattle.vote_traces.specs.Legal.{Rule, Meets, JustVoters, Legal, base_of}
+use Rattle.vote_traces.specs.Legal.{JustVoters}
 
 module _ (b : Base) where
   pub walk-append : (h : Hall) (es more : List Entry) → walk_from b h (es ++ more) ≡ walk_from b (walk_from b h es) more
