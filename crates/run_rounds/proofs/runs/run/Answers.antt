@@ -1,4 +1,4 @@
-use Rattle.std.proofs.Common.{◌≡◌, ◌∙◌, Some, length, slice_get, sym, subst, ap, arith}
+use Rattle.std.proofs.Common.{rules, refl, ◌≡◌, ◌∙◌, Some, length, slice_get, sym, subst, ap, arith}
 use Rattle.std.specs.Prelude.{All}
 use Rattle.seat_lock.specs.Words.{base_of}
 use Rattle.run_rounds.proofs.Names.{FirstRefusal, IsInRange, IsOpen, IsSetUp, EndsAs, IsEndFor, tellers}
@@ -59,3 +59,35 @@ returns-else-are_open g c = λ first opened.
     let set = subst (λ l. IsSetUp c.args.plan.now l (g.F.Fates.asked c.args.fates) (g.C.Clock.answers c.args.clock) o) c.as_slice-2.ensures.value c.in-Ok.ensures.set_up in
     ends-set-up w c.args.limits.ticks c.args.limits.messages c.args.plan.now os (g.F.Fates.asked c.args.fates) (g.F.Fates.asked r.fates) (g.C.Clock.answers c.args.clock) (g.C.Clock.answers r.clock) o first r.media r.end set
     (c.without_nodes.ensures c.args.limits.ticks c.args.limits.messages first opened)
+
+pub with_nodes-requires-clause-runnable : goal.with_nodes-requires-clause-runnable
+with_nodes-requires-clause-runnable g c κs within = record { of_language = c.requires.plan; all = c.requires.count; ready = search rules }
+
+pub with_nodes-requires-clause-begun : goal.with_nodes-requires-clause-begun
+with_nodes-requires-clause-begun g c κs within =
+    let o = (base_of c.in-Ok.begun.wire.lock).origin in
+    let set = subst (λ l. IsSetUp c.args.plan.now l (g.F.Fates.asked c.args.fates) (g.C.Clock.answers c.args.clock) o) c.as_slice-2.ensures.value c.in-Ok.ensures.set_up in
+    record {
+      set_up = record { run = set.run; acts = set.acts; opened = set.opened; start = set.start; asked_is = refl; answers_are = refl };
+      starts = c.in-Ok.ensures.start;
+      passes_fit = c.in-Ok.ensures.passes;
+      unseen = c.in-Ok.ensures.fresh;
+      conducts = c.in-Ok.ensures.conductor.0;
+      conductor_unseen = c.in-Ok.ensures.conductor.1;
+    }
+
+pub without_nodes-requires-clause-runnable : goal.without_nodes-requires-clause-runnable
+without_nodes-requires-clause-runnable g c = record { of_language = c.requires.plan; all = c.requires.count; ready = search rules }
+
+pub without_nodes-requires-clause-begun : goal.without_nodes-requires-clause-begun
+without_nodes-requires-clause-begun g c =
+    let o = (base_of c.in-Ok.begun.wire.lock).origin in
+    let set = subst (λ l. IsSetUp c.args.plan.now l (g.F.Fates.asked c.args.fates) (g.C.Clock.answers c.args.clock) o) c.as_slice-2.ensures.value c.in-Ok.ensures.set_up in
+    record {
+      set_up = record { run = set.run; acts = set.acts; opened = set.opened; start = set.start; asked_is = refl; answers_are = refl };
+      starts = c.in-Ok.ensures.start;
+      passes_fit = c.in-Ok.ensures.passes;
+      unseen = c.in-Ok.ensures.fresh;
+      conducts = c.in-Ok.ensures.conductor.0;
+      conductor_unseen = c.in-Ok.ensures.conductor.1;
+    }
