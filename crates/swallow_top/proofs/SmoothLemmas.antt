@@ -27,7 +27,7 @@ use Rattle.run_rounds.proofs.FlagLemmas.{named-opened, one-down, told-of}
 use Rattle.complete_law.specs.Calm as calm
 use Rattle.complete_law.specs.Calm.{AllDone, CalmPlace, CalmRun, IsUnstopped, MayStop, book_at, is_done_at, log_at, most_pages}
 use Rattle.complete_law.proofs.Counts.{few-pages}
-use Rattle.complete_law.proofs.Messages.{few-messages}
+use Rattle.complete_law.proofs.Totals.{few-messages}
 use Rattle.complete_law.proofs.OneBroker.{never-ended}
 use Rattle.complete_law.proofs.Outcomes.{outcomes}
 use Rattle.complete_law.proofs.Steps.{never-stuck}
