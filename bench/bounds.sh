@@ -40,7 +40,7 @@ TIMEFORMAT='%R %U %S'
 timed() {
   local input=$1
   shift
-  { time "$@" < "$input" > "$work/report"; } 2> "$work/time" || { tail -n 2 "$work/report"; exit 1; }
+  { time "$@" < "$input" > "$work/report" 2> "$work/said"; } 2> "$work/time" || { tail -n 2 "$work/report"; exit 1; }
   awk '{ print $1, $2 + $3 }' "$work/time"
 }
 
