@@ -2,37 +2,12 @@
 use Rattle.std.proofs.Common.{◌≡◌, ℕ, zero, suc, ◌≤◌, ◌<◌, max, nat_lt, ◌==◌, Bool, true, false, List, [], ◌∷◌, ◌++◌, refl, sym, ◌∙◌, ap, subst, Option, Some, None, if◌then◌else◌, arith, append-nil, append_assoc}
 use Rattle.std.proofs.lemmas.Bool.{eqb-true}
 use Rattle.std.proofs.lemmas.Grind.{common_steps}
-use Rattle.pseudo_time.specs.Lists.{Every}
-use Rattle.pseudo_time.specs.StampParts.{StampParts}
-use Rattle.pseudo_time.specs.declared.nodes.NodeId.{NodeId}
-use Rattle.pseudo_time.proofs.ListLemmas.{every-map, every-append}
-use Rattle.pseudo_time.proofs.OrderLemmas.{same_stamp-self}
-use Rattle.effect_form.specs.declared.effects.Effect.{Effect}
+use Rattle.broker_laws.proofs.Names.{Every, StampParts, NodeId, every-append, same_stamp-self, Effect, Outcome, Message, Out, Grew, Post, Got, Stored, Tree, Task, Act, Book, Try, book, close, enter, find, finish, gain, new_try, on_act, on_front, on_try, tries_of, add_if, counts, fits_try, keep, by_stage, owed, News, news, row, Idle, stage, stage_of, standing, open_try, last_try, Desk, Go, Hear, Input, Take, desk_turn, fuel, hears, note, note_if, reply, say, send, settle_up, state, all_effects, Heard, Reply, Adds, Hears, Ignored, EndFits, FitsBook, IsBelow, IsLater, PostHolds, MayInput}
+use Rattle.pseudo_time.proofs.ListLemmas.{every-map}
 use Rattle.effect_form.specs.declared.effects.Effect.TheVariants as effect
-use Rattle.effect_form.specs.declared.outcomes.Outcome.{Outcome}
 use Rattle.effect_form.specs.declared.outcomes.Outcome.TheVariants as outcome
-use Rattle.message_form.specs.declared.messages.Message.{Message}
-use Rattle.message_form.specs.declared.turns.Out.{Out}
-use Rattle.message_form.specs.Growth.{Grew}
-use Rattle.message_form.specs.Posts.{Post}
-use Rattle.script_meaning.specs.Meaning.{Got, Stored}
-use Rattle.serial_model.specs.Questions.{Tree}
-use Rattle.broker_core.specs.Tasks.{Task}
-use Rattle.broker_core.specs.Book.{Act, Book, Try, book, close, enter, find, finish, gain, new_try, on_act, on_front, on_try, tries_of}
-use Rattle.broker_core.specs.Fits.{add_if, counts, fits_try, keep}
-use Rattle.broker_core.specs.Owed.{by_stage, owed}
-use Rattle.broker_core.specs.Rows.{News, news, row}
-use Rattle.broker_core.specs.Stages.{Idle, stage, stage_of, standing}
-use Rattle.broker_core.specs.Book.{open_try, last_try}
-use Rattle.broker_core.specs.Turns.{Desk, Go, Hear, Input, Take, desk_turn, fuel, hears, note, note_if, reply, say, send, settle_up, state, all_effects}
-use Rattle.broker_core.specs.declared.heards.Heard.{Heard}
-use Rattle.broker_core.specs.declared.replies.Reply.{Reply}
-use Rattle.broker_core.specs.declared.replies.Reply.TheVariants.{Adds, Hears, Ignored}
 use Rattle.broker_core.specs.Counted.{counted, own_tries}
 use Rattle.broker_laws.specs.AnyLogs.{InRun, Joins, Says, GoesOn}
-use Rattle.broker_laws.specs.Fits.{EndFits, FitsBook}
-use Rattle.broker_laws.specs.Posts.{IsBelow, IsLater, PostHolds}
-use Rattle.broker_laws.specs.Works.{MayInput}
 use Rattle.broker_laws.proofs.Desks.{Good, OwedOk, PostOk, ReplyOk, news-came, note-state, owed-ok, row-ok, stage-ok, standing-ok}
 use Rattle.broker_laws.proofs.Moves.{Moved, at-open, later, moved, post-moved}
 use Rattle.broker_laws.proofs.TestLemmas.{and-left, and-right}

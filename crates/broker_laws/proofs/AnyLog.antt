@@ -1,22 +1,6 @@
 -- A node that is reopened after a crash never finds another plan: over any log that is ready, it is ready with any beginning of what a turn adds.
 use Rattle.std.proofs.Common.{true, inl, ◌≡◌, ℕ, zero, suc, nat_lt, false, List, [], ◌∷◌, refl, sym, subst, Option, Some, None}
-use Rattle.effect_form.specs.declared.effects.Effect.{Effect}
-use Rattle.message_form.specs.declared.messages.Message.{Message}
-use Rattle.pseudo_time.specs.declared.nodes.NodeId.{NodeId}
-use Rattle.message_form.specs.declared.turns.Out.{Out}
-use Rattle.message_form.specs.Posts.{Post}
-use Rattle.serial_model.specs.Questions.{Tree}
-use Rattle.broker_core.specs.Tasks.{Task}
-use Rattle.broker_core.specs.Book.{Book, book}
-use Rattle.broker_core.specs.Fits.{other_plan, unfit_act, first_some}
-use Rattle.broker_core.specs.Rows.{news, row}
-use Rattle.broker_core.specs.Stages.{stage, standing}
-use Rattle.pseudo_time.specs.Nodes.{broker}
-use Rattle.broker_core.specs.Turns.{Desk, Go, Hear, Input, Take, desk_turn, fuel, hears, note, note_if, reply, say, send, settle_up, state, all_effects}
-use Rattle.broker_core.specs.declared.heards.Heard.{Heard}
-use Rattle.broker_core.specs.declared.replies.Reply.{Reply}
-use Rattle.broker_core.specs.declared.replies.Reply.TheVariants.{Adds, Hears, Ignored}
-use Rattle.broker_laws.specs.Fits.{IsReady}
+use Rattle.broker_laws.proofs.Names.{Effect, Message, NodeId, Out, Post, Tree, Task, Book, book, other_plan, unfit_act, first_some, news, row, stage, standing, broker, Desk, Go, Hear, Input, Take, desk_turn, fuel, hears, note, note_if, reply, say, send, settle_up, state, all_effects, Heard, Reply, Adds, Hears, Ignored, IsReady}
 use Rattle.broker_laws.specs.Works.{AlwaysReady}
 use Rattle.broker_laws.proofs.Desks.{Good, OwedOk, ReplyOk, news-came, note-state, owed-ok, row-ok, stage-ok}
 

@@ -2,25 +2,10 @@
 use Rattle.std.proofs.Common.{◌≡◌, ℕ, ◌+◌, ◌==◌, max, nat_lt, Bool, true, false, ◌&&◌, ◌||◌, length, List, [], ◌∷◌, ◌++◌, refl, sym, ◌∙◌, ap, subst, Option, Some, None, if◌then◌else◌, inl, arith}
 use Rattle.std.proofs.lemmas.Grind.{common_steps}
 use Rattle.std.proofs.lemmas.Bool.{false≢true, true≢false}
-use Rattle.pseudo_time.specs.Lists.{Every, Has}
-use Rattle.pseudo_time.proofs.ListLemmas.{every-has}
-use Rattle.pseudo_time.specs.StampParts.{StampParts}
-use Rattle.pseudo_time.specs.TimeParts.{TimeParts}
-use Rattle.pseudo_time.proofs.OrderLemmas.{same_stamp-is}
+use Rattle.broker_laws.proofs.Names.{Every, Has, every-has, StampParts, TimeParts, same_stamp-is, Effect, Outcome, Answer, Got, Stored, Stop, Asks, Over, Tree, Heard, Task, task_with, Act, Book, Try, close, enter, finish, front, gain, last_try, new_try, on_act, on_front, on_try, open_of, open_front, open_try, if_open, tries_of, is_none, stop_of, Stage, Idle, Refused, Opening, Asking, Finishing, Stopping, Closing, by_stop, is_asking, is_closed, is_settled, no_answer, of_open, stage, stage_of, is_stamp, is_time, older, newest}
 use Rattle.value_form.specs.declared.endings.Ending.TheVariants as ending
-use Rattle.effect_form.specs.declared.effects.Effect.{Effect}
 use Rattle.effect_form.specs.declared.effects.Effect.TheVariants as effect
-use Rattle.effect_form.specs.declared.outcomes.Outcome.{Outcome}
 use Rattle.effect_form.specs.declared.outcomes.Outcome.TheVariants as outcome
-use Rattle.script_meaning.specs.Meaning.{Answer, Got, Stored, Stop, Asks, Over}
-use Rattle.serial_model.specs.Questions.{Tree}
-use Rattle.broker_core.specs.declared.heards.Heard.{Heard}
-use Rattle.broker_core.specs.Tasks.{Task, task_with}
-use Rattle.broker_core.specs.Book.{Act, Book, Try, close, enter, finish, front, gain, last_try, new_try, on_act, on_front, on_try, open_of, open_front, open_try, if_open, tries_of}
-use Rattle.broker_core.specs.Fits.{is_none, stop_of}
-use Rattle.broker_core.specs.Stages.{Stage, Idle, Refused, Opening, Asking, Finishing, Stopping, Closing, by_stop, is_asking, is_closed, is_settled, no_answer, of_open, stage, stage_of}
-use Rattle.broker_core.specs.Tests.{is_stamp, is_time}
-use Rattle.broker_laws.specs.Waits.{older, newest}
 use Rattle.broker_laws.specs.Waits as waits
 
 not-below : (n : ℕ) → nat_lt n n ≡ false

@@ -3,40 +3,14 @@ use Rattle.std.proofs.Common.{◌≡◌, ℕ, zero, suc, ◌==◌, nat_lt, Bool,
 use Rattle.std.proofs.lemmas.Grind.{common_steps}
 use Rattle.std.proofs.lemmas.Bool.{false≢true}
 use Rattle.std.specs.List.{slice_get}
-use Rattle.pseudo_time.specs.Lists.{Has}
-use Rattle.pseudo_time.proofs.ListLemmas.{every-append, every-has, has-right}
-use Rattle.pseudo_time.specs.StampParts.{StampParts}
-use Rattle.pseudo_time.specs.Order.{same_stamp, same_time}
-use Rattle.pseudo_time.proofs.OrderLemmas.{same_stamp-is}
-use Rattle.pseudo_time.specs.declared.decisions.Decision.{Decision}
+use Rattle.broker_laws.proofs.Names.{Has, every-append, every-has, StampParts, same_stamp, same_time, same_stamp-is, Decision, NodeId, Effect, Outcome, Message, Out, Post, Got, Stored, Request, ToRead, ToWrite, Asks, Tree, Heard, Reply, Adds, Hears, Ignored, Task, Act, Book, Try, book, enter, last_try, open_try, time_of, tries_of, act_effect, another, is_none, next_clock, shown_to, stop_of, Stage, Idle, Refused, Opening, Asking, Finishing, Stopping, Closing, is_closed, is_finished, is_settled, stage, stage_of, standing, after_act, after_tries, by_clock, by_stage, due, owed, start, try_or_spent, Answered, Begun, Decided, News, Over_there, Refusal, decided_commit, decided_early, ends, news, row, when, is_stamp, Desk, Go, Hear, Take, desk_turn, fuel, hears, note, note_if, reply, say, send, settle_up, state, HasCome, older, newest, repository}
+use Rattle.pseudo_time.proofs.ListLemmas.{has-right}
 use Rattle.pseudo_time.specs.declared.decisions.Decision.TheVariants as decision
-use Rattle.pseudo_time.specs.declared.nodes.NodeId.{NodeId}
-use Rattle.effect_form.specs.declared.effects.Effect.{Effect}
 use Rattle.effect_form.specs.declared.effects.Effect.TheVariants as effect
-use Rattle.effect_form.specs.declared.outcomes.Outcome.{Outcome}
 use Rattle.effect_form.specs.declared.outcomes.Outcome.TheVariants as outcome
-use Rattle.message_form.specs.declared.messages.Message.{Message}
 use Rattle.message_form.specs.declared.messages.Message.TheVariants as message
-use Rattle.message_form.specs.declared.turns.Out.{Out}
-use Rattle.message_form.specs.Posts.{Post}
-use Rattle.script_meaning.specs.Meaning.{Got, Stored, Request, ToRead, ToWrite, Asks}
-use Rattle.serial_model.specs.Questions.{Tree}
-use Rattle.broker_core.specs.declared.heards.Heard.{Heard}
-use Rattle.broker_core.specs.declared.replies.Reply.{Reply}
-use Rattle.broker_core.specs.declared.replies.Reply.TheVariants.{Adds, Hears, Ignored}
-use Rattle.broker_core.specs.Tasks.{Task}
-use Rattle.broker_core.specs.Book.{Act, Book, Try, book, enter, last_try, open_try, time_of, tries_of}
-use Rattle.broker_core.specs.Fits.{act_effect, another, is_none, next_clock, shown_to, stop_of}
-use Rattle.broker_core.specs.Stages.{Stage, Idle, Refused, Opening, Asking, Finishing, Stopping, Closing, is_closed, is_finished, is_settled, stage, stage_of, standing}
-use Rattle.broker_core.specs.Owed.{after_act, after_tries, by_clock, by_stage, due, owed, start, try_or_spent}
-use Rattle.broker_core.specs.Rows.{Answered, Begun, Decided, News, Over_there, Refusal, decided_commit, decided_early, ends, news, row, when}
-use Rattle.broker_core.specs.Tests.{is_stamp}
-use Rattle.broker_core.specs.Turns.{Desk, Go, Hear, Take, desk_turn, fuel, hears, note, note_if, reply, say, send, settle_up, state}
 use Rattle.broker_laws.proofs.Desks.{Good, OwedOk, ReplyOk, StageOk, news-came, note-state, owed-ok, row-ok, stage-ok}
-use Rattle.broker_laws.specs.Posts.{HasCome}
-use Rattle.broker_laws.specs.Waits.{older, newest}
 use Rattle.broker_laws.specs.Waits as waits
-use Rattle.pseudo_time.specs.Nodes.{repository}
 use Rattle.broker_laws.proofs.BookSteps.{Allowed, AllDecided, BookSound, EndAllowed, HasSettled, OfNewest, StageSound, Trail, enter-sound, open-among, stage-sound, stamp-heard}
 
 some-same : {A : Type 0} (x y : A) → Some x ≡ Some y → x ≡ y

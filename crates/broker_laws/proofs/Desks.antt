@@ -3,42 +3,18 @@ use Rattle.std.proofs.Common.{◌≡◌, ℕ, zero, suc, ◌+◌, ◌<◌, ◌==
 use Rattle.std.proofs.lemmas.Bool.{ltb-true}
 use Rattle.std.proofs.lemmas.Grind.{common_steps}
 use Rattle.std.specs.List.{slice_get}
-use Rattle.pseudo_time.specs.StampParts.{StampParts}
-use Rattle.pseudo_time.specs.TimeParts.{TimeParts}
-use Rattle.broker_core.specs.Tasks.{Task}
-use Rattle.pseudo_time.specs.declared.decisions.Decision.{Decision}
+use Rattle.broker_laws.proofs.Names.{StampParts, TimeParts, Task, Decision, Effect, Outcome, Message, Out, Post, Act, Book, Try, book, enter, find, front, last_try, open_try, time_of, tries, tries_of, act_effect, add_if, another, first_some, fits, has_ended, is_none, keep, next_clock, other_plan, outcome_by, rests, shown_to, stop_of, unfit_act, after_act, after_tries, by_clock, by_stage, due, owed, start, Answered, Begun, Decided, News, Over_there, Refusal, decided_commit, decided_early, ends, news, row, when, Asking, Closing, Finishing, Idle, Opening, Refused, Stage, Stopping, by_stop, is_asking, is_closed, is_finished, no_answer, stage, stage_of, standing, repository, is_stamp, is_time, Desk, Go, Hear, Input, Take, desk_turn, fuel, hears, note, note_if, reply, say, send, settle_up, state, all_effects, Heard, Reply, Adds, Hears, Ignored, EndsBy, FitsBook, IsTidy, may_start, AnswerCame, Clocks, EndCame, RestsOn, HasCome, IsAskOf, IsBelow, IsKnown, MayCommit, OfOpen, PostHolds, at, MayInput, TurnHolds, same_stamp-is, same_stamp-self, Every, same_stamp, same_time, Answer, Asks, Got, Over, Request, Stop, Stored, ToRead, ToWrite, Tree}
 use Rattle.pseudo_time.specs.declared.decisions.Decision.TheVariants as decision
-use Rattle.effect_form.specs.declared.effects.Effect.{Effect}
 use Rattle.effect_form.specs.declared.effects.Effect.TheVariants as effect
-use Rattle.effect_form.specs.declared.outcomes.Outcome.{Outcome}
 use Rattle.effect_form.specs.declared.outcomes.Outcome.TheVariants as outcome
-use Rattle.message_form.specs.declared.messages.Message.{Message}
 use Rattle.message_form.specs.declared.messages.Message.TheVariants as message
-use Rattle.message_form.specs.declared.turns.Out.{Out}
-use Rattle.message_form.specs.Posts.{Post}
 use Rattle.value_form.specs.declared.endings.Ending.TheVariants as ending
-use Rattle.broker_core.specs.Book.{Act, Book, Try, book, enter, find, front, last_try, open_try, time_of, tries, tries_of}
-use Rattle.broker_core.specs.Fits.{act_effect, add_if, another, first_some, fits, has_ended, is_none, keep, next_clock, other_plan, outcome_by, rests, shown_to, stop_of, unfit_act}
-use Rattle.broker_core.specs.Owed.{after_act, after_tries, by_clock, by_stage, due, owed, start}
-use Rattle.broker_core.specs.Rows.{Answered, Begun, Decided, News, Nothing_new, Over_there, Refusal, decided_commit, decided_early, ends, news, row, when}
-use Rattle.broker_core.specs.Stages.{Asking, Closing, Finishing, Idle, Opening, Refused, Stage, Stopping, by_stop, is_asking, is_closed, is_finished, no_answer, request, stage, stage_of, standing}
-use Rattle.pseudo_time.specs.Nodes.{repository}
-use Rattle.broker_core.specs.Tests.{is_stamp, is_time}
-use Rattle.broker_core.specs.Turns.{Desk, Go, Hear, Input, Take, desk_turn, fuel, hears, note, note_if, reply, say, send, settle_up, state, all_effects}
-use Rattle.broker_core.specs.declared.heards.Heard.{Heard}
-use Rattle.broker_core.specs.declared.replies.Reply.{Reply}
-use Rattle.broker_core.specs.declared.replies.Reply.TheVariants.{Adds, Hears, Ignored}
+use Rattle.broker_core.specs.Rows.{Nothing_new}
+use Rattle.broker_core.specs.Stages.{request}
 use Rattle.broker_laws.proofs.Kept.{fit-counts, fit-planned, kept}
 use Rattle.broker_laws.proofs.Moves.{at-open, clocks, grown, post-kept}
 use Rattle.broker_laws.proofs.TestLemmas.{and-both, is_task-of}
-use Rattle.broker_laws.specs.Fits.{EndsBy, FitsBook, IsTidy, may_start}
-use Rattle.broker_laws.specs.Posts.{AnswerCame, Clocks, EndCame, RestsOn, HasCome, IsAskOf, IsBelow, IsKnown, MayCommit, OfOpen, PostHolds, at}
-use Rattle.broker_laws.specs.Works.{MayInput, TurnHolds}
-use Rattle.pseudo_time.proofs.OrderLemmas.{same_stamp-is, same_stamp-self, same_time-is}
-use Rattle.pseudo_time.specs.Lists.{Every}
-use Rattle.pseudo_time.specs.Order.{same_stamp, same_time}
-use Rattle.script_meaning.specs.Meaning.{Answer, Asks, Got, Over, Request, Stop, Stored, ToRead, ToWrite}
-use Rattle.serial_model.specs.Questions.{Tree}
+use Rattle.pseudo_time.proofs.OrderLemmas.{same_time-is}
 
 -- what a stage says of the book
 module _ (script : List ℕ → Tree) (me run : ℕ) (acts : List Task) where

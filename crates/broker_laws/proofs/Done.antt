@@ -4,28 +4,15 @@ use Rattle.std.proofs.lemmas.Bool.{eq-eqb}
 use Rattle.std.proofs.lemmas.Option.{slice_get_within}
 use Rattle.std.proofs.lemmas.Grind.{common_steps}
 use Rattle.std.specs.List.{slice_get}
-use Rattle.broker_core.specs.Tasks.{Task}
-use Rattle.effect_form.specs.declared.effects.Effect.{Effect}
+use Rattle.broker_laws.proofs.Names.{Task, Effect, Outcome, Post, Act, Book, Try, book, close, enter, front, on_act, open_of, open_try, time_of, tries_of, another, is_none, outcome_by, stop_of, after_act, after_tries, by_stage, due, owed, start, try_or_spent, Closing, Idle, Opening, Refused, Stage, Stopping, by_stop, is_asking, is_closed, no_answer, of_open, stage, stage_of, standing, is_stamp, is_time, Desk, state, all_effects, Heard, Started, FitsBook, IsTidy, may_start, IsRested, TurnHolds, Asks, Over, Stop, ToRead, ToWrite, Tree}
 use Rattle.effect_form.specs.declared.effects.Effect.TheVariants as effect
-use Rattle.effect_form.specs.declared.outcomes.Outcome.{Outcome}
 use Rattle.effect_form.specs.declared.outcomes.Outcome.TheVariants as outcome
-use Rattle.message_form.specs.Posts.{Post}
 use Rattle.value_form.specs.declared.endings.Ending.TheVariants as ending
-use Rattle.broker_core.specs.Book.{Act, Book, Try, book, close, enter, front, on_act, open_of, open_try, time_of, tries_of}
-use Rattle.broker_core.specs.Fits.{another, has_outcome, is_none, outcome_by, stop_of}
-use Rattle.broker_core.specs.Owed.{after_act, after_tries, all_over, by_stage, done, due, owed, start, try_or_spent}
-use Rattle.broker_core.specs.Stages.{Closing, Idle, Opening, Refused, Stage, Stopping, by_stop, is_asking, is_closed, no_answer, of_open, stage, stage_of, standing}
-use Rattle.broker_core.specs.Tests.{is_stamp, is_time}
-use Rattle.broker_core.specs.Turns.{Desk, state, all_effects}
-use Rattle.broker_core.specs.declared.heards.Heard.{Heard}
+use Rattle.broker_core.specs.Fits.{has_outcome}
+use Rattle.broker_core.specs.Owed.{all_over, done}
 use Rattle.broker_laws.proofs.Kept.{kept, started}
 use Rattle.broker_laws.proofs.Moves.{grown}
 use Rattle.broker_laws.proofs.TestLemmas.{and-both}
-use Rattle.broker_core.specs.Sound.{Started}
-use Rattle.broker_laws.specs.Fits.{FitsBook, IsTidy, may_start}
-use Rattle.broker_laws.specs.Works.{IsRested, TurnHolds}
-use Rattle.script_meaning.specs.Meaning.{Asks, Over, Stop, ToRead, ToWrite}
-use Rattle.serial_model.specs.Questions.{Tree}
 
 past-end : (xs : List Task) (n : ℕ) → slice_get xs n ≡ None → length xs ≤ n
 past-end [] n h = omega arith

@@ -1,23 +1,12 @@
 -- one request for each pseudotime; tries found by their stamp; tries and acts of the run and the plan
 use Rattle.std.proofs.Common.{◌≡◌, ℕ, zero, suc, Bool, true, false, length, List, [], ◌∷◌, ◌++◌, refl, sym, ◌∙◌, ap, subst, Option, Some, None, if◌then◌else◌, arith}
 use Rattle.std.specs.List.{slice_get}
-use Rattle.pseudo_time.specs.StampParts.{StampParts}
-use Rattle.pseudo_time.specs.TimeParts.{TimeParts}
-use Rattle.broker_core.specs.Tasks.{Task}
-use Rattle.effect_form.specs.declared.effects.Effect.{Effect}
+use Rattle.broker_laws.proofs.Names.{StampParts, TimeParts, Task, Effect, Outcome, Act, Book, Try, book, close, enter, find, gain, on_act, on_front, on_try, tries_of, Started, IsReady, IsTidy, Distinct, IsAskOf, same_stamp-is, same_stamp-self, Every, same_stamp, Answer, Asks, Got, Request, Stored, Tree, stop}
 use Rattle.effect_form.specs.declared.effects.Effect.TheVariants as effect
-use Rattle.effect_form.specs.declared.outcomes.Outcome.{Outcome}
 use Rattle.effect_form.specs.declared.outcomes.Outcome.TheVariants as outcome
-use Rattle.broker_core.specs.Book.{Act, Book, Try, book, close, enter, find, gain, on_act, on_front, on_try, tries_of}
 use Rattle.broker_laws.proofs.Kept.{started}
-use Rattle.broker_core.specs.Sound.{OfAct, Started}
-use Rattle.broker_laws.specs.Fits.{IsReady, IsTidy}
-use Rattle.broker_laws.specs.Posts.{Distinct, IsAskOf, IsPlanned}
-use Rattle.pseudo_time.proofs.OrderLemmas.{same_stamp-is, same_stamp-self}
-use Rattle.pseudo_time.specs.Lists.{Every}
-use Rattle.pseudo_time.specs.Order.{same_stamp}
-use Rattle.script_meaning.specs.Meaning.{Answer, Asks, Got, Request, Stored}
-use Rattle.serial_model.specs.Questions.{Tree, stop}
+use Rattle.broker_core.specs.Sound.{OfAct}
+use Rattle.broker_laws.specs.Posts.{IsPlanned}
 
 unfoldable tail : List Answer → List Answer
 tail [] = []

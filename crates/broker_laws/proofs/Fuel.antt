@@ -3,20 +3,10 @@ use Rattle.std.proofs.Common.{◌≡◌, ℕ, zero, suc, ◌+◌, ◌*◌, ◌-�
 use Rattle.std.proofs.lemmas.Option.{slice_get_within}
 use Rattle.std.proofs.lemmas.Grind.{common_steps}
 use Rattle.std.specs.List.{slice_get}
-use Rattle.broker_core.specs.Tasks.{Task}
-use Rattle.effect_form.specs.declared.effects.Effect.{Effect}
+use Rattle.broker_laws.proofs.Names.{Task, Effect, Outcome, Act, Book, Try, book, enter, finish, on_front, on_try, open_front, open_of, calls_again, is_none, next_clock, shown_to, after_act, after_tries, by_clock, by_stage, due, owed, start, Stage, Stopping, is_closed, stage, Desk, fuel, note, note_if, settle_up, state, Heard, IsRested, Tree}
 use Rattle.effect_form.specs.declared.effects.Effect.TheVariants as effect
-use Rattle.effect_form.specs.declared.outcomes.Outcome.{Outcome}
 use Rattle.effect_form.specs.declared.outcomes.Outcome.TheVariants as outcome
-use Rattle.broker_core.specs.Book.{Act, Book, Try, book, enter, finish, on_front, on_try, open_front, open_of}
-use Rattle.broker_core.specs.Fits.{calls_again, is_none, next_clock, shown_to}
-use Rattle.broker_core.specs.Owed.{after_act, after_tries, by_clock, by_stage, due, owed, start}
-use Rattle.broker_core.specs.Stages.{Stage, Stopping, is_closed, stage}
-use Rattle.broker_core.specs.Turns.{Desk, fuel, note, note_if, settle_up, state}
-use Rattle.broker_core.specs.declared.heards.Heard.{Heard}
 use Rattle.broker_laws.proofs.Desks.{OwedOk, StageOk, Stops, note-state, owed-ok, stage-ok}
-use Rattle.broker_laws.specs.Works.{IsRested}
-use Rattle.serial_model.specs.Questions.{Tree}
 
 -- what the newest act may still add by itself
 abbrev left_of : Option ℕ → List Try → ℕ

@@ -2,20 +2,12 @@
 use Rattle.std.proofs.Common.{◌≡◌, ℕ, ◌+◌, ◌<◌, ◌==◌, nat_lt, Bool, true, false, ◌&&◌, length, List, [], ◌∷◌, refl, sym, ◌∙◌, ap, subst, Option, Some, None, if◌then◌else◌}
 use Rattle.std.proofs.lemmas.Bool.{eq-eqb, lt-ltb}
 use Rattle.std.specs.List.{slice_get}
-use Rattle.pseudo_time.specs.StampParts.{StampParts}
-use Rattle.broker_core.specs.Tasks.{Task}
-use Rattle.effect_form.specs.declared.effects.Effect.{Effect}
+use Rattle.broker_laws.proofs.Names.{StampParts, Task, Effect, Outcome, Act, Book, Try, book, close, enter, on_act, open_try, add_if, another, calls_again, counts, first_some, fits, fits_end, fits_spent, fits_try, is_none, keep, may_follow, other_plan, rests, stop_of, unfit_act, task_with, is_task, Started, EndFits, FitsBook, IsTidy, MayTry, Tree}
 use Rattle.effect_form.specs.declared.effects.Effect.TheVariants as effect
-use Rattle.effect_form.specs.declared.outcomes.Outcome.{Outcome}
 use Rattle.effect_form.specs.declared.outcomes.Outcome.TheVariants as outcome
-use Rattle.broker_core.specs.Book.{Act, Book, Try, book, close, enter, on_act, open_try}
-use Rattle.broker_core.specs.Fits.{add_if, another, calls_again, counts, first_some, fits, fits_acked, fits_end, fits_got, fits_outcome, fits_spent, fits_try, is_none, keep, may_follow, other_plan, reads_now, rests, stop_of, unfit_act, writes_now}
-use Rattle.broker_core.specs.Tasks.{task_with}
-use Rattle.broker_core.specs.Tests.{is_task}
+use Rattle.broker_core.specs.Fits.{fits_acked, fits_got, fits_outcome, reads_now, writes_now}
 use Rattle.broker_laws.proofs.TestLemmas.{and-both, and-left, is_task-is}
-use Rattle.broker_core.specs.Sound.{Started}
-use Rattle.broker_laws.specs.Fits.{EndFits, FitsBook, IsTidy, MayTry, OpenAt}
-use Rattle.serial_model.specs.Questions.{Tree}
+use Rattle.broker_laws.specs.Fits.{OpenAt}
 
 pub if-true : (e f : Bool) → f ≡ true → (if e then f else true) ≡ true
 if-true true f h = h

@@ -2,19 +2,10 @@
 use Rattle.std.proofs.Common.{◌≡◌, ℕ, ◌==◌, nat_lt, Bool, true, false, length, List, [], ◌∷◌, ◌++◌, refl, sym, ◌∙◌, subst, Option, Some, None, if◌then◌else◌}
 use Rattle.std.proofs.lemmas.Bool.{eq-eqb}
 use Rattle.std.specs.List.{slice_get}
-use Rattle.pseudo_time.specs.StampParts.{StampParts}
-use Rattle.broker_core.specs.Tasks.{Task}
-use Rattle.effect_form.specs.declared.effects.Effect.{Effect}
+use Rattle.broker_laws.proofs.Names.{StampParts, Task, Effect, Outcome, Act, Book, Try, book, close, enter, finish, front, gain, if_open, last_try, on_act, on_front, on_try, open_front, open_of, open_try, tries_of, add_if, calls_again, counts, fits, fits_end, fits_spent, fits_try, has_ended, is_none, keep, may_follow, rests, task_with, is_task, Answer, Got, Stored, Tree}
 use Rattle.effect_form.specs.declared.effects.Effect.TheVariants as effect
-use Rattle.effect_form.specs.declared.outcomes.Outcome.{Outcome}
 use Rattle.effect_form.specs.declared.outcomes.Outcome.TheVariants as outcome
-use Rattle.broker_core.specs.Book.{Act, Book, Try, book, close, enter, finish, front, gain, if_open, last_try, on_act, on_front, on_try, open_front, open_of, open_try, tries_of}
-use Rattle.broker_core.specs.Fits.{add_if, calls_again, counts, fits, fits_end, fits_spent, fits_try, has_ended, is_none, keep, may_follow, rests}
-use Rattle.broker_core.specs.Tasks.{task_with}
-use Rattle.broker_core.specs.Tests.{is_task}
 use Rattle.broker_laws.proofs.TestLemmas.{and-left, and-right}
-use Rattle.script_meaning.specs.Meaning.{Answer, Got, Stored}
-use Rattle.serial_model.specs.Questions.{Tree}
 
 ended_or_none : Option Try → Bool
 ended_or_none None = true

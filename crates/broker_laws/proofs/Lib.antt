@@ -18,3 +18,4 @@ pub mod TestLemmas
 pub mod Tries
 pub mod TurnLemmas
 pub mod WaitLemmas
+pub mod Names

@@ -2,18 +2,11 @@
 use Rattle.std.proofs.Common.{◌≡◌, ℕ, ◌+◌, ◌<◌, ◌≤◌, max, nat_lt, Bool, true, false, length, List, [], ◌∷◌, ◌++◌, refl, sym, subst, Some, None, if◌then◌else◌, arith}
 use Rattle.std.proofs.lemmas.Bool.{ltb-true}
 use Rattle.std.proofs.lemmas.Grind.{common_steps}
-use Rattle.effect_form.specs.declared.effects.Effect.{Effect}
+use Rattle.broker_laws.proofs.Names.{Effect, Outcome, Act, Book, Try, book, close, enter, gain, on_act, on_front, on_try, another, calls_again, next_clock, shown_to, EndFits, FitsBook, IsTidy, MayTry, Every, Got, Stored, Tree}
 use Rattle.effect_form.specs.declared.effects.Effect.TheVariants as effect
-use Rattle.effect_form.specs.declared.outcomes.Outcome.{Outcome}
 use Rattle.effect_form.specs.declared.outcomes.Outcome.TheVariants as outcome
-use Rattle.broker_core.specs.Book.{Act, Book, Try, book, close, enter, gain, on_act, on_front, on_try}
-use Rattle.broker_core.specs.Fits.{another, calls_again, next_clock, shown_to}
 use Rattle.broker_laws.proofs.TestLemmas.{and-right}
-use Rattle.broker_laws.specs.Fits.{EndFits, FitsBook, IsTidy, MayTry}
 use Rattle.broker_laws.specs.Posts.{IsWithinLimits}
-use Rattle.pseudo_time.specs.Lists.{Every}
-use Rattle.script_meaning.specs.Meaning.{Got, Stored}
-use Rattle.serial_model.specs.Questions.{Tree}
 
 no-clock : (last shown c : ℕ) → next_clock last shown ≡ None → c ≡ max last shown → 1099511627775 ≤ c
 no-clock last shown c h e = by (nat_lt (max last shown) 1099511627775) refl h

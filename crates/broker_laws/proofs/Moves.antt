@@ -1,26 +1,12 @@
 -- how one fitting effect moves the tries of the book, and what it leaves true
 use Rattle.std.proofs.Common.{◌≡◌, ℕ, ◌<◌, ◌≤◌, max, Bool, true, false, List, [], ◌∷◌, ◌++◌, refl, sym, ◌∙◌, ap, subst, Option, Some, None, ◌⊎◌, inl, inr, arith, append_assoc, append-nil, if◌then◌else◌}
-use Rattle.pseudo_time.specs.StampParts.{StampParts}
-use Rattle.pseudo_time.specs.TimeParts.{TimeParts}
-use Rattle.effect_form.specs.declared.effects.Effect.{Effect}
+use Rattle.broker_laws.proofs.Names.{StampParts, TimeParts, Effect, Outcome, Message, NodeId, Act, Book, Try, book, close, enter, find, finish, gain, if_open, new_try, on_front, on_try, open_front, open_of, tries, tries_of, stop_of, EndFits, EndsBy, FitsBook, FitsLog, IsAsked, IsTidy, MayTry, Clocks, Distinct, IsAskOf, IsBelow, IsKnown, IsLater, MayCommit, PostHolds, same_stamp-is, Every, same_stamp, Answer, Asks, Got, Over, Request, Stored, Tree, stop, Grew}
 use Rattle.effect_form.specs.declared.effects.Effect.TheVariants as effect
-use Rattle.effect_form.specs.declared.outcomes.Outcome.{Outcome}
 use Rattle.effect_form.specs.declared.outcomes.Outcome.TheVariants as outcome
-use Rattle.message_form.specs.declared.messages.Message.{Message}
 use Rattle.message_form.specs.declared.messages.Message.TheVariants as message
-use Rattle.pseudo_time.specs.declared.nodes.NodeId.{NodeId}
 use Rattle.value_form.specs.declared.endings.Ending.TheVariants as ending
-use Rattle.broker_core.specs.Book.{Act, Book, Try, book, close, enter, find, finish, gain, if_open, new_try, on_front, on_try, open_front, open_of, tries, tries_of}
-use Rattle.broker_core.specs.Fits.{stop_of}
 use Rattle.broker_laws.proofs.TestLemmas.{same_stamp-below}
-use Rattle.broker_laws.specs.Fits.{EndFits, EndsBy, FitsBook, FitsLog, IsAsked, IsTidy, MayTry}
-use Rattle.broker_laws.specs.Posts.{Clocks, Distinct, IsAskOf, IsBelow, IsCommitOf, IsKnown, IsLater, MayCommit, PostHolds}
-use Rattle.pseudo_time.proofs.OrderLemmas.{same_stamp-is}
-use Rattle.pseudo_time.specs.Lists.{Every}
-use Rattle.pseudo_time.specs.Order.{same_stamp}
-use Rattle.script_meaning.specs.Meaning.{Answer, Asks, Got, Over, Request, Stored}
-use Rattle.serial_model.specs.Questions.{Tree, stop}
-use Rattle.message_form.specs.Growth.{Grew}
+use Rattle.broker_laws.specs.Posts.{IsCommitOf}
 
 -- the open try is the first of all
 

@@ -1,42 +1,15 @@
 -- after a message that is heard, the request that stands is a new one
 use Rattle.std.proofs.Common.{◌≡◌, ℕ, zero, suc, ◌+◌, ◌<◌, ◌≤◌, ◌==◌, Bool, true, false, ◌&&◌, ◌||◌, length, List, [], ◌∷◌, ◌++◌, refl, sym, ◌∙◌, ap, subst, Option, Some, None, ◌⊎◌, inl, inr, if◌then◌else◌, arith, length-append}
-use Rattle.pseudo_time.specs.StampParts.{StampParts}
-use Rattle.pseudo_time.specs.TimeParts.{TimeParts}
-use Rattle.broker_core.specs.Tasks.{Task}
-use Rattle.pseudo_time.specs.declared.decisions.Decision.{Decision}
+use Rattle.broker_laws.proofs.Names.{StampParts, TimeParts, Task, Decision, Effect, Outcome, Message, NodeId, Out, Post, Act, Book, Try, book, close, enter, finish, front, gain, if_open, last_try, new_try, on_act, on_front, on_try, open_front, open_of, open_try, time_of, tries_of, is_none, keep, stop_of, Answered, Begun, Decided, News, Over_there, Refusal, decided_commit, decided_early, news, row, when, Asking, Closing, Finishing, Idle, Opening, Refused, Stage, Stopping, by_stop, is_asking, is_closed, is_finished, is_settled, no_answer, stage, stage_of, standing, broker, repository, is_stamp, is_time, Desk, Take, desk_turn, fuel, hears, note, note_if, reply, say, send, settle_up, state, all_effects, Heard, Reply, Adds, Hears, Ignored, EndFits, FitsBook, IsTidy, MayTry, Clocks, IsBelow, TurnHolds, same_stamp-self, Every, same_stamp, same_time, Answer, Asks, Got, Over, Stop, Stored, ToRead, ToWrite, Tree}
 use Rattle.pseudo_time.specs.declared.decisions.Decision.TheVariants as decision
-use Rattle.effect_form.specs.declared.effects.Effect.{Effect}
 use Rattle.effect_form.specs.declared.effects.Effect.TheVariants as effect
-use Rattle.effect_form.specs.declared.outcomes.Outcome.{Outcome}
 use Rattle.effect_form.specs.declared.outcomes.Outcome.TheVariants as outcome
-use Rattle.message_form.specs.declared.messages.Message.{Message}
 use Rattle.message_form.specs.declared.messages.Message.TheVariants as message
-use Rattle.pseudo_time.specs.declared.nodes.NodeId.{NodeId}
-use Rattle.message_form.specs.declared.turns.Out.{Out}
-use Rattle.message_form.specs.Posts.{Post}
 use Rattle.value_form.specs.declared.endings.Ending.TheVariants as ending
-use Rattle.broker_core.specs.Book.{Act, Book, Try, book, close, enter, finish, front, gain, if_open, last_try, new_try, on_act, on_front, on_try, open_front, open_of, open_try, time_of, tries_of}
-use Rattle.broker_core.specs.Fits.{is_none, keep, stop_of}
-use Rattle.broker_core.specs.Rows.{Answered, Begun, Decided, News, Over_there, Refusal, decided_commit, decided_early, news, row, when}
-use Rattle.broker_core.specs.Stages.{Asking, Closing, Finishing, Idle, Opening, Refused, Stage, Stopping, by_stop, is_asking, is_closed, is_finished, is_settled, no_answer, stage, stage_of, standing}
-use Rattle.pseudo_time.specs.Nodes.{broker}
-use Rattle.broker_core.specs.Tests.{is_stamp, is_time}
-use Rattle.broker_core.specs.Turns.{Desk, Take, desk_turn, fuel, hears, note, note_if, reply, say, send, settle_up, state, all_effects}
-use Rattle.broker_core.specs.declared.heards.Heard.{Heard}
-use Rattle.broker_core.specs.declared.replies.Reply.{Reply}
-use Rattle.broker_core.specs.declared.replies.Reply.TheVariants.{Adds, Hears, Ignored}
 use Rattle.broker_laws.proofs.Desks.{Good, OwedOk, ReplyOk, StageOk, last-first, news-came, note-state, open-first, owed-ok, row-ok, stage-ok}
 use Rattle.broker_laws.proofs.Kept.{kept}
 use Rattle.broker_laws.proofs.Moves.{clocks, grown, if-open}
 use Rattle.broker_laws.proofs.TestLemmas.{and-right, same_time-self}
-use Rattle.broker_laws.specs.Fits.{EndFits, FitsBook, IsTidy, MayTry}
-use Rattle.broker_laws.specs.Posts.{Clocks, IsBelow}
-use Rattle.broker_laws.specs.Works.{TurnHolds}
-use Rattle.pseudo_time.proofs.OrderLemmas.{same_stamp-self}
-use Rattle.pseudo_time.specs.Lists.{Every}
-use Rattle.pseudo_time.specs.Order.{same_stamp, same_time}
-use Rattle.script_meaning.specs.Meaning.{Answer, Asks, Got, Over, Stop, Stored, ToRead, ToWrite}
-use Rattle.serial_model.specs.Questions.{Tree}
 
 -- the open try after one effect
 open-gain : (x : Answer) (t : Try) (acts : List Act) → open_of (on_try (gain x) acts) ≡ Some t → (u : Try) × (open_of acts ≡ Some u) × (gain x u ≡ t)
@@ -193,90 +166,29 @@ module _ (script : List ℕ → Tree) (me : ℕ) where
     says : (b : Book) (h : Heard) → Says b h (stage script run b h)
     says b h = if-says b h (b.run == run) (stage_of script h (open_try b) (last_try b)) Idle (λ k. of-says b h (open_try b) (last_try b) refl) (λ k. tt)
 
-    -- the same message, at another stage
-    abbrev msg : Message → Option Out → Message
-    msg m None = m
-    msg m (Some o) = o.message
-
-    OpeningOf : StampParts → Stage → Type 0
-    OpeningOf s Idle = ⊥
-    OpeningOf s (Refused t) = ⊥
-    OpeningOf s (Opening t) = t.stamp ≡ s
-    OpeningOf s x = ⊥
-
-    begin-same : (st : Stage) (n : NodeId) (s : StampParts) (k : ℕ) → standing st ≡ Some (record { to = n; message = message.Begin s k }) → OpeningOf s st
-    unfolding OpeningOf
-    begin-same Idle n s k e = cc
-    begin-same (Refused t) n s k e = let m : message.Withdraw t.stamp ≡ message.Begin s k = ap (λ o. msg (message.Begin s k) o) e in cc
-    begin-same (Opening t) n s k e = let m : message.Begin t.stamp t.task.timeout ≡ message.Begin s k = ap (λ o. msg (message.Begin s k) o) e in cc
-    begin-same (Asking t (ToRead o)) n s k e = let m : message.Read (time_of t) o ≡ message.Begin s k = ap (λ x. msg (message.Begin s k) x) e in cc
-    begin-same (Asking t (ToWrite o v)) n s k e = let m : message.Write (time_of t) o v ≡ message.Begin s k = ap (λ x. msg (message.Begin s k) x) e in cc
-    begin-same (Finishing t) n s k e = let m : message.Commit t.stamp ≡ message.Begin s k = ap (λ o. msg (message.Begin s k) o) e in cc
-    begin-same (Stopping t o) n s k e = cc
-    begin-same (Closing t) n s k e = let m : message.Withdraw t.stamp ≡ message.Begin s k = ap (λ o. msg (message.Begin s k) o) e in cc
-
-    AskingOf : TimeParts → Stage → Type 0
+    -- the stage at which the message stands
+    abbrev AskingOf : TimeParts → Stage → Type 0
     AskingOf x (Asking t q) = time_of t ≡ x
-    AskingOf x (Finishing t) = ⊥
-    AskingOf x (Stopping t o) = ⊥
-    AskingOf x (Closing t) = ⊥
-    AskingOf x e = ⊥
+    AskingOf x _ = ⊥
 
-    FinishingOf : StampParts → Stage → Type 0
-    FinishingOf s (Finishing t) = t.stamp ≡ s
-    FinishingOf s (Stopping t o) = ⊥
-    FinishingOf s (Closing t) = ⊥
-    FinishingOf s x = ⊥
+    abbrev StageOf : Message → Stage → Type 0
+    StageOf (message.Begin s k) (Opening t) = t.stamp ≡ s
+    StageOf (message.Read x o) st = AskingOf x st
+    StageOf (message.Write x o v) st = AskingOf x st
+    StageOf (message.Commit s) (Finishing t) = t.stamp ≡ s
+    StageOf (message.Withdraw s) (Refused t) = t.stamp ≡ s
+    StageOf (message.Withdraw s) (Closing t) = t.stamp ≡ s
+    StageOf m st = ⊥
 
-    WithdrawOf : StampParts → Stage → Type 0
-    WithdrawOf s Idle = ⊥
-    WithdrawOf s (Refused t) = t.stamp ≡ s
-    WithdrawOf s (Closing t) = t.stamp ≡ s
-    WithdrawOf s x = ⊥
-
-    read-same : (st : Stage) (n : NodeId) (x : TimeParts) (o : _) → standing st ≡ Some (record { to = n; message = message.Read x o }) → AskingOf x st
-    unfolding AskingOf
-    read-same Idle n x o e = cc
-    read-same (Refused t) n x o e = let m : message.Withdraw t.stamp ≡ message.Read x o = ap (λ y. msg (message.Read x o) y) e in cc
-    read-same (Opening t) n x o e = let m : message.Begin t.stamp t.task.timeout ≡ message.Read x o = ap (λ y. msg (message.Read x o) y) e in cc
-    read-same (Asking t (ToRead p)) n x o e = let m : message.Read (time_of t) p ≡ message.Read x o = ap (λ y. msg (message.Read x o) y) e in cc
-    read-same (Asking t (ToWrite p w)) n x o e = let m : message.Write (time_of t) p w ≡ message.Read x o = ap (λ y. msg (message.Read x o) y) e in cc
-    read-same (Finishing t) n x o e = let m : message.Commit t.stamp ≡ message.Read x o = ap (λ y. msg (message.Read x o) y) e in cc
-    read-same (Stopping t p) n x o e = cc
-    read-same (Closing t) n x o e = let m : message.Withdraw t.stamp ≡ message.Read x o = ap (λ y. msg (message.Read x o) y) e in cc
-
-    write-same : (st : Stage) (n : NodeId) (x : TimeParts) (o : _) (v : _) → standing st ≡ Some (record { to = n; message = message.Write x o v }) → AskingOf x st
-    unfolding AskingOf
-    write-same Idle n x o v e = cc
-    write-same (Refused t) n x o v e = let m : message.Withdraw t.stamp ≡ message.Write x o v = ap (λ y. msg (message.Write x o v) y) e in cc
-    write-same (Opening t) n x o v e = let m : message.Begin t.stamp t.task.timeout ≡ message.Write x o v = ap (λ y. msg (message.Write x o v) y) e in cc
-    write-same (Asking t (ToRead p)) n x o v e = let m : message.Read (time_of t) p ≡ message.Write x o v = ap (λ y. msg (message.Write x o v) y) e in cc
-    write-same (Asking t (ToWrite p w)) n x o v e = let m : message.Write (time_of t) p w ≡ message.Write x o v = ap (λ y. msg (message.Write x o v) y) e in cc
-    write-same (Finishing t) n x o v e = let m : message.Commit t.stamp ≡ message.Write x o v = ap (λ y. msg (message.Write x o v) y) e in cc
-    write-same (Stopping t p) n x o v e = cc
-    write-same (Closing t) n x o v e = let m : message.Withdraw t.stamp ≡ message.Write x o v = ap (λ y. msg (message.Write x o v) y) e in cc
-
-    commit-same : (st : Stage) (n : NodeId) (s : StampParts) → standing st ≡ Some (record { to = n; message = message.Commit s }) → FinishingOf s st
-    unfolding FinishingOf
-    commit-same Idle n s e = cc
-    commit-same (Refused t) n s e = let m : message.Withdraw t.stamp ≡ message.Commit s = ap (λ y. msg (message.Commit s) y) e in cc
-    commit-same (Opening t) n s e = let m : message.Begin t.stamp t.task.timeout ≡ message.Commit s = ap (λ y. msg (message.Commit s) y) e in cc
-    commit-same (Asking t (ToRead p)) n s e = let m : message.Read (time_of t) p ≡ message.Commit s = ap (λ y. msg (message.Commit s) y) e in cc
-    commit-same (Asking t (ToWrite p w)) n s e = let m : message.Write (time_of t) p w ≡ message.Commit s = ap (λ y. msg (message.Commit s) y) e in cc
-    commit-same (Finishing t) n s e = let m : message.Commit t.stamp ≡ message.Commit s = ap (λ y. msg (message.Commit s) y) e in cc
-    commit-same (Stopping t p) n s e = cc
-    commit-same (Closing t) n s e = let m : message.Withdraw t.stamp ≡ message.Commit s = ap (λ y. msg (message.Commit s) y) e in cc
-
-    withdraw-same : (st : Stage) (n : NodeId) (s : StampParts) → standing st ≡ Some (record { to = n; message = message.Withdraw s }) → WithdrawOf s st
-    unfolding WithdrawOf
-    withdraw-same Idle n s e = cc
-    withdraw-same (Refused t) n s e = let m : message.Withdraw t.stamp ≡ message.Withdraw s = ap (λ y. msg (message.Withdraw s) y) e in cc
-    withdraw-same (Opening t) n s e = let m : message.Begin t.stamp t.task.timeout ≡ message.Withdraw s = ap (λ y. msg (message.Withdraw s) y) e in cc
-    withdraw-same (Asking t (ToRead p)) n s e = let m : message.Read (time_of t) p ≡ message.Withdraw s = ap (λ y. msg (message.Withdraw s) y) e in cc
-    withdraw-same (Asking t (ToWrite p w)) n s e = let m : message.Write (time_of t) p w ≡ message.Withdraw s = ap (λ y. msg (message.Withdraw s) y) e in cc
-    withdraw-same (Finishing t) n s e = let m : message.Commit t.stamp ≡ message.Withdraw s = ap (λ y. msg (message.Withdraw s) y) e in cc
-    withdraw-same (Stopping t p) n s e = cc
-    withdraw-same (Closing t) n s e = let m : message.Withdraw t.stamp ≡ message.Withdraw s = ap (λ y. msg (message.Withdraw s) y) e in cc
+    stage-of : (st : Stage) (o : Out) → standing st ≡ Some o → StageOf o.message st
+    stage-of Idle o e = cc
+    stage-of (Refused t) o e = let q : record { to = repository t.stamp.home; message = message.Withdraw t.stamp } ≡ o = cc e in subst (λ (z : Out). StageOf z.message (Refused t)) q refl
+    stage-of (Opening t) o e = let q : record { to = repository t.stamp.home; message = message.Begin t.stamp t.task.timeout } ≡ o = cc e in subst (λ (z : Out). StageOf z.message (Opening t)) q refl
+    stage-of (Asking t (ToRead p)) o e = let q : record { to = repository p.repository; message = message.Read (time_of t) p } ≡ o = cc e in subst (λ (z : Out). StageOf z.message (Asking t (ToRead p))) q refl
+    stage-of (Asking t (ToWrite p w)) o e = let q : record { to = repository p.repository; message = message.Write (time_of t) p w } ≡ o = cc e in subst (λ (z : Out). StageOf z.message (Asking t (ToWrite p w))) q refl
+    stage-of (Finishing t) o e = let q : record { to = repository t.stamp.home; message = message.Commit t.stamp } ≡ o = cc e in subst (λ (z : Out). StageOf z.message (Finishing t)) q refl
+    stage-of (Stopping t p) o e = cc
+    stage-of (Closing t) o e = let q : record { to = repository t.stamp.home; message = message.Withdraw t.stamp } ≡ o = cc e in subst (λ (z : Out). StageOf z.message (Closing t)) q refl
 
     -- what blocks the old request
     Never : ℕ → Type 0
@@ -319,14 +231,12 @@ module _ (script : List ℕ → Tree) (me : ℕ) where
     unfolding Never
     open-clash b t u e k p = p.1 u e k
 
-    no-begin : (b : Book) (h : Heard) (t : Try) (st : Stage) → StageOk script me run acts b st → Says b h st → (h.begun ≡ Some t.stamp) ⊎ Past Never t.stamp b → OpeningOf t.stamp st → ⊥
-    unfolding OpeningOf
-    no-begin b h t (Opening u) ok sa k e = elim k [ inl w ↦ stamp-clash h.begun t.stamp u.stamp w e sa | inr p ↦ open-clash b t u ok e p ]
-    no-begin b h t x ok sa k e = e
+    no-begin : (b : Book) (h : Heard) (t : Try) (st : Stage) → StageOk script me run acts b st → Says b h st → (h.begun ≡ Some t.stamp) ⊎ Past Never t.stamp b → (k : ℕ) → StageOf (message.Begin t.stamp k) st → ⊥
+    no-begin b h t (Opening u) ok sa k n e = elim k [ inl w ↦ stamp-clash h.begun t.stamp u.stamp w e sa | inr p ↦ open-clash b t u ok e p ]
+    no-begin b h t x ok sa k n e = e
 
     no-ask : (b : Book) (h : Heard) (t : Try) (st : Stage) → StageOk script me run acts b st → Says b h st →
         (h.ended ≡ Some (time_of t)) ⊎ Past (λ n. length t.answers + 1 ≤ n) t.stamp b → AskingOf (time_of t) st → ⊥
-    unfolding AskingOf
     no-ask b h t (Asking u q) ok sa k e =
         elim k [
           | inl w ↦ time-clash h.ended (time_of t) (time_of u) w e sa
@@ -335,14 +245,12 @@ module _ (script : List ℕ → Tree) (me : ℕ) where
         ]
     no-ask b h t x ok sa k e = e
 
-    no-commit : (b : Book) (t : Try) (st : Stage) → StageOk script me run acts b st → Past Never t.stamp b → FinishingOf t.stamp st → ⊥
-    unfolding FinishingOf
+    no-commit : (b : Book) (t : Try) (st : Stage) → StageOk script me run acts b st → Past Never t.stamp b → StageOf (message.Commit t.stamp) st → ⊥
     no-commit b t (Finishing u) ok p e = open-clash b t u ok.0 e p
     no-commit b t x ok p e = e
 
     no-withdraw : (b : Book) (h : Heard) (t : Try) (st : Stage) → StageOk script me run acts b st → Says b h st → Past Never t.stamp b →
-        (h.closed ≡ Some t.stamp) ⊎ Sure t.stamp b → WithdrawOf t.stamp st → ⊥
-    unfolding WithdrawOf
+        (h.closed ≡ Some t.stamp) ⊎ Sure t.stamp b → StageOf (message.Withdraw t.stamp) st → ⊥
     no-withdraw b h t (Refused u) ok sa p k e = open-clash b t u ok e p
     no-withdraw b h t (Closing u) ok sa p k e =
         elim k [
@@ -356,12 +264,12 @@ module _ (script : List ℕ → Tree) (me : ℕ) where
         (o : Out) → standing st ≡ Some o → standing new ≡ Some o → ⊥
     blocked-new Idle h b new ok sa k o e w = cc
     blocked-new (Stopping t x) h b new ok sa k o e w = cc
-    blocked-new (Opening t) h b new ok sa k o e w = no-begin b h t new ok sa k (begin-same new _ _ _ (w ∙ sym e))
-    blocked-new (Asking t (ToRead x)) h b new ok sa k o e w = no-ask b h t new ok sa k (read-same new _ _ _ (w ∙ sym e))
-    blocked-new (Asking t (ToWrite x v)) h b new ok sa k o e w = no-ask b h t new ok sa k (write-same new _ _ _ _ (w ∙ sym e))
-    blocked-new (Finishing t) h b new ok sa k o e w = no-commit b t new ok k (commit-same new _ _ (w ∙ sym e))
-    blocked-new (Refused t) h b new ok sa k o e w = no-withdraw b h t new ok sa k.0 (inr k.1) (withdraw-same new _ _ (w ∙ sym e))
-    blocked-new (Closing t) h b new ok sa k o e w = no-withdraw b h t new ok sa k.1 (inl k.0) (withdraw-same new _ _ (w ∙ sym e))
+    blocked-new (Opening t) h b new ok sa k o e w = no-begin b h t new ok sa k t.task.timeout (stage-of new _ (w ∙ sym e))
+    blocked-new (Asking t (ToRead x)) h b new ok sa k o e w = no-ask b h t new ok sa k (stage-of new _ (w ∙ sym e))
+    blocked-new (Asking t (ToWrite x v)) h b new ok sa k o e w = no-ask b h t new ok sa k (stage-of new _ (w ∙ sym e))
+    blocked-new (Finishing t) h b new ok sa k o e w = no-commit b t new ok k (stage-of new _ (w ∙ sym e))
+    blocked-new (Refused t) h b new ok sa k o e w = no-withdraw b h t new ok sa k.0 (inr k.1) (stage-of new _ (w ∙ sym e))
+    blocked-new (Closing t) h b new ok sa k o e w = no-withdraw b h t new ok sa k.1 (inl k.0) (stage-of new _ (w ∙ sym e))
 
     -- a message that is heard blocks the old request
     open-clock : (b : Book) (t : Try) → Clocks me b → open_try b ≡ Some t → t.stamp.clock ≤ b.clock

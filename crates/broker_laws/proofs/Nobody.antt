@@ -1,18 +1,6 @@
 -- A broker asks nobody for a decision.
 use Rattle.std.proofs.Common.{ℕ, zero, suc, true, List, [], ◌∷◌, Option, Some, None}
-use Rattle.pseudo_time.specs.Lists.{Every}
-use Rattle.pseudo_time.proofs.ListLemmas.{every-append}
-use Rattle.effect_form.specs.declared.effects.Effect.{Effect}
-use Rattle.message_form.specs.declared.turns.Out.{Out}
-use Rattle.script_meaning.specs.Meaning.{ToRead, ToWrite}
-use Rattle.serial_model.specs.Questions.{Tree}
-use Rattle.broker_core.specs.declared.replies.Reply.{Reply}
-use Rattle.broker_core.specs.declared.replies.Reply.TheVariants.{Ignored, Hears, Adds}
-use Rattle.broker_core.specs.Tasks.{Task}
-use Rattle.broker_core.specs.Owed.{owed}
-use Rattle.broker_core.specs.Rows.{row, news}
-use Rattle.broker_core.specs.Stages.{Stage, Idle, Refused, Opening, Asking, Finishing, Stopping, Closing, stage, standing}
-use Rattle.broker_core.specs.Turns.{Desk, Input, Go, Hear, Take, fuel, hears, note, note_if, send, state, settle_up, say, reply, desk_turn}
+use Rattle.broker_laws.proofs.Names.{Every, every-append, Effect, Out, ToRead, ToWrite, Tree, Reply, Ignored, Hears, Adds, Task, owed, row, news, Stage, Idle, Refused, Opening, Asking, Finishing, Stopping, Closing, stage, standing, Desk, Input, Go, Hear, Take, fuel, hears, note, note_if, send, state, settle_up, say, reply, desk_turn}
 use Rattle.broker_laws.specs.Works.{AsksNobody}
 
 abbrev AskNobody : List Out → Type 0

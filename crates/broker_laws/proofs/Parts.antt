@@ -1,19 +1,7 @@
 -- a turn depends on the whole log and on what was heard; what it gives is added
 use Rattle.std.proofs.Common.{◌≡◌, ℕ, zero, suc, true, List, [], ◌∷◌, ◌++◌, refl, sym, ◌∙◌, ap, subst, Option, Some, None, append_assoc, append-nil}
-use Rattle.broker_core.specs.Tasks.{Task}
-use Rattle.effect_form.specs.declared.effects.Effect.{Effect}
-use Rattle.message_form.specs.declared.turns.Out.{Out}
-use Rattle.broker_core.specs.Book.{book}
-use Rattle.broker_core.specs.Fits.{keep}
-use Rattle.broker_core.specs.Owed.{owed}
-use Rattle.broker_core.specs.Rows.{news, row}
-use Rattle.broker_core.specs.Stages.{stage, standing}
-use Rattle.broker_core.specs.Turns.{Desk, Go, Hear, Input, Take, desk_turn, fuel, hears, note, note_if, reply, say, send, settle_up, state, all_effects}
-use Rattle.broker_core.specs.declared.heards.Heard.{Heard}
-use Rattle.broker_core.specs.declared.replies.Reply.{Reply}
-use Rattle.broker_core.specs.declared.replies.Reply.TheVariants.{Adds, Hears, Ignored}
+use Rattle.broker_laws.proofs.Names.{Task, Effect, Out, book, keep, owed, news, row, stage, standing, Desk, Go, Hear, Input, Take, desk_turn, fuel, hears, note, note_if, reply, say, send, settle_up, state, all_effects, Heard, Reply, Adds, Hears, Ignored, Tree}
 use Rattle.broker_laws.specs.Works.{afresh, joined}
-use Rattle.serial_model.specs.Questions.{Tree}
 
 module _ (script : List ℕ → Tree) (me run : ℕ) (acts : List Task) where
   -- x began at the whole log of d

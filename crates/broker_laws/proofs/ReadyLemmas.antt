@@ -1,15 +1,10 @@
 -- a log is ready exactly where opening it gives no fault
 use Rattle.std.proofs.Common.{◌≡◌, ℕ, ◌==◌, nat_lt, Bool, true, false, ◌&&◌, List, [], ◌∷◌, refl, sym, subst, Option, Some, None, if◌then◌else◌, arith}
 use Rattle.std.proofs.lemmas.Grind.{common_steps}
-use Rattle.broker_core.specs.Tasks.{Task}
-use Rattle.effect_form.specs.declared.effects.Effect.{Effect}
+use Rattle.broker_laws.proofs.Names.{Task, Effect, Outcome, Book, book, close, enter, add_if, counts, first_some, fits, keep, other_plan, unfit_act, IsReady, Tree}
 use Rattle.effect_form.specs.declared.effects.Effect.TheVariants as effect
-use Rattle.effect_form.specs.declared.outcomes.Outcome.{Outcome}
 use Rattle.effect_form.specs.declared.outcomes.Outcome.TheVariants as outcome
-use Rattle.broker_core.specs.Book.{Book, book, close, enter}
-use Rattle.broker_core.specs.Fits.{add_if, counts, first_some, fits, keep, other_plan, plan_fault, resume_fault, unfit_act}
-use Rattle.broker_laws.specs.Fits.{IsReady}
-use Rattle.serial_model.specs.Questions.{Tree}
+use Rattle.broker_core.specs.Fits.{plan_fault, resume_fault}
 use Rattle.broker_core.specs.declared.resume_faults.ResumeFault.{ResumeFault}
 use Rattle.broker_core.specs.declared.resume_faults.ResumeFault.TheVariants as fault
 

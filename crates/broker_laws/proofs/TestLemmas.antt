@@ -1,12 +1,9 @@
 -- What the tests of equality say.
 use Rattle.std.proofs.Common.{◌≡◌, ℕ, ◌<◌, ◌==◌, Bool, true, false, ◌&&◌, List, [], ◌∷◌, refl, ap, Option, Some, None, arith}
 use Rattle.std.proofs.lemmas.Bool.{eqb-true, eq-eqb}
-use Rattle.pseudo_time.specs.StampParts.{StampParts}
-use Rattle.pseudo_time.specs.Order.{same_stamp, same_time}
-use Rattle.pseudo_time.specs.TimeParts.{TimeParts}
-use Rattle.pseudo_time.proofs.OrderLemmas.{same_stamp-is, same_time-of}
-use Rattle.broker_core.specs.Tasks.{Task}
-use Rattle.broker_core.specs.Tests.{same_bytes, same_task, is_task}
+use Rattle.broker_laws.proofs.Names.{StampParts, same_stamp, same_time, TimeParts, same_stamp-is, Task, is_task}
+use Rattle.pseudo_time.proofs.OrderLemmas.{same_time-of}
+use Rattle.broker_core.specs.Tests.{same_bytes, same_task}
 
 pub and-left : (a b : Bool) → (a && b) ≡ true → a ≡ true
 and-left true b h = refl

@@ -1,19 +1,11 @@
 -- what holds of every try of a log with a past: its answers were asked for, they and its End came in messages
 use Rattle.std.proofs.Common.{◌≡◌, ℕ, ◌+◌, length, List, [], ◌∷◌, ◌++◌, refl, sym, ◌∙◌, ap, subst, Option, Some, None, ◌⊎◌, inl, inr}
-use Rattle.pseudo_time.specs.StampParts.{StampParts}
-use Rattle.effect_form.specs.declared.effects.Effect.{Effect}
+use Rattle.broker_laws.proofs.Names.{StampParts, Effect, Outcome, Post, Act, Book, Try, book, close, enter, finish, gain, new_try, on_try, open_of, open_try, tries, tries_of, EndFits, EndsBy, FitsBook, IsAsked, IsTidy, MayTry, AnswerCame, EndCame, RestsOn, HaveCauses, OfOpen, at, Every, Answer, Got, Stored, Tree, stop}
 use Rattle.effect_form.specs.declared.effects.Effect.TheVariants as effect
-use Rattle.effect_form.specs.declared.outcomes.Outcome.{Outcome}
 use Rattle.effect_form.specs.declared.outcomes.Outcome.TheVariants as outcome
-use Rattle.message_form.specs.Posts.{Post}
 use Rattle.broker_laws.proofs.Moves.Moved.{same, tried, gained, ended}
-use Rattle.broker_core.specs.Book.{Act, Book, Try, book, close, enter, finish, gain, new_try, on_try, open_of, open_try, tries, tries_of}
 use Rattle.broker_laws.proofs.Moves.{Moved, at-open, clocks, moved}
-use Rattle.broker_laws.specs.Fits.{EndFits, EndsBy, FitsBook, IsAsked, IsTidy, MayTry}
-use Rattle.broker_laws.specs.Posts.{AnswerCame, AreKinds, EndCame, RestsOn, HaveCauses, IsFitting, IsPlayed, IsProven, OfOpen, at}
-use Rattle.pseudo_time.specs.Lists.{Every}
-use Rattle.script_meaning.specs.Meaning.{Answer, Got, Stored}
-use Rattle.serial_model.specs.Questions.{Tree, stop}
+use Rattle.broker_laws.specs.Posts.{AreKinds, IsFitting, IsPlayed, IsProven}
 
 pub no-split : (pre post : List Answer) (a : Answer) → [] ≡ pre ++ (a ∷ post) → ⊥
 no-split [] post a e = cc e

@@ -2,34 +2,14 @@
 use Rattle.std.proofs.Common.{inl, ◌≡◌, ℕ, zero, suc, ◌-◌, ◌≤◌, nat_lt, true, false, length, take, drop, List, [], ◌∷◌, ◌++◌, refl, sym, ◌∙◌, ap, subst, Option, Some, None, arith, append_assoc}
 use Rattle.std.proofs.lemmas.List.{take-append-drop}
 use Rattle.std.proofs.lemmas.Grind.{common_steps}
-use Rattle.broker_core.specs.Tasks.{Task}
-use Rattle.effect_form.specs.declared.effects.Effect.{Effect}
+use Rattle.broker_laws.proofs.Names.{Task, Effect, Outcome, Message, NodeId, Out, Post, Book, Try, book, close, enter, open_try, keep, other_plan, unfit_act, news, nothing_heard, stage, broker, Desk, Go, Hear, Input, Take, desk_turn, fuel, hears, note, note_if, reply, say, send, settle_up, state, all_effects, Heard, Reply, Adds, Hears, Ignored, FitsBook, FitsLog, IsReady, IsTidy, AnswerCame, EndCame, RestsOn, HasCome, HaveCauses, OfOpen, IsRested, TurnHolds, Answer, Got, Stored, Tree, Grew}
 use Rattle.effect_form.specs.declared.effects.Effect.TheVariants as effect
-use Rattle.effect_form.specs.declared.outcomes.Outcome.{Outcome}
 use Rattle.effect_form.specs.declared.outcomes.Outcome.TheVariants as outcome
-use Rattle.message_form.specs.declared.messages.Message.{Message}
-use Rattle.pseudo_time.specs.declared.nodes.NodeId.{NodeId}
-use Rattle.message_form.specs.declared.turns.Out.{Out}
-use Rattle.message_form.specs.Posts.{Post}
-use Rattle.broker_core.specs.Book.{Book, Try, book, close, enter, open_try}
-use Rattle.broker_core.specs.Fits.{keep, other_plan, unfit_act}
-use Rattle.broker_core.specs.Rows.{news}
-use Rattle.broker_core.specs.Stages.{nothing_heard, stage}
-use Rattle.pseudo_time.specs.Nodes.{broker}
-use Rattle.broker_core.specs.Turns.{Desk, Go, Hear, Input, Take, desk_turn, fuel, hears, note, note_if, reply, say, send, settle_up, state, all_effects}
-use Rattle.broker_core.specs.declared.heards.Heard.{Heard}
-use Rattle.broker_core.specs.declared.replies.Reply.{Reply}
-use Rattle.broker_core.specs.declared.replies.Reply.TheVariants.{Adds, Hears, Ignored}
 use Rattle.broker_laws.proofs.Desks.{OwedOk, ReplyOk, news-came, note-state, owed-ok, row-ok, stage-ok}
 use Rattle.broker_laws.proofs.Fuel.{all-settled}
 use Rattle.broker_laws.proofs.Kept.{first-none, kept}
 use Rattle.broker_laws.proofs.Moves.{cut, grown}
-use Rattle.broker_laws.specs.Fits.{FitsBook, FitsLog, IsReady, IsTidy}
-use Rattle.broker_laws.specs.Posts.{AnswerCame, EndCame, RestsOn, HasCome, HaveCauses, OfOpen}
-use Rattle.broker_laws.specs.Works.{Added, IsRested, TurnHolds, crash, gate}
-use Rattle.script_meaning.specs.Meaning.{Answer, Got, Stored}
-use Rattle.serial_model.specs.Questions.{Tree}
-use Rattle.message_form.specs.Growth.{Grew}
+use Rattle.broker_laws.specs.Works.{Added, crash, gate}
 use Rattle.pseudo_time.proofs.ListLemmas.{has-left}
 
 module _ (script : List ℕ → Tree) (me : ℕ) where

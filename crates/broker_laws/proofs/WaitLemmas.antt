@@ -1,18 +1,7 @@
 -- A new try and a request come only after what they wait for came.
 use Rattle.std.proofs.Common.{◌≡◌, ℕ, List, [], Some, inl, inr, refl}
-use Rattle.message_form.specs.declared.messages.Message.{Message}
+use Rattle.broker_laws.proofs.Names.{Message, Post, Out, Tree, Task, Book, book, keep, news, nothing_heard, stage, standing, Desk, Input, Go, Hear, Take, state, desk_turn, HasCome, MayInput}
 use Rattle.message_form.specs.declared.messages.Message.TheVariants as message
-use Rattle.message_form.specs.Posts.{Post}
-use Rattle.message_form.specs.declared.turns.Out.{Out}
-use Rattle.serial_model.specs.Questions.{Tree}
-use Rattle.broker_core.specs.Tasks.{Task}
-use Rattle.broker_core.specs.Book.{Book, book}
-use Rattle.broker_core.specs.Fits.{keep}
-use Rattle.broker_core.specs.Rows.{news}
-use Rattle.broker_core.specs.Stages.{nothing_heard, stage, standing}
-use Rattle.broker_core.specs.Turns.{Desk, Input, Go, Hear, Take, state, desk_turn}
-use Rattle.broker_laws.specs.Posts.{HasCome}
-use Rattle.broker_laws.specs.Works.{MayInput}
 use Rattle.broker_laws.specs.Waits.{BegunCame, DecidedCame, Waits, OutSound, IsNoEnded, IsCalm}
 use Rattle.broker_laws.proofs.BookTurns.{Tells, take-sound, go-sound, hear-sound, standing-sound}
 

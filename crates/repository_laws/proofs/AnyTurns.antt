@@ -4,44 +4,13 @@ use Rattle.std.proofs.lemmas.Bool.{false≢true}
 use Rattle.std.specs.List.{filter}
 use Rattle.std.specs.Map.{remove_entry}
 use Rattle.std.specs.BTreeMap.{insert_entry, is_at}
-use Rattle.pseudo_time.specs.StampParts.{StampParts}
-use Rattle.pseudo_time.specs.TimeParts.{TimeParts, time_cmp}
-use Rattle.pseudo_time.specs.Lists.{Every}
-use Rattle.pseudo_time.specs.Order.{same_stamp}
-use Rattle.pseudo_time.specs.declared.decisions.Decision.{Decision}
+use Rattle.repository_laws.proofs.Names.{StampParts, TimeParts, time_cmp, Every, same_stamp, Decision, NodeId, every-append, every-map, has-left, ObjectId, Value, Effect, Message, Post, WasSent, RecordState, Unknown, Decided, ReadStep, Answer, Wait, LaterRead, WriteStep, read_step, stands_written, write_step, is_settled, read-below, later-read, later-version, and-left, and-right, eq-from, HeldRead, Asker, every-filter, every-remove, every-put, Hand, Mind, note, now, send, broker, repository, ask_again, asks, expire, expire_all, expire_as, on_moment, waited, due, accepts, ask_as, begin_as, close_as, hold, is_broker_of, learn_as, on_ask, on_begin, on_close, on_learn, on_message, on_read, on_write, read_as, read_known, release, reread, row, tell_askers, tells, unhold, waits_for, write_as, hand_at, ReadSent, WriteSent, HeldHolds}
 use Rattle.pseudo_time.specs.declared.decisions.Decision.TheVariants as decision
-use Rattle.pseudo_time.specs.declared.nodes.NodeId.{NodeId}
-use Rattle.pseudo_time.proofs.ListLemmas.{every-append, every-map, has-left}
-use Rattle.value_form.specs.declared.objects.ObjectId.{ObjectId}
-use Rattle.value_form.specs.declared.values.Value.{Value}
-use Rattle.effect_form.specs.declared.effects.Effect.{Effect}
 use Rattle.effect_form.specs.declared.effects.Effect.TheVariants as effect
-use Rattle.message_form.specs.declared.messages.Message.{Message}
 use Rattle.message_form.specs.declared.messages.Message.TheVariants as message
-use Rattle.message_form.specs.Posts.{Post, WasSent}
-use Rattle.commit_record.specs.declared.states.RecordState.{RecordState}
-use Rattle.commit_record.specs.declared.states.RecordState.TheVariants.{Unknown, Decided}
-use Rattle.object_history.specs.declared.steps.ReadStep.{ReadStep}
-use Rattle.object_history.specs.declared.steps.ReadStep.TheVariants.{Answer, Wait, LaterRead}
-use Rattle.object_history.specs.declared.steps.WriteStep.{WriteStep}
 use Rattle.object_history.specs.declared.steps.WriteStep.TheVariants as write
-use Rattle.object_history.specs.Answers.{read_step, stands_written, write_step}
-use Rattle.object_history.specs.History.{is_settled}
-use Rattle.object_history.proofs.AnswerLemmas.{read-below, later-read, later-version}
-use Rattle.object_history.proofs.BoolLemmas.{and-left, and-right}
-use Rattle.object_history.proofs.ObjectLemmas.{eq-from}
-use Rattle.repository_core.specs.declared.waits.HeldRead.{HeldRead}
-use Rattle.repository_core.specs.declared.waits.Asker.{Asker}
-use Rattle.repository_core.proofs.HeldLemmas.{every-filter, every-remove, every-put}
-use Rattle.repository_core.specs.Hands.{Hand, Mind, note, now, send}
-use Rattle.pseudo_time.specs.Nodes.{broker, repository}
-use Rattle.repository_core.specs.Hearing.{ask_again, asks, expire, expire_all, expire_as, on_moment, waited}
-use Rattle.repository_log.specs.Expiries.{due}
 use Rattle.repository_core.specs.Logs.{is_commit, known, marks, record_of}
-use Rattle.repository_core.specs.Rows.{accepts, ask_as, begin_as, close_as, hold, is_broker_of, learn_as, on_ask, on_begin, on_close, on_learn, on_message, on_read, on_write, read_as, read_known, release, reread, row, tell_askers, tells, unhold, waits_for, write_as}
-use Rattle.repository_core.specs.Turns.{hand_at}
 use Rattle.repository_laws.specs.AnyLogs.{Refuses, RefusesRightly}
-use Rattle.repository_laws.specs.Facts.{ReadSent, WriteSent, HeldHolds}
 use Rattle.repository_laws.proofs.Posts.{later-stays, later-more}
 use Rattle.repository_laws.proofs.Turns.{broker-is, once-now, sent-by}
 

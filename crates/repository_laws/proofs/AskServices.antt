@@ -6,24 +6,13 @@ use Rattle.std.specs.BTreeSet.{insert_key}
 use Rattle.std.specs.Ordering.{match_ordering, nat_cmp, ordering_then}
 use Rattle.std.specs.declared.cmp.Ordering.{Ordering}
 use Rattle.std.specs.declared.cmp.Ordering.TheVariants.{Less, Equal, Greater}
-use Rattle.pseudo_time.specs.Lists.{Has}
-use Rattle.pseudo_time.proofs.ListLemmas.{has-right}
-use Rattle.pseudo_time.specs.StampParts.{StampParts, stamp_cmp}
-use Rattle.pseudo_time.specs.Order.{same_stamp}
-use Rattle.pseudo_time.proofs.OrderLemmas.{same_stamp-of, stamp_cmp-exact}
-use Rattle.pseudo_time.specs.declared.decisions.Decision.{Decision}
-use Rattle.commit_record.specs.declared.states.RecordState.{RecordState}
+use Rattle.repository_laws.proofs.Names.{Has, has-right, StampParts, same_stamp, same_stamp-of, Decision, RecordState, Effect, or_else, Asker, Hand, asker_cmp, now, repository, is_commit, record_of, ask_as, on_ask, on_message, tell_of}
+use Rattle.pseudo_time.specs.StampParts.{stamp_cmp}
+use Rattle.pseudo_time.proofs.OrderLemmas.{stamp_cmp-exact}
 use Rattle.commit_record.specs.declared.states.RecordState.TheVariants as state
-use Rattle.effect_form.specs.declared.effects.Effect.{Effect}
 use Rattle.effect_form.specs.declared.effects.Effect.TheVariants as effect
 use Rattle.message_form.specs.declared.messages.Message.TheVariants as message
-use Rattle.object_history.specs.History.{or_else}
-use Rattle.repository_core.specs.declared.waits.Asker.{Asker}
-use Rattle.repository_core.specs.Hands.{Hand, asker_cmp, now}
-use Rattle.pseudo_time.specs.Nodes.{repository}
-use Rattle.repository_log.specs.Logs.{decision_of, first_begin, is_commit, record_from, record_of}
-use Rattle.repository_core.specs.Rows.{ask_as, on_ask, on_message}
-use Rattle.repository_laws.specs.Waits.{tell_of}
+use Rattle.repository_log.specs.Logs.{decision_of, first_begin, record_from}
 
 -- a Begin makes a record
 begins-first : (l : List Effect) (s : StampParts) (d : ℕ) → Has (effect.Begin s d) l → first_begin l s ≡ None → ⊥

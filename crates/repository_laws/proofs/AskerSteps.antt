@@ -7,44 +7,13 @@ use Rattle.std.specs.BTreeSet.{insert_key}
 use Rattle.std.specs.Ordering.{match_ordering}
 use Rattle.std.specs.declared.cmp.Ordering.{Ordering}
 use Rattle.std.specs.declared.cmp.Ordering.TheVariants.{Less, Equal, Greater}
-use Rattle.pseudo_time.specs.Lists.{Has}
-use Rattle.pseudo_time.proofs.ListLemmas.{has-left, has-right}
-use Rattle.pseudo_time.specs.StampParts.{StampParts}
-use Rattle.pseudo_time.specs.TimeParts.{TimeParts}
-use Rattle.pseudo_time.specs.Order.{same_stamp}
-use Rattle.pseudo_time.proofs.OrderLemmas.{same_stamp-is, same_stamp-of}
-use Rattle.pseudo_time.specs.declared.decisions.Decision.{Decision}
+use Rattle.repository_laws.proofs.Names.{Has, has-left, has-right, StampParts, TimeParts, same_stamp, same_stamp-is, same_stamp-of, Decision, NodeId, RecordState, ObjectId, Value, Effect, Message, Out, ReadStep, Answer, Wait, LaterRead, WriteStep, is_settled, read_step, stands_written, write_step, eq-from, and-right, HeldRead, Asker, Hand, asker_cmp, note, now, send, repository, is_commit, known, marks, record_of, accepts, ask_as, begin_as, close_as, hold, learn_as, on_ask, on_begin, on_close, on_learn, on_message, on_read, on_write, read_as, read_known, release, reread, row, tell_askers, tells, unhold, waits_for, write_as, is_repository, unknown-unsettled, due, ask_again, asks, expire, expire_all, expire_as, on_moment, waited, tell_of}
 use Rattle.pseudo_time.specs.declared.decisions.Decision.TheVariants as decision
-use Rattle.pseudo_time.specs.declared.nodes.NodeId.{NodeId}
-use Rattle.commit_record.specs.declared.states.RecordState.{RecordState}
 use Rattle.commit_record.specs.declared.states.RecordState.TheVariants as state
-use Rattle.value_form.specs.declared.objects.ObjectId.{ObjectId}
-use Rattle.value_form.specs.declared.values.Value.{Value}
-use Rattle.effect_form.specs.declared.effects.Effect.{Effect}
 use Rattle.effect_form.specs.declared.effects.Effect.TheVariants as effect
-use Rattle.message_form.specs.declared.messages.Message.{Message}
 use Rattle.message_form.specs.declared.messages.Message.TheVariants as message
-use Rattle.message_form.specs.declared.turns.Out.{Out}
-use Rattle.object_history.specs.declared.steps.ReadStep.{ReadStep}
-use Rattle.object_history.specs.declared.steps.ReadStep.TheVariants.{Answer, Wait, LaterRead}
-use Rattle.object_history.specs.declared.steps.WriteStep.{WriteStep}
 use Rattle.object_history.specs.declared.steps.WriteStep.TheVariants as write
-use Rattle.object_history.specs.History.{is_settled}
-use Rattle.object_history.specs.Answers.{read_step, stands_written, write_step}
-use Rattle.object_history.proofs.ObjectLemmas.{eq-from}
-use Rattle.object_history.proofs.BoolLemmas.{and-right}
-use Rattle.repository_core.specs.declared.waits.HeldRead.{HeldRead}
-use Rattle.repository_core.specs.declared.waits.Asker.{Asker}
-use Rattle.repository_core.specs.Hands.{Hand, asker_cmp, note, now, send}
-use Rattle.pseudo_time.specs.Nodes.{repository}
-use Rattle.repository_log.specs.Logs.{is_commit, known, marks, record_of}
-use Rattle.repository_core.specs.Rows.{accepts, ask_as, begin_as, close_as, hold, learn_as, on_ask, on_begin, on_close, on_learn, on_message, on_read, on_write, read_as, read_known, release, reread, row, tell_askers, tells, unhold, waits_for, write_as}
-use Rattle.pseudo_time.specs.Nodes.{is_repository}
-use Rattle.repository_log.proofs.LogLemmas.{unknown-unsettled}
 use Rattle.repository_laws.proofs.Logs.{decide-settles}
-use Rattle.repository_log.specs.Expiries.{due}
-use Rattle.repository_core.specs.Hearing.{ask_again, asks, expire, expire_all, expire_as, on_moment, waited}
-use Rattle.repository_laws.specs.Waits.{tell_of}
 use Rattle.repository_laws.proofs.HeldLemmas.{filter-has, has-split}
 
 -- nothing of the askers has changed, and nothing was decided

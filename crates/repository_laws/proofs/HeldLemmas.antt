@@ -8,13 +8,8 @@ use Rattle.std.specs.BTreeMap.{insert_entry, is_at}
 use Rattle.std.specs.Ordering.{match_ordering, is_eq}
 use Rattle.std.specs.declared.cmp.Ordering.{Ordering}
 use Rattle.std.specs.declared.cmp.Ordering.TheVariants.{Less, Equal, Greater}
-use Rattle.pseudo_time.specs.Lists.{Every, Has}
-use Rattle.pseudo_time.specs.StampParts.{StampParts}
-use Rattle.pseudo_time.specs.TimeParts.{TimeParts, time_cmp}
-use Rattle.pseudo_time.specs.Order.{same_stamp}
+use Rattle.repository_laws.proofs.Names.{Every, Has, StampParts, TimeParts, time_cmp, same_stamp, HeldRead, waits_for}
 use Rattle.pseudo_time.proofs.OrderLemmas.{is_equal, time_cmp-exact}
-use Rattle.repository_core.specs.declared.waits.HeldRead.{HeldRead}
-use Rattle.repository_core.specs.Rows.{waits_for}
 
 -- ---- lists
 

@@ -2,24 +2,10 @@
 use Rattle.std.proofs.Common.{◌≡◌, ◌==◌, Bool, true, false, ◌||◌, not, List, [], ◌∷◌, refl, ◌∙◌, Option, Some, None, if◌then◌else◌}
 use Rattle.std.proofs.lemmas.Bool.{false≢true}
 use Rattle.std.specs.List.{filter}
-use Rattle.pseudo_time.specs.StampParts.{StampParts}
-use Rattle.pseudo_time.specs.TimeParts.{TimeParts}
-use Rattle.pseudo_time.specs.Order.{same_stamp}
+use Rattle.repository_laws.proofs.Names.{StampParts, TimeParts, same_stamp, NodeId, ObjectId, Effect, ReadStep, Answer, Wait, LaterRead, or_else, settle_of, read_step, HeldRead, Hand, note, now, send, repository, known, marks, hold, learn_as, on_learn, on_read, read_as, read_known, release, reread, unhold, waits_for}
 use Rattle.pseudo_time.proofs.OrderLemmas.{same_stamp-self}
-use Rattle.pseudo_time.specs.declared.nodes.NodeId.{NodeId}
-use Rattle.value_form.specs.declared.objects.ObjectId.{ObjectId}
-use Rattle.effect_form.specs.declared.effects.Effect.{Effect}
 use Rattle.effect_form.specs.declared.effects.Effect.TheVariants as effect
 use Rattle.message_form.specs.declared.messages.Message.TheVariants as message
-use Rattle.object_history.specs.declared.steps.ReadStep.{ReadStep}
-use Rattle.object_history.specs.declared.steps.ReadStep.TheVariants.{Answer, Wait, LaterRead}
-use Rattle.object_history.specs.History.{or_else, settle_of}
-use Rattle.object_history.specs.Answers.{read_step}
-use Rattle.repository_core.specs.declared.waits.HeldRead.{HeldRead}
-use Rattle.repository_core.specs.Hands.{Hand, note, now, send}
-use Rattle.pseudo_time.specs.Nodes.{repository}
-use Rattle.repository_log.specs.Logs.{known, marks}
-use Rattle.repository_core.specs.Rows.{hold, learn_as, on_learn, on_read, read_as, read_known, release, reread, unhold, waits_for}
 use Rattle.repository_laws.proofs.ReadSteps.{known-stretch}
 
 module _ (s : StampParts) where

@@ -10,3 +10,4 @@ pub mod ServedLemmas
 pub mod TurnLemmas
 pub mod Turns
 pub mod Whole
+pub mod Names

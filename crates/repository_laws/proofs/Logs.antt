@@ -1,30 +1,15 @@
 -- a repository's log
 use Rattle.std.proofs.Common.{◌≡◌, ◌≢◌, ℕ, Bool, true, false, List, [], ◌∷◌, ◌++◌, refl, sym, ◌∙◌, ap, subst, Option, Some, None, if◌then◌else◌, inl, inr}
 use Rattle.std.proofs.lemmas.Bool.{false≢true}
-use Rattle.pseudo_time.specs.StampParts.{StampParts}
-use Rattle.pseudo_time.specs.TimeParts.{TimeParts}
-use Rattle.value_form.specs.declared.objects.ObjectId.{ObjectId}
-use Rattle.value_form.specs.declared.values.Value.{Value}
-use Rattle.pseudo_time.specs.declared.decisions.Decision.{Decision}
-use Rattle.effect_form.specs.declared.effects.Effect.{Effect}
-use Rattle.effect_form.specs.declared.effects.Effect.TheVariants.{Put, Stretch, Begin, Decide, Learn, Run, Act, Try, Got, Acked, End, Mark, Whole}
+use Rattle.repository_laws.proofs.Names.{StampParts, TimeParts, ObjectId, Value, Decision, Effect, Put, Stretch, Decide, Learn, Unknown, Decided, or_else, settle_of, floor_of, read_step, read-below, same_stamp-is, same_stamp-of, Has, same_stamp, unknown-unsettled, FitsLog, IsTidy, IsTimely, Once, grew_keeps, Grew}
+use Rattle.effect_form.specs.declared.effects.Effect.TheVariants.{Begin, Run, Act, Try, Got, Acked, End, Mark, Whole}
 use Rattle.object_history.specs.declared.marks.Mark.TheVariants as mark
-use Rattle.commit_record.specs.declared.states.RecordState.TheVariants.{Unknown, Decided}
 use Rattle.object_history.proofs.ScanLemmas.{new-start, settled-kept}
 use Rattle.object_history.proofs.ViewLemmas.{viewed-kept}
 use Rattle.object_history.specs.declared.steps.ReadStep.TheVariants as read
-use Rattle.object_history.specs.History.{or_else, settle_of, floor_of}
-use Rattle.object_history.specs.Answers.{read_step}
-use Rattle.object_history.proofs.AnswerLemmas.{read-below}
 use Rattle.object_history.specs.Views.{Distinct, IsOnFloor, Viewed}
-use Rattle.pseudo_time.proofs.OrderLemmas.{same_stamp-is, same_stamp-of}
-use Rattle.pseudo_time.specs.Lists.{Has}
-use Rattle.pseudo_time.specs.Order.{same_stamp}
-use Rattle.repository_log.proofs.LogLemmas.{undecided, from-begin, from-decided, unknown-unsettled}
+use Rattle.repository_log.proofs.LogLemmas.{undecided, from-begin, from-decided}
 use Rattle.repository_core.specs.Logs.{decision_of, first_begin, is_commit, marks, record_of, as_decision}
-use Rattle.repository_laws.specs.Facts.{FitsLog, IsTidy, IsTimely, Once}
-use Rattle.message_form.proofs.GrowthLemmas.{grew_keeps}
-use Rattle.message_form.specs.Growth.{Grew}
 
 -- ----- records -----
 

@@ -1,21 +1,10 @@
 -- the facts of messages, of evidence and of held reads only grow
 use Rattle.std.proofs.Common.{ℕ, List, ◌∷◌, ◌++◌, inl, inr}
 use Rattle.pseudo_time.specs.declared.decisions.Decision.TheVariants as decision
-use Rattle.effect_form.specs.declared.effects.Effect.{Effect}
-use Rattle.effect_form.specs.declared.effects.Effect.TheVariants.{Put, Stretch, Decide, Learn}
-use Rattle.message_form.specs.declared.messages.Message.{Message}
+use Rattle.repository_laws.proofs.Names.{Effect, Put, Stretch, Decide, Learn, Message, NodeId, Post, TimeParts, ObjectId, HeldRead, has-left, Has, FitsLog, RestsOn, HeldHolds, PostHolds, grew_keeps, Grew}
 use Rattle.message_form.specs.declared.messages.Message.TheVariants as message
-use Rattle.pseudo_time.specs.declared.nodes.NodeId.{NodeId}
-use Rattle.message_form.specs.Posts.{Post}
-use Rattle.pseudo_time.specs.TimeParts.{TimeParts}
-use Rattle.value_form.specs.declared.objects.ObjectId.{ObjectId}
-use Rattle.repository_core.specs.declared.waits.HeldRead.{HeldRead}
 use Rattle.repository_laws.proofs.Logs.{settled-log, viewed-log, on-floor-log}
-use Rattle.pseudo_time.proofs.ListLemmas.{has-left}
-use Rattle.pseudo_time.specs.Lists.{Has}
-use Rattle.repository_laws.specs.Facts.{FitsLog, RestsOn, HeldHolds, WasReadLater, PostHolds}
-use Rattle.message_form.proofs.GrowthLemmas.{grew_keeps}
-use Rattle.message_form.specs.Growth.{Grew}
+use Rattle.repository_laws.specs.Facts.{WasReadLater}
 
 pub later-stays : (ever : List Post) (r : ℕ) (l : List Effect) (f : Effect) (o : ObjectId) (t e : TimeParts) → WasReadLater ever r l o t e → WasReadLater ever r (f ∷ l) o t e
 later-stays ever r l f o t e (inl p) = inl (p.0, inr p.1)

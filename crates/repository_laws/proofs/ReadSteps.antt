@@ -5,46 +5,22 @@ use Rattle.std.specs.Prelude.{nat_le}
 use Rattle.std.specs.List.{filter}
 use Rattle.std.specs.BTreeMap.{is_at}
 use Rattle.std.specs.BTreeSet.{insert_key}
-use Rattle.pseudo_time.specs.Lists.{Every, Has}
-use Rattle.pseudo_time.proofs.ListLemmas.{has-left, has-right, every-map, every-has}
-use Rattle.pseudo_time.specs.StampParts.{StampParts}
-use Rattle.pseudo_time.specs.TimeParts.{TimeParts, time_cmp}
-use Rattle.pseudo_time.specs.Order.{same_stamp, lt}
-use Rattle.pseudo_time.proofs.OrderLemmas.{same_stamp-is, same_stamp-of}
-use Rattle.pseudo_time.specs.declared.decisions.Decision.{Decision}
+use Rattle.repository_laws.proofs.Names.{Every, Has, has-left, has-right, every-map, StampParts, TimeParts, time_cmp, same_stamp, same_stamp-is, same_stamp-of, Decision, RecordState, Unknown, Decided, NodeId, ObjectId, Value, Effect, Message, Out, ReadStep, Answer, Wait, LaterRead, WriteStep, or_else, settle_of, is_settled, alive, floor_of, read_step, stands_written, write_step, and-left, HeldRead, Asker, Hand, asker_cmp, note, now, send, repository, is_commit, known, marks, record_of, accepts, ask_as, begin_as, close_as, hold, learn_as, on_ask, on_begin, on_close, on_learn, on_message, on_read, on_write, row, write_as, read_as, read_known, release, reread, tell_askers, tells, unhold, waits_for, due, ask_again, asks, expire, expire_all, expire_as, on_moment, waited, Waits, put-in, every-remove, every-put}
+use Rattle.pseudo_time.proofs.ListLemmas.{every-has}
+use Rattle.pseudo_time.specs.Order.{lt}
 use Rattle.pseudo_time.specs.declared.decisions.Decision.TheVariants as decision
-use Rattle.commit_record.specs.declared.states.RecordState.{RecordState}
-use Rattle.commit_record.specs.declared.states.RecordState.TheVariants.{Unknown, Decided}
-use Rattle.pseudo_time.specs.declared.nodes.NodeId.{NodeId}
-use Rattle.value_form.specs.declared.objects.ObjectId.{ObjectId}
-use Rattle.value_form.specs.declared.values.Value.{Value}
-use Rattle.effect_form.specs.declared.effects.Effect.{Effect}
 use Rattle.effect_form.specs.declared.effects.Effect.TheVariants as effect
-use Rattle.message_form.specs.declared.messages.Message.{Message}
 use Rattle.message_form.specs.declared.messages.Message.TheVariants as message
-use Rattle.message_form.specs.declared.turns.Out.{Out}
-use Rattle.object_history.specs.declared.steps.ReadStep.{ReadStep}
-use Rattle.object_history.specs.declared.steps.ReadStep.TheVariants.{Answer, Wait, LaterRead}
-use Rattle.object_history.specs.declared.steps.WriteStep.{WriteStep}
 use Rattle.object_history.specs.declared.steps.WriteStep.TheVariants as write
 use Rattle.object_history.specs.declared.marks.Mark.{Mark}
-use Rattle.object_history.specs.History.{or_else, Seen, settle_of, is_settled, alive, sees, floor_of}
-use Rattle.object_history.specs.Answers.{read_seen, read_from, read_step, needs_stretch, stands_written, write_step}
+use Rattle.object_history.specs.History.{Seen, sees}
+use Rattle.object_history.specs.Answers.{read_seen, read_from, needs_stretch}
 use Rattle.object_history.proofs.ScanLemmas.{standing, Standing, stands-has}
 use Rattle.object_history.proofs.StableLemmas.{scan-passes}
 use Rattle.object_history.proofs.Words.{Passes}
-use Rattle.object_history.proofs.BoolLemmas.{and-left}
-use Rattle.repository_core.specs.declared.waits.HeldRead.{HeldRead}
-use Rattle.repository_core.specs.declared.waits.Asker.{Asker}
-use Rattle.repository_core.specs.Hands.{Hand, asker_cmp, note, now, send}
-use Rattle.pseudo_time.specs.Nodes.{repository}
-use Rattle.repository_log.specs.Logs.{is_commit, known, marks, record_of}
-use Rattle.repository_core.specs.Rows.{accepts, ask_as, ask_for, begin_as, close_as, hold, learn_as, on_ask, on_begin, on_close, on_learn, on_message, on_read, on_write, row, write_as, read_as, read_known, release, reread, tell_askers, tells, unhold, waits_for}
+use Rattle.repository_core.specs.Rows.{ask_for}
 use Rattle.repository_laws.proofs.Logs.{put-logged}
-use Rattle.repository_log.specs.Expiries.{due}
-use Rattle.repository_core.specs.Hearing.{ask_again, asks, expire, expire_all, expire_as, on_moment, waited}
-use Rattle.repository_laws.specs.Waits.{Waits, ask_of}
-use Rattle.repository_core.proofs.HeldLemmas.{put-in, every-remove, every-put}
+use Rattle.repository_laws.specs.Waits.{ask_of}
 use Rattle.repository_laws.proofs.HeldLemmas.{or-split, has-split, every-passing, gone-or, kept-or, waits-put, waits-remove, waits-filter}
 
 -- a read that has to wait

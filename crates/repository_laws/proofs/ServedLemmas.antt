@@ -1,36 +1,13 @@
 -- A request is answered in its turn, or held.
 use Rattle.std.proofs.Common.{◌≡◌, ◌⊎◌, ℕ, ◌+◌, ◌==◌, Bool, true, false, ◌||◌, not, List, [], ◌∷◌, refl, sym, subst, Option, Some, None, if◌then◌else◌, inl, inr}
 use Rattle.std.specs.List.{filter}
-use Rattle.pseudo_time.specs.Order.{same_stamp}
-use Rattle.pseudo_time.specs.Nodes.{repository}
-use Rattle.pseudo_time.proofs.ListLemmas.{has-left, has-right}
+use Rattle.repository_laws.proofs.Names.{same_stamp, repository, has-left, has-right, Has, StampParts, TimeParts, Decision, NodeId, Value, Message, ObjectId, Out, RecordState, ReadStep, Answer, Wait, LaterRead, WriteStep, is_settled, read_step, stands_written, write_step, is_commit, known, marks, record_of, HeldRead, Asker, put-in, Hand, note, now, send, accepts, begin_as, close_as, hold, on_begin, on_close, on_message, on_read, on_write, read_as, read_known, release, reread, row, tell_askers, tells, unhold, waits_for, write_as, IsServed}
 use Rattle.pseudo_time.specs.declared.decisions.Decision.TheVariants as decision
-use Rattle.pseudo_time.specs.Lists.{Has}
-use Rattle.pseudo_time.specs.StampParts.{StampParts}
-use Rattle.pseudo_time.specs.TimeParts.{TimeParts}
-use Rattle.pseudo_time.specs.declared.decisions.Decision.{Decision}
-use Rattle.pseudo_time.specs.declared.nodes.NodeId.{NodeId}
-use Rattle.value_form.specs.declared.values.Value.{Value}
-use Rattle.message_form.specs.declared.messages.Message.{Message}
 use Rattle.message_form.specs.declared.messages.Message.TheVariants as message
-use Rattle.value_form.specs.declared.objects.ObjectId.{ObjectId}
 use Rattle.effect_form.specs.declared.effects.Effect.TheVariants as effect
-use Rattle.message_form.specs.declared.turns.Out.{Out}
-use Rattle.commit_record.specs.declared.states.RecordState.{RecordState}
 use Rattle.commit_record.specs.declared.states.RecordState.TheVariants as state
-use Rattle.object_history.specs.declared.steps.ReadStep.{ReadStep}
-use Rattle.object_history.specs.declared.steps.ReadStep.TheVariants.{Answer, Wait, LaterRead}
-use Rattle.object_history.specs.declared.steps.WriteStep.{WriteStep}
 use Rattle.object_history.specs.declared.steps.WriteStep.TheVariants as write
-use Rattle.object_history.specs.History.{is_settled}
-use Rattle.object_history.specs.Answers.{read_step, stands_written, write_step}
-use Rattle.repository_log.specs.Logs.{is_commit, known, marks, record_of}
-use Rattle.repository_core.specs.declared.waits.HeldRead.{HeldRead}
-use Rattle.repository_core.specs.declared.waits.Asker.{Asker}
-use Rattle.repository_core.proofs.HeldLemmas.{put-in}
-use Rattle.repository_core.specs.Hands.{Hand, note, now, send}
-use Rattle.repository_core.specs.Rows.{accepts, begin_as, close_as, hold, on_begin, on_close, on_message, on_read, on_write, read_as, read_known, release, reread, row, tell_askers, tells, unhold, waits_for, write_as}
-use Rattle.repository_laws.specs.Served.{IsAnswer, GetsAnswer, IsHeld, IsServed}
+use Rattle.repository_laws.specs.Served.{IsAnswer, GetsAnswer, IsHeld}
 
 -- ---- what a repository owes stays owed in its turn
 

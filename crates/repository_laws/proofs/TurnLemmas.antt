@@ -1,19 +1,9 @@
 -- What a whole turn keeps, by the steps of its kind.
 use Rattle.std.proofs.Common.{◌≡◌, ◌⊎◌, sym, ◌∙◌, ap, inl, inr}
-use Rattle.pseudo_time.specs.Lists.{Every, Has}
-use Rattle.pseudo_time.proofs.ListLemmas.{every-map}
-use Rattle.pseudo_time.specs.TimeParts.{TimeParts}
-use Rattle.pseudo_time.specs.declared.nodes.NodeId.{NodeId}
-use Rattle.value_form.specs.declared.objects.ObjectId.{ObjectId}
-use Rattle.message_form.specs.declared.messages.Message.{Message}
+use Rattle.repository_laws.proofs.Names.{Every, Has, every-map, TimeParts, NodeId, ObjectId, Message, Asker, HeldRead, Hand, now, hand_turn, Taking, Learning, Hearing, IsServed, Waits}
 use Rattle.message_form.specs.declared.messages.Message.TheVariants as message
-use Rattle.repository_core.specs.declared.waits.Asker.{Asker}
-use Rattle.repository_core.specs.declared.waits.HeldRead.{HeldRead}
-use Rattle.repository_core.specs.Hands.{Hand, now}
-use Rattle.repository_core.specs.Turns.{Input, hand_turn}
-use Rattle.repository_core.specs.Turns.Input.{Taking, Learning, Hearing}
-use Rattle.repository_laws.specs.Served.{IsServed}
-use Rattle.repository_laws.specs.Waits.{Waits, AreOf, IsOf, KeepsReads, AreOpen, IsKeptOrTold}
+use Rattle.repository_core.specs.Turns.{Input}
+use Rattle.repository_laws.specs.Waits.{AreOf, IsOf, KeepsReads, AreOpen, IsKeptOrTold}
 use Rattle.repository_laws.proofs.ReadSteps.{Serves, Keeps, Asks, begins, on-learn-keeps, on-message-keeps, on-moment-keeps}
 use Rattle.repository_laws.proofs.AskerSteps.{Askers, on-learn-askers, on-message-askers, on-moment-askers}
 

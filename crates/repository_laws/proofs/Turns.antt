@@ -2,50 +2,23 @@
 use Rattle.std.proofs.Common.{◌≡◌, ◌≢◌, ℕ, ◌+◌, ◌≤◌, Bool, true, false, List, [], ◌∷◌, ◌++◌, refl, sym, ◌∙◌, ap, subst, Option, Some, None, ◌==◌, ◌&&◌, ◌||◌, not, nat_le, if◌then◌else◌, inl, inr, arith}
 use Rattle.std.proofs.lemmas.Grind.{common_steps}
 use Rattle.std.proofs.lemmas.Bool.{false≢true}
-use Rattle.pseudo_time.specs.StampParts.{StampParts}
-use Rattle.pseudo_time.specs.TimeParts.{TimeParts, time_cmp}
-use Rattle.value_form.specs.declared.objects.ObjectId.{ObjectId}
-use Rattle.value_form.specs.declared.values.Value.{Value}
-use Rattle.pseudo_time.specs.declared.decisions.Decision.{Decision}
+use Rattle.repository_laws.proofs.Names.{StampParts, TimeParts, time_cmp, ObjectId, Value, Decision, Effect, Message, NodeId, NodeKind, Post, WasSent, RecordState, Unknown, Decided, ReadStep, Answer, Wait, LaterRead, WriteStep, HeldRead, Asker, read-below, later-read, later-version, and-left, and-right, eq-from, read_step, stands_written, write_step, alive, is_settled, settle_of, every-append, every-map, has-right, Every, Has, same_stamp, Hand, asker_cmp, note, now, send, broker, repository, is_repository, ask_again, asks, expire, expire_all, expire_as, on_moment, waited, due, accepts, ask_as, begin_as, close_as, hold, is_broker_of, learn_as, on_ask, on_begin, on_close, on_learn, on_message, on_read, on_write, read_as, read_known, release, reread, row, tell_askers, tells, unhold, waits_for, write_as, every-filter, every-remove, every-put, Once, FitsLog, HandHolds, RestsOn, HasCome, HeldHolds, IsBacked, IsDecidedAt, IsTidy, IsTimely, PostHolds, ReadSent, WriteSent}
 use Rattle.pseudo_time.specs.declared.decisions.Decision.TheVariants as decision
-use Rattle.effect_form.specs.declared.effects.Effect.{Effect}
 use Rattle.effect_form.specs.declared.effects.Effect.TheVariants as effect
-use Rattle.message_form.specs.declared.messages.Message.{Message}
 use Rattle.message_form.specs.declared.messages.Message.TheVariants as message
-use Rattle.pseudo_time.specs.declared.nodes.NodeId.{NodeId}
-use Rattle.pseudo_time.specs.declared.nodes.NodeKind.{NodeKind}
 use Rattle.pseudo_time.specs.declared.nodes.NodeKind.TheVariants as kind
-use Rattle.message_form.specs.Posts.{Post, WasSent}
-use Rattle.commit_record.specs.declared.states.RecordState.{RecordState}
-use Rattle.commit_record.specs.declared.states.RecordState.TheVariants.{Unknown, Decided}
-use Rattle.object_history.specs.declared.steps.ReadStep.{ReadStep}
-use Rattle.object_history.specs.declared.steps.ReadStep.TheVariants.{Answer, Wait, LaterRead}
-use Rattle.object_history.specs.declared.steps.WriteStep.{WriteStep}
 use Rattle.object_history.specs.declared.steps.WriteStep.TheVariants as write
-use Rattle.repository_core.specs.declared.waits.HeldRead.{HeldRead}
-use Rattle.repository_core.specs.declared.waits.Asker.{Asker}
 use Rattle.repository_laws.proofs.Logs.{unknown-begun, decided-stands, tidy-through, begin-home, decide-settles, on-floor-log, put-logged}
 use Rattle.repository_laws.proofs.Posts.{post-stays}
-use Rattle.object_history.proofs.AnswerLemmas.{put-stands, again-stands, answer-viewed, answer-on-floor, read-below, later-read, later-version}
-use Rattle.object_history.proofs.BoolLemmas.{and-left, and-right}
-use Rattle.object_history.proofs.ObjectLemmas.{eq-from}
-use Rattle.object_history.specs.Answers.{read_step, stands_written, write_step}
-use Rattle.object_history.specs.History.{alive, is_alive, is_settled, settle_of}
-use Rattle.pseudo_time.proofs.ListLemmas.{every-append, every-map, has-right}
-use Rattle.pseudo_time.specs.Lists.{Every, Has}
-use Rattle.pseudo_time.specs.Order.{same_stamp}
-use Rattle.repository_core.specs.Hands.{Hand, asker_cmp, note, now, send}
-use Rattle.pseudo_time.specs.Nodes.{broker, repository, is_broker, is_repository}
-use Rattle.repository_core.specs.Hearing.{ask_again, asks, expire, expire_all, expire_as, on_moment, waited}
-use Rattle.repository_log.specs.Expiries.{due}
+use Rattle.object_history.proofs.AnswerLemmas.{put-stands, again-stands, answer-viewed, answer-on-floor}
+use Rattle.object_history.specs.History.{is_alive}
+use Rattle.pseudo_time.specs.Nodes.{is_broker}
 use Rattle.repository_core.specs.Logs.{is_commit, known, marks, record_of}
-use Rattle.repository_core.specs.Rows.{accepts, ask_as, begin_as, close_as, hold, is_broker_of, learn_as, on_ask, on_begin, on_close, on_learn, on_message, on_read, on_write, read_as, read_known, release, reread, row, tell_askers, tells, unhold, waits_for, write_as}
-use Rattle.repository_core.proofs.HeldLemmas.{every-filter, every-remove, every-put}
 use Rattle.std.specs.List.{filter}
 use Rattle.std.specs.Map.{remove_entry}
 use Rattle.std.specs.BTreeMap.{insert_entry, is_at}
 use Rattle.std.specs.BTreeSet.{insert_key}
-use Rattle.repository_laws.specs.Facts.{Once, FitsLog, HandHolds, RestsOn, HasCome, HeldHolds, IsBacked, IsDecidedAt, IsTidy, IsTimely, PostHolds, ReadSent, WasClosed, WriteSent}
+use Rattle.repository_laws.specs.Facts.{WasClosed}
 
 pub broker-is : (n : ℕ) (from : NodeId) → is_broker_of n from ≡ true → from ≡ broker n
 broker-is n from h = go from.kind from.number (and-left (is_broker from.kind) _ h) (eq-from from.number n (and-right (is_broker from.kind) _ h))

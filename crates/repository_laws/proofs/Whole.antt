@@ -1,24 +1,10 @@
 -- A turn over the whole log, of which the durable one is a beginning.
 use Rattle.std.proofs.Common.{◌≡◌, ℕ, ◌==◌, Bool, true, false, List, [], ◌∷◌, ◌++◌, refl, sym, ap, subst, if◌then◌else◌}
-use Rattle.pseudo_time.specs.Lists.{Every, Has}
-use Rattle.pseudo_time.specs.StampParts.{StampParts}
-use Rattle.pseudo_time.specs.declared.nodes.NodeId.{NodeId}
-use Rattle.pseudo_time.specs.declared.nodes.NodeKind.{NodeKind}
+use Rattle.repository_laws.proofs.Names.{Every, Has, StampParts, NodeId, NodeKind, has-right, Effect, Message, Grew, Post, eq-from, Hand, Mind, on_message, on_learn, on_moment, hand_at, hand_turn, Taking, Learning, Hearing, FitsLog, PostHolds, IsDecidedAt, RestsOn, HandHolds, IsBacked, HasCome}
 use Rattle.pseudo_time.specs.declared.nodes.NodeKind.TheVariants.{Repository}
-use Rattle.pseudo_time.proofs.ListLemmas.{has-right}
-use Rattle.effect_form.specs.declared.effects.Effect.{Effect}
 use Rattle.effect_form.specs.declared.effects.Effect.TheVariants as effect
-use Rattle.message_form.specs.declared.messages.Message.{Message}
 use Rattle.message_form.specs.declared.messages.Message.TheVariants as message
-use Rattle.message_form.specs.Growth.{Grew}
-use Rattle.message_form.specs.Posts.{Post}
-use Rattle.object_history.proofs.ObjectLemmas.{eq-from, eqb-yes}
-use Rattle.repository_core.specs.Hands.{Hand, Mind}
-use Rattle.repository_core.specs.Rows.{on_message, on_learn}
-use Rattle.repository_core.specs.Hearing.{on_moment}
-use Rattle.repository_core.specs.Turns.{hand_at, hand_turn}
-use Rattle.repository_core.specs.Turns.Input.{Taking, Learning, Hearing}
-use Rattle.repository_laws.specs.Facts.{FitsLog, PostHolds, IsDecidedAt, RestsOn, HandHolds, IsBacked, HasCome}
+use Rattle.object_history.proofs.ObjectLemmas.{eqb-yes}
 use Rattle.repository_laws.specs.Givens.{IsGiven, Gives}
 use Rattle.repository_laws.proofs.Turns.{take-ok, on-learn-ok, hear-ok}
 

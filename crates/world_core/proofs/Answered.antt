@@ -4,40 +4,16 @@ use Rattle.std.proofs.lemmas.Bool.{eqb-true}
 use Rattle.std.specs.Prelude.{◌⊎◌, reverse}
 use Rattle.std.proofs.lemmas.List.{reverse-append}
 use Rattle.std.specs.List.{filter}
-use Rattle.pseudo_time.specs.Lists.{Every, Has}
-use Rattle.pseudo_time.proofs.ListLemmas.{every-append, every-map, every-has, has-left}
-use Rattle.pseudo_time.specs.TimeParts.{TimeParts}
-use Rattle.pseudo_time.specs.declared.nodes.NodeId.{NodeId}
-use Rattle.pseudo_time.specs.declared.nodes.NodeKind.{NodeKind}
-use Rattle.pseudo_time.specs.declared.nodes.NodeKind.TheVariants.{Repository, Broker}
-use Rattle.value_form.specs.declared.objects.ObjectId.{ObjectId}
-use Rattle.value_form.specs.declared.values.Value.{Value}
-use Rattle.value_form.specs.declared.acts.ActSpec.{ActSpec}
-use Rattle.effect_form.specs.declared.effects.Effect.{Effect}
-use Rattle.message_form.specs.declared.messages.Message.{Message}
+use Rattle.world_core.proofs.Names.{Every, Has, every-append, has-left, TimeParts, NodeId, NodeKind, Repository, Broker, ObjectId, Value, ActSpec, Effect, Message, Out, Post, Fate, same_node, WriteStep, floor_of, read_step, write_step, IsOnFloor, Tree, marks, accepts, Hand, now, HeldRead, Entry, Take, Go, Learn, Hear, Gate, Crash, Down, Tick, Mind, Input, Given, gives, repository, Going, Taking, Learning, Hearing, Base, Life, World, Sending, numbered, all_effects, after_input, took, hears, lives_on, life_after, names, leaving, sendings_after, step, start_world, walk_from, walk, sent_by, Rule, Meets}
+use Rattle.pseudo_time.proofs.ListLemmas.{every-map, every-has}
 use Rattle.message_form.specs.declared.messages.Message.TheVariants as message
-use Rattle.message_form.specs.declared.turns.Out.{Out}
-use Rattle.message_form.specs.Posts.{Post, posts}
-use Rattle.stream_port.specs.declared.fates.Fate.{Fate}
-use Rattle.pseudo_time.specs.Nodes.{same_node, kind_number, is_broker}
-use Rattle.object_history.specs.declared.steps.WriteStep.{WriteStep}
+use Rattle.message_form.specs.Posts.{posts}
+use Rattle.pseudo_time.specs.Nodes.{kind_number, is_broker}
 use Rattle.object_history.specs.declared.steps.WriteStep.TheVariants as write
-use Rattle.object_history.specs.History.{floor_of}
-use Rattle.object_history.specs.Answers.{read_step, write_step}
 use Rattle.object_history.specs.declared.steps.ReadStep.TheVariants as read
-use Rattle.object_history.specs.Views.{IsOnFloor}
-use Rattle.serial_model.specs.Questions.{Tree}
-use Rattle.repository_core.specs.Logs.{marks}
-use Rattle.repository_core.specs.Rows.{accepts, is_broker_of}
+use Rattle.repository_core.specs.Rows.{is_broker_of}
 use Rattle.repository_core.specs.Turns as turns
-use Rattle.repository_core.specs.Hands.{Hand, now}
-use Rattle.repository_core.specs.declared.waits.HeldRead.{HeldRead}
-use Rattle.world_core.specs.declared.entries.Entry.{Entry}
-use Rattle.world_core.specs.declared.entries.Entry.TheVariants.{Take, Go, Learn, Hear, Gate, Crash, Down, Tick}
-use Rattle.world_core.specs.Nodes.{Mind, Input, Given, gives, repository, broker, leaves}
-use Rattle.world_core.specs.Nodes.Input.{Going, Taking, Learning, Hearing}
-use Rattle.world_core.specs.Walks.{Base, Life, World, Sending, numbered, all_effects, after_input, took, hears, lives_on, life_after, names, leaving, sendings_after, step, start_world, walk_from, walk, sent_by}
-use Rattle.world_core.specs.Legal.{Rule, Meets}
+use Rattle.world_core.specs.Nodes.{broker, leaves}
 use Rattle.world_core.specs.Answered.{WasAnswered, WasRefused}
 use Rattle.world_core.proofs.Lives.{sent-grows}
 use Rattle.world_core.proofs.Refusals.{Says, Fine, OfRequest, Ok, on-message, on-learn, on-moment}

@@ -1,15 +1,7 @@
 -- Where nothing is due at a node, nothing is open.
 use Rattle.std.proofs.Common.{◌≡◌, ℕ, Bool, true, false, ◌&&◌, List, [], ◌∷◌, ◌++◌, if◌then◌else◌, refl, sym, ap, subst, ◌∙◌, Option, Some, None}
 use Rattle.std.proofs.lemmas.List.{append-nil}
-use Rattle.pseudo_time.specs.declared.nodes.NodeId.{NodeId}
-use Rattle.pseudo_time.specs.declared.nodes.NodeKind.{NodeKind}
-use Rattle.pseudo_time.specs.declared.nodes.NodeKind.TheVariants.{Repository, Broker}
-use Rattle.pseudo_time.specs.StampParts.{StampParts}
-use Rattle.world_core.specs.declared.entries.Entry.{Entry}
-use Rattle.world_core.specs.declared.entries.Entry.TheVariants.{Take, Go, Learn, Hear, Gate, Crash, Down, Tick}
-use Rattle.world_core.specs.Nodes.{Given, Mind, nothing_given, gives, kind_gives}
-use Rattle.world_core.specs.Nodes.Input.{Going, Learning}
-use Rattle.world_core.specs.Walks.{Base, Flags, Life, World, names, all_effects, after_input, with_given, lives_on, flagged, step, start_world, walk_from, walk}
+use Rattle.world_core.proofs.Names.{NodeId, NodeKind, Repository, Broker, StampParts, Entry, Take, Go, Learn, Hear, Gate, Crash, Down, Tick, Given, Mind, nothing_given, gives, kind_gives, Going, Learning, Base, Flags, Life, World, names, all_effects, after_input, with_given, lives_on, flagged, step, start_world, walk_from, walk}
 
 -- no effect and no message waits for a gate
 abbrev pub IsClosed : Life → Type 0

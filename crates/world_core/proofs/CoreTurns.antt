@@ -3,21 +3,15 @@ use Rattle.std.proofs.Common.{◌≡◌, ℕ, ◌++◌, List, [], reverse, refl,
 use Rattle.std.specs.Prelude.{IfOk, OnOk}
 use Rattle.std.specs.declared.alloc.AllocError.{AllocError}
 use Rattle.std.proofs.lemmas.List.{append-nil}
-use Rattle.pseudo_time.specs.declared.nodes.NodeId.{NodeId}
-use Rattle.pseudo_time.specs.declared.nodes.NodeKind.TheVariants.{Repository, Broker}
-use Rattle.value_form.specs.declared.acts.ActSpec.{ActSpec}
-use Rattle.effect_form.specs.declared.effects.Effect.{Effect}
+use Rattle.world_core.proofs.Names.{NodeId, Repository, Broker, ActSpec, Effect, Tree, Scripted, tasks, Mind, Input, gives, kind_gives, broker_gives, with_desk, nothing_given, Base}
 use Rattle.message_form.specs.declared.turns.Turn.{Turn}
 use Rattle.object_history.specs.declared.steps.HistoryFault.{HistoryFault}
-use Rattle.serial_model.specs.Questions.{Tree}
 use Rattle.repository_core.specs.Cores.{Core, given}
 use Rattle.repository_core.specs.Turns as turns
 use Rattle.broker_core.specs.Brokers.{Gives, turn_of}
 use Rattle.broker_core.specs.Parts.{BrokerParts}
-use Rattle.broker_core.specs.Tasks.{Scripted, tasks}
 use Rattle.broker_core.specs.Turns as desks
-use Rattle.world_core.specs.Nodes.{Mind, Input, gives, kind_gives, repository_gives, broker_gives, with_hands, with_desk, desk_after, nothing_given}
-use Rattle.world_core.specs.Walks.{Base}
+use Rattle.world_core.specs.Nodes.{repository_gives, with_hands, desk_after}
 use Rattle.world_core.specs.Cores.{IsRepository, IsBroker, RepositoryGave, BrokerGave}
 
 -- ---- which rules are a node's

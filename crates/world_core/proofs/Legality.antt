@@ -1,20 +1,10 @@
 -- Legal traces, their fronts, and one entry more.
 use Rattle.std.proofs.Common.{◌≡◌, ℕ, zero, suc, ◌+◌, ◌≤◌, Bool, true, false, List, [], ◌∷◌, ◌++◌, map, length, refl, sym, ap, subst, ◌∙◌, append_assoc, arith, if◌then◌else◌}
 use Rattle.std.proofs.lemmas.List.{append-nil, map-append, length-append, length-map}
-use Rattle.pseudo_time.specs.declared.nodes.NodeId.{NodeId}
-use Rattle.effect_form.specs.declared.effects.Effect.{Effect}
-use Rattle.message_form.specs.Posts.{Post}
-use Rattle.stream_port.specs.declared.fates.Asked.{Asked}
-use Rattle.stream_port.specs.declared.fates.Fate.{Fate}
-use Rattle.serial_model.specs.Questions.{Tree}
-use Rattle.plan_form.specs.declared.plans.Plan.{Plan}
-use Rattle.world_core.specs.declared.entries.Entry.{Entry}
+use Rattle.world_core.proofs.Names.{NodeId, Effect, Post, Asked, Fate, Tree, Plan, Entry, Trace, Base, Sending, World, sent_by, start_world, step, walk_from, walk, Scripted, Rule, Meets, Legal, base_of, fates_of, in_plan, Call, AreCalls, HasPast, log_left, logs_after}
 use Rattle.world_core.specs.declared.traces.Sent.{Sent}
-use Rattle.world_core.specs.declared.traces.Trace.{Trace}
-use Rattle.world_core.specs.Walks.{Base, Sending, World, sent_by, start_world, step, walk_from, walk}
-use Rattle.broker_core.specs.Tasks.{Scripted}
-use Rattle.world_core.specs.Legal.{AllReady, JustNodes, Rule, Meets, Legal, Numbered, base_of, post_of, fates_of, asked_of, in_plan}
-use Rattle.world_core.specs.Pasts.{Call, IsCall, AreCalls, HasPast, log_left, logs_after}
+use Rattle.world_core.specs.Legal.{AllReady, JustNodes, Numbered, post_of, asked_of}
+use Rattle.world_core.specs.Pasts.{IsCall}
 use Rattle.world_core.proofs.Lists.{map-front}
 use Rattle.world_core.proofs.Lives.{walk-append, walk-more, sent-walk}
 use Rattle.world_core.proofs.Rules.{rule-grown, meets-grown, meets-asks, meets-front, meets-more}

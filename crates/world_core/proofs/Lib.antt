@@ -11,3 +11,4 @@ pub mod PlanRangeLemmas
 pub mod Refusals
 pub mod Rules
 pub mod SameWorlds
+pub mod Names

@@ -1,21 +1,9 @@
 -- One reading for a plan and all plans of the past.
 use Rattle.std.proofs.Common.{◌≡◌, ℕ, Bool, true, false, List, [], ◌∷◌, ◌++◌, refl, ◌∙◌, ap, if◌then◌else◌, take}
-use Rattle.pseudo_time.specs.Lists.{Every, Has}
-use Rattle.pseudo_time.proofs.ListLemmas.{every-append, has-left, has-right}
-use Rattle.pseudo_time.specs.declared.nodes.NodeId.{NodeId}
-use Rattle.value_form.specs.declared.acts.ActSpec.{ActSpec}
-use Rattle.effect_form.specs.declared.effects.Effect.{Effect}
-use Rattle.stream_port.specs.declared.fates.Asked.{Asked}
-use Rattle.serial_model.specs.Questions.{Tree}
-use Rattle.plan_form.specs.declared.plans.Plan.{Plan}
-use Rattle.plan_form.specs.PlanTexts.{IsOfLanguage}
-use Rattle.broker_core.specs.Tasks.{Scripted}
-use Rattle.world_core.specs.declared.traces.Trace.{Trace}
-use Rattle.world_core.specs.Walks.{World}
-use Rattle.world_core.specs.Legal.{Legal, in_plan}
-use Rattle.world_core.specs.Pasts.{Call, AreCalls, HasPast, alike, logs_after, log_left, own_reading}
+use Rattle.world_core.proofs.Names.{Every, Has, every-append, has-left, NodeId, ActSpec, Effect, Asked, Tree, Plan, IsOfLanguage, Scripted, Trace, World, Legal, in_plan, Call, AreCalls, HasPast, logs_after, log_left, IsBrokerAct}
+use Rattle.pseudo_time.proofs.ListLemmas.{has-right}
+use Rattle.world_core.specs.Pasts.{alike, own_reading}
 use Rattle.broker_core.specs.Readings.{reading}
-use Rattle.broker_core.specs.Ledgers.{IsBrokerAct}
 use Rattle.broker_core.proofs.ReadingLemmas.{reads-all, reads-own}
 use Rattle.world_core.proofs.PlanRangeLemmas.{plan-acts}
 use Rattle.world_core.specs.Readings.{IsLegal, WereLeft}

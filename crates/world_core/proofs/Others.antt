@@ -1,11 +1,7 @@
 -- What entries of others leave of a node: its flags, and that it is behind.
 use Rattle.std.proofs.Common.{◌≡◌, ℕ, Bool, true, false, ◌&&◌, not, List, [], ◌∷◌, ◌++◌, cond, if◌then◌else◌, refl, sym, ap, subst, ◌∙◌, Option, Some, None, is_some}
 use Rattle.std.proofs.lemmas.List.Elements.{filter-append}
-use Rattle.pseudo_time.specs.declared.nodes.NodeId.{NodeId}
-use Rattle.pseudo_time.specs.Nodes.{same_node}
-use Rattle.world_core.specs.declared.entries.Entry.{Entry}
-use Rattle.world_core.specs.declared.entries.Entry.TheVariants.{Take, Go, Learn, Hear, Gate, Crash, Down, Tick}
-use Rattle.world_core.specs.Walks.{Base, World, Flags, names, own, flagged, flags_after, heard_after, last_after, step, start_world, walk_from, walk}
+use Rattle.world_core.proofs.Names.{NodeId, same_node, Entry, Take, Go, Learn, Hear, Gate, Crash, Down, Tick, Base, World, Flags, names, own, flagged, flags_after, heard_after, last_after, step, start_world, walk_from, walk}
 use Rattle.world_core.proofs.Lives.{walk-append}
 use Rattle.world_core.specs.Legal.{is_behind}
 

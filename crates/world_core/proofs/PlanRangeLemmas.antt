@@ -3,18 +3,13 @@ use Rattle.std.proofs.Common.{ℕ, ◌+◌, ◌≤◌, Bool, true, false, cond, 
 use Rattle.std.specs.Prelude.{◌==◌}
 use Rattle.std.specs.List.{filter}
 use Rattle.std.proofs.lemmas.List.Sums.{length-filter, count_by-le-length}
-use Rattle.pseudo_time.specs.Lists.{Every}
-use Rattle.value_form.specs.declared.acts.ActSpec.{ActSpec}
-use Rattle.value_form.specs.Mirror.{block}
-use Rattle.plan_form.specs.declared.plans.Plan.{Plan}
+use Rattle.world_core.proofs.Names.{Every, ActSpec, block, Plan, IsOfLanguage, IsBrokerAct, acts_of}
 use Rattle.plan_form.specs.PlanTexts as plans
-use Rattle.plan_form.specs.PlanTexts.{IsOfLanguage}
 use Rattle.plan_form.proofs.PlanRangeLemmas.{of-whole}
 use Rattle.serial_model.specs.Ranges.{BlockInRange}
-use Rattle.broker_core.specs.Ledgers.{IsBrokerAct, AreBrokerActs}
+use Rattle.broker_core.specs.Ledgers.{AreBrokerActs}
 use Rattle.broker_core.proofs.ReadingLemmas.{printable-up}
 use Rattle.serial_model.proofs.ScriptRangeLemmas.{printable-InRange}
-use Rattle.world_core.specs.Nodes.{acts_of}
 
 act-is : (repositories brokers k : ℕ) (act : ActSpec) → repositories ≤ 16 → 1 ≤ k → k ≤ 10000 → plans.IsAct repositories brokers k act → IsBrokerAct act
 act-is repositories brokers k act few low high is = record {

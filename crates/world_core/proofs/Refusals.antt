@@ -5,39 +5,28 @@ use Rattle.std.specs.Map.{remove_entry}
 use Rattle.std.specs.BTreeMap.{insert_entry, is_at}
 use Rattle.std.specs.BTreeSet.{insert_key}
 use Rattle.std.specs.List.{filter}
-use Rattle.pseudo_time.specs.Lists.{Every}
-use Rattle.pseudo_time.proofs.ListLemmas.{every-append}
-use Rattle.pseudo_time.specs.StampParts.{StampParts}
-use Rattle.pseudo_time.specs.TimeParts.{TimeParts, time_cmp}
+use Rattle.world_core.proofs.Names.{Every, every-append, StampParts, TimeParts, NodeId, ObjectId, Value, Effect, Message, Out, WriteStep, floor_of, read_step, write_step, IsOnFloor, HeldRead, marks, Hand, now, accepts}
+use Rattle.pseudo_time.specs.TimeParts.{time_cmp}
 use Rattle.pseudo_time.specs.Order.{same_stamp, lt}
 use Rattle.pseudo_time.specs.declared.decisions.Decision.{Decision}
 use Rattle.pseudo_time.specs.declared.decisions.Decision.TheVariants as decision
-use Rattle.pseudo_time.specs.declared.nodes.NodeId.{NodeId}
-use Rattle.value_form.specs.declared.objects.ObjectId.{ObjectId}
-use Rattle.value_form.specs.declared.values.Value.{Value}
-use Rattle.effect_form.specs.declared.effects.Effect.{Effect}
 use Rattle.effect_form.specs.declared.effects.Effect.TheVariants as effect
-use Rattle.message_form.specs.declared.messages.Message.{Message}
 use Rattle.message_form.specs.declared.messages.Message.TheVariants as message
-use Rattle.message_form.specs.declared.turns.Out.{Out}
 use Rattle.commit_record.specs.declared.states.RecordState.{RecordState}
 use Rattle.commit_record.specs.declared.states.RecordState.TheVariants as state
 use Rattle.object_history.specs.declared.steps.ReadStep.{ReadStep}
 use Rattle.object_history.specs.declared.steps.ReadStep.TheVariants as read
-use Rattle.object_history.specs.declared.steps.WriteStep.{WriteStep}
 use Rattle.object_history.specs.declared.steps.WriteStep.TheVariants as write
 use Rattle.object_history.specs.declared.marks.Mark.{Mark}
-use Rattle.object_history.specs.History.{Seen, settle_of, is_settled, sees, floor_of}
-use Rattle.object_history.specs.Answers.{needs_stretch, read_seen, read_from, read_step, write_step}
-use Rattle.object_history.specs.Views.{IsOnFloor}
+use Rattle.object_history.specs.History.{Seen, settle_of, is_settled, sees}
+use Rattle.object_history.specs.Answers.{needs_stretch, read_seen, read_from}
 use Rattle.repository_log.proofs.MarkLemmas.{floor-other}
 use Rattle.repository_core.proofs.HeldLemmas.{every-filter, every-remove, every-put}
-use Rattle.repository_core.specs.declared.waits.HeldRead.{HeldRead}
 use Rattle.repository_core.specs.declared.waits.Asker.{Asker}
-use Rattle.repository_core.specs.Logs.{is_commit, marks, known, record_of}
-use Rattle.repository_core.specs.Hands.{Hand, now, note, send, asker_cmp}
+use Rattle.repository_core.specs.Logs.{is_commit, known, record_of}
+use Rattle.repository_core.specs.Hands.{note, send, asker_cmp}
 use Rattle.pseudo_time.specs.Nodes.{repository}
-use Rattle.repository_core.specs.Rows.{unhold, hold, waits_for, ask_for, read_as, read_known, on_read, reread, release, tells, tell_askers, begin_as, on_begin, close_as, on_close, write_as, on_write, ask_as, on_ask, learn_as, on_learn, accepts, row, on_message}
+use Rattle.repository_core.specs.Rows.{unhold, hold, waits_for, ask_for, read_as, read_known, on_read, reread, release, tells, tell_askers, begin_as, on_begin, close_as, on_close, write_as, on_write, ask_as, on_ask, learn_as, on_learn, row, on_message}
 use Rattle.repository_core.specs.Hearing.{expire_as, expire, expire_all, waited, asks, ask_again, on_moment}
 use Rattle.repository_log.specs.Expiries.{due}
 

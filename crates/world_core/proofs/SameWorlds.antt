@@ -2,27 +2,12 @@
 use Rattle.std.proofs.Common.{◌≡◌, ℕ, zero, suc, ◌==◌, Bool, true, false, ◌&&◌, List, [], ◌∷◌, refl, sym, ◌∙◌, ap, subst, Option, Some, None, if◌then◌else◌}
 use Rattle.std.specs.Prelude.{reverse, is_none}
 use Rattle.std.specs.List.{slice_get}
-use Rattle.pseudo_time.specs.declared.nodes.NodeId.{NodeId}
-use Rattle.pseudo_time.specs.declared.nodes.NodeKind.{NodeKind}
-use Rattle.pseudo_time.specs.declared.nodes.NodeKind.TheVariants.{Repository, Broker}
-use Rattle.value_form.specs.declared.acts.ActSpec.{ActSpec}
-use Rattle.value_form.specs.Mirror.{block}
-use Rattle.effect_form.specs.declared.effects.Effect.{Effect}
-use Rattle.stream_port.specs.declared.fates.Asked.{Asked}
-use Rattle.stream_port.specs.declared.fates.Fate.{Fate}
+use Rattle.world_core.proofs.Names.{NodeId, NodeKind, Repository, Broker, ActSpec, block, Effect, Asked, Fate, Tree, Plan, tasks, Scripted, Entry, Take, Go, Learn, Hear, Gate, Crash, Down, Tick, Trace, Mind, Input, gives, kind_gives, broker_gives, acts_of, with_desk, Going, Taking, Learning, Hearing, Base, Life, World, Sending, all_effects, after_input, took, hears, lives_on, life_after, flags_after, heard_after, sendings_after, taken_after, ticks_after, last_after, is_down, names, numbered, with_given, step, start_world, walk_from, walk, sent_by, Rule, Meets, Legal, base_of, fates_of}
 use Rattle.script_form.specs.RowTexts.{script_text}
-use Rattle.serial_model.specs.Questions.{Tree}
-use Rattle.plan_form.specs.declared.plans.Plan.{Plan}
-use Rattle.broker_core.specs.Tasks.{Task, tasks, task_of, Scripted}
+use Rattle.broker_core.specs.Tasks.{Task, task_of}
 use Rattle.broker_core.specs.Turns as desks
-use Rattle.world_core.specs.declared.entries.Entry.{Entry}
-use Rattle.world_core.specs.declared.entries.Entry.TheVariants.{Take, Go, Learn, Hear, Gate, Crash, Down, Tick}
 use Rattle.world_core.specs.declared.traces.Opened.{Opened}
-use Rattle.world_core.specs.declared.traces.Trace.{Trace}
-use Rattle.world_core.specs.Nodes.{Mind, Input, gives, kind_gives, broker_gives, is_ready, kind_ready, acts_of, with_desk}
-use Rattle.world_core.specs.Nodes.Input.{Going, Taking, Learning, Hearing}
-use Rattle.world_core.specs.Walks.{Base, Life, World, Sending, all_effects, after_input, took, hears, lives_on, life_after, flags_after, heard_after, sendings_after, taken_after, ticks_after, last_after, is_down, names, numbered, with_given, step, start_world, walk_from, walk, sent_by}
-use Rattle.world_core.specs.Legal.{Rule, Meets, Legal, base_of, fates_of}
+use Rattle.world_core.specs.Nodes.{is_ready, kind_ready}
 use Rattle.broker_core.proofs.SameTurns.{desk-same, fault-same}
 
 -- ---- readings of a broker's acts
