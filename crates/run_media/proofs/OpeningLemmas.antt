@@ -84,6 +84,11 @@ fresh-fault s b r ts some = by (nat_lt r 0) (0 == r) refl refl
     by false true e f = let h : 0 ≡ r = grind (arith, nat_tests) in absurd (omega (arith, h, some))
     by false false e f = refl
 
+-- a log without effects refuses no plan
+pub blank-refuses : (plan : Plan) (number : ℕ) (log : List Effect) → IsOfLanguage plan → length log ≡ 0 → RefusesLog plan number log None
+blank-refuses plan number [] w none = fresh-fault (reading plan.acts) number plan.run (tasks (acts_of number plan.acts)) w.run.0
+blank-refuses plan number (f ∷ log) w none = absurd (let some : suc (length log) ≡ 0 = none in omega (arith, some))
+
 -- an empty log is one to go on from
 pub fresh-ready : (plan : Plan) (n : NodeId) → IsOfLanguage plan → IsReadyFor plan n []
 fresh-ready plan n w = ready-of plan n [] (go n.kind n.number)

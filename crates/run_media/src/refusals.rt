@@ -34,6 +34,10 @@ fn broker_refusal(alloc: Global, plan: &Plan, number: u8, effects: &[Effect]) ->
     requires in_range { AreEffects effects.now }
     ensures { RefusesLog plan.now number effects.now result }
 {
+    // An empty log refuses no plan, so the acts aren't copied for it.
+    if effects.is_empty() {
+        return None;
+    }
     let Ok(acts) = own_acts(alloc, number, plan.acts.as_slice()) else {
         return Some(Refusal::NoMemory);
     };

@@ -12,7 +12,6 @@ use plan_form::Plan;
 use run_media::{Opening, opened_nodes};
 use std::alloc::{AllocError, Global};
 use stream_port::{Clock, Fates};
-use value_form::ActSpec;
 
 /// The wire of a run, with the passes of its nodes, in their order, and the conductor's.
 #[derive(Drop)]
@@ -22,16 +21,6 @@ pub struct Begun<F: Fates, C: Clock, M: Medium> {
     pub conductor: WirePass<F, C, M>,
     /// The moment at which the run begins.
     pub start: u64,
-}
-
-fn copied_acts(alloc: Global, acts: &[ActSpec]) -> Result<Vec<ActSpec>, AllocError>
-    ensures { IfOk result (λ copied. copied.items ≡ acts.now) }
-{
-    let mut copied = Vec::new(alloc);
-    for act in acts {
-        copied.push(act.copy(alloc)?)?;
-    }
-    Ok(copied)
 }
 
 /// The wire of a run over what was opened.
@@ -54,13 +43,10 @@ pub fn wire_for<F: Fates, C: Clock, M: Medium>(
         (knows b.conductor ≡ fresh (base_of b.wire.lock) 0)) }
     ensures room { IfOk result (λ b. vec_len b.passes < vec_capacity b.passes) }
 {
-    let Ok(acts) = copied_acts(alloc, plan.acts.as_slice()) else {
-        return Err((fates, clock, AllocError));
-    };
     let Ok(opened) = opened_nodes(alloc, plan, openings) else {
         return Err((fates, clock, AllocError));
     };
-    match Wire::new(alloc, plan.run, acts, opened, fates, clock) {
+    match Wire::new(alloc, plan.run, &plan.acts, opened, fates, clock) {
         Err(refused) => Err(refused),
         Ok(wire) => {
             let start = wire.start();

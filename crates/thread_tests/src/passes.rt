@@ -72,7 +72,7 @@ fn wire_of(alloc: Global) -> Result<TestWire, AllocError>
     match Wire::new(
         alloc,
         1,
-        Vec::new(alloc),
+        &Items::of(Vec::new(alloc)),
         blank(alloc)?,
         fates,
         FixedClock::new(0),

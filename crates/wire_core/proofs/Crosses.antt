@@ -25,7 +25,7 @@ use Rattle.message_core.proofs.flights.Flight.TheSendSync as flight
 use Rattle.wire_core.proofs.stories.Story.TheSendSync as story
 use Rattle.wire_core.specs.contracts.wires.Wire as Wire
 use Rattle.wire_core.specs.contracts.wires.Wire.TheInside as Inside
-use Rattle.wire_core.proofs.ScriptCrosses.{n32, n64, act_send}
+use Rattle.wire_core.proofs.ScriptCrosses.{n32, n64}
 
 module _ (F C M : RattleType) (f : fates.Ghosts F.Denot) (c : clock.Ghosts C.Denot) (m : medium.Ghosts M.Denot) (sf : IsSend F) (sc : IsSend C) where
   pub inside_send : IsSend (Inside.the_row F C M f c m)
@@ -34,7 +34,7 @@ module _ (F C M : RattleType) (f : fates.Ghosts F.Denot) (c : clock.Ghosts C.Den
     (
       n32,
       (
-        Vec-send _ act_send,
+        search sendable depth 20,
         (
           n64,
           (

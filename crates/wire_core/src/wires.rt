@@ -9,7 +9,7 @@ use std::alloc::{AllocError, Global};
 use std::marker::{Model, PhantomData};
 use std::snapshot::Snapshot;
 use stream_port::{Clock, Fates};
-use value_form::ActSpec;
+use value_form::{ActSpec, Items};
 use world_core::{Opened, Sent};
 
 /// The wire between the nodes of a run, with the trace of what happened. `M` is the type of the nodes'
@@ -23,7 +23,8 @@ use world_core::{Opened, Sent};
 pub struct Wire<F: Fates, C: Clock, M: Medium> {
     pub(crate) alloc: Global,
     pub(crate) run: u32,
-    pub(crate) acts: Vec<ActSpec>,
+    /// The acts of the plan, for contracts alone.
+    pub(crate) acts: Snapshot<Items<ActSpec>>,
     pub(crate) start: u64,
     pub(crate) opened: Vec<Opened>,
     pub(crate) sent: Vec<Sent>,
@@ -50,12 +51,12 @@ impl<F: Fates, C: Clock, M: Medium> Model for Wire<F, C, M> {
     ghost coded = { Prim.hlevel (codes, stmt.the_row.coded) };
 
     ghost view = { λ w. parts_with
-        (origin_with w.run w.acts.items w.start w.opened.items (F.asked w.first_fates.value)
+        (origin_with w.run w.acts.value w.start w.opened.items (F.asked w.first_fates.value)
         (C.answers w.first_clock.value))
         w.story w.sent.items (F.asked w.fates) (C.answers w.clock) w.flight w.broken };
 
     ghost invariant = { λ w. IsSound M.tells (parts_with
-        (origin_with w.run w.acts.items w.start w.opened.items (F.asked w.first_fates.value)
+        (origin_with w.run w.acts.value w.start w.opened.items (F.asked w.first_fates.value)
         (C.answers w.first_clock.value))
         w.story w.sent.items (F.asked w.fates) (C.answers w.clock) w.flight w.broken)
         w.story.nodes.entries w.story.ticks w.story.last };
@@ -63,18 +64,18 @@ impl<F: Fates, C: Clock, M: Medium> Model for Wire<F, C, M> {
 
 impl<F: Fates, C: Clock, M: Medium> Wire<F, C, M> {
     /// A wire in a run of these nodes, each opened with its effects. Asks the clock once, for the
-    /// moment at which the run begins: a later one than 2^62 counts as 2^62.
+    /// moment at which the run begins: a later one than 2^62 counts as 2^62. Keeps no copy of the acts.
     pub fn new(
         alloc: Global,
         run: u32,
-        acts: Vec<ActSpec>,
+        acts: &Items<ActSpec>,
         opened: Vec<Opened>,
         fates: F,
         clock: C,
     ) -> Result<Wire<F, C, M>, (F, C, AllocError)>
         ensures origin { IfOk result (λ w. w.origin ≡ record {
           run = run;
-          acts = acts.items;
+          acts = acts.now;
           start = w.origin.start;
           opened = opened.items;
           asked = F.asked fates;
@@ -100,7 +101,7 @@ impl<F: Fates, C: Clock, M: Medium> Wire<F, C, M> {
         Ok(Wire {
             alloc,
             run,
-            acts,
+            acts: Snapshot::of(acts),
             start,
             opened,
             sent: Vec::new(alloc),

@@ -1,4 +1,5 @@
-use Rattle.std.proofs.Common.{◌≡◌, List, ap, sym, subst, ◌∙◌, reverse, None}
+use Rattle.std.proofs.Common.{◌≡◌, ◌==◌, List, length, true, ap, sym, subst, ◌∙◌, reverse, None, arith}
+use Rattle.std.proofs.lemmas.Bool.Decides.{nat_tests}
 use Rattle.value_form.specs.declared.acts.ActSpec.{ActSpec}
 use Rattle.broker_core.specs.Fits.{resume_fault}
 use Rattle.broker_core.specs.Ledgers.{AreBrokerActs}
@@ -6,13 +7,18 @@ use Rattle.broker_core.specs.Readings.{reading}
 use Rattle.broker_core.specs.Tasks.{Scripted, tasks}
 use Rattle.world_core.specs.Nodes.{acts_of}
 use Rattle.world_core.proofs.PlanRangeLemmas.{plan-own_acts}
-use Rattle.run_media.proofs.OpeningLemmas.{reads-own, refuses-err}
+use Rattle.run_media.proofs.OpeningLemmas.{blank-refuses, reads-own, refuses-err}
 use Rattle.run_media.proofs.refusals.broker_refusal.Goals as goal
 
 pub open-requires-clause-acts : goal.open-requires-clause-acts
 open-requires-clause-acts c =
     let is : c.as_slice-2.result.now ≡ acts_of c.args.number c.args.plan.now.acts = c.as_slice-2.ensures.value ∙ (c.in-Ok.ensures ∙ ap (acts_of c.args.number) c.as_slice.ensures) in
     subst AreBrokerActs (sym is) (plan-own_acts c.args.plan.now c.args.number c.requires.plan)
+
+pub returns-then-is_empty : goal.returns-then-is_empty
+returns-then-is_empty c =
+    let blank : (length c.args.effects.now == 0) ≡ true = sym c.is_empty.ensures ∙ c.if-is_empty.true in
+    blank-refuses c.args.plan.now c.args.number c.args.effects.now c.requires.plan (grind (arith, nat_tests))
 
 pub returns-in-Ok-open : goal.returns-in-Ok-open
 returns-in-Ok-open c =
