@@ -28,7 +28,7 @@ pub enum PlanKind {
 }
 
 impl PlanKind {
-    /// The words by which a fault is told.
+    /// The words that report a fault.
     pub fn words(self) -> &'static str
         ensures { result.now ≡ kind_text self }
     {

@@ -3,7 +3,7 @@ use Rattle.std.specs.Prelude.{◌≡◌, ℕ, ◌+◌, ◌^◌, ◌<◌, List, �
 use Rattle.std.proofs.Common.{arith, ap, ◌∙◌}
 use Rattle.std.proofs.lemmas.List.{length-append, append_assoc}
 
--- The list is followed by these answers, where it is told and stays shorter than 2^64. Whether it is told stays so.
+-- The list is followed by these answers, where it is reported and stays shorter than 2^64. Whether it is reported stays so.
 abbrev pub Adds : Option (List ℕ) → Option (List ℕ) → List ℕ → Type 0
 Adds None None answers = Unit {0}
 Adds None (Some new) answers = ⊥
