@@ -4,26 +4,11 @@ use Rattle.std.proofs.lemmas.Grind.{common_steps}
 use Rattle.std.proofs.lemmas.Bool.{eqb-true, eq-eqb, false≢true}
 use Rattle.std.proofs.lemmas.Option.{slice_get_within}
 use Rattle.std.specs.List.{slice_get}
-use Rattle.value_form.specs.declared.acts.ActSpec.{ActSpec}
-use Rattle.value_form.specs.declared.values.Value.{Value}
-use Rattle.effect_form.specs.declared.effects.Effect.{Effect}
+use Rattle.broker_core.proofs.Names.{ActSpec, Value, Effect, ToRead, ToWrite, Stop, Asks, Over, IsAnswerTo, Given, Heard, Last, Notes, Phase, is_none, reads_now, writes_now, unended, open_last, act_at, stop_at, most_of, another_at, fits_at, fits_step_at, start_at, shown_at, by_clock_at, try_or_spent_at, closed_in, after_tries_at, by_phase, owed_at, IsAskedFor, MayAdd, MayBegin, IsHeard}
 use Rattle.effect_form.specs.declared.effects.Effect.TheVariants as effect
 use Rattle.script_meaning.specs.Meaning as meaning
-use Rattle.script_meaning.specs.Meaning.{ToRead, ToWrite, Stop, Asks, Over}
-use Rattle.serial_model.specs.Asked.{IsAnswerTo}
-use Rattle.broker_core.specs.declared.givens.Given.{Given}
 use Rattle.broker_core.specs.declared.givens.Given.TheVariants as given
-use Rattle.broker_core.specs.declared.heards.Heard.{Heard}
-use Rattle.broker_core.specs.declared.notes.Last.{Last}
-use Rattle.broker_core.specs.declared.notes.Notes.{Notes}
-use Rattle.broker_core.specs.declared.phases.Phase.{Phase}
 use Rattle.broker_core.specs.declared.phases.Phase.TheVariants as phase
-use Rattle.broker_core.specs.Fits.{is_none, reads_now, writes_now}
-use Rattle.broker_core.specs.Notes.{unended, open_last, act_at, stop_at, most_of, another_at, fits_at, fits_step_at}
-use Rattle.broker_core.specs.Phases.{start_at, shown_at, by_clock_at, try_or_spent_at, closed_in, after_tries_at, by_phase, owed_at}
-use Rattle.broker_core.specs.Ledgers.{IsAskedFor, MayAdd}
-use Rattle.broker_core.specs.Inputs.{MayBegin}
-use Rattle.broker_core.specs.Ranges.{IsHeard}
 use Rattle.broker_core.proofs.SoundLemmas.{and-right}
 
 -- ---- an open try

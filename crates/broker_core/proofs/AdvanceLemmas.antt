@@ -3,29 +3,8 @@ use Rattle.std.proofs.Common.{◌≡◌, ℕ, min, ◌+◌, ◌*◌, ◌≤◌, 
 use Rattle.std.proofs.lemmas.Bool.{false≢true}
 use Rattle.std.proofs.lemmas.List.{length-map, length-take, length-take-le, reverse-append, reverse-reverse}
 use Rattle.std.proofs.lemmas.Grind.{common_steps}
-use Rattle.value_form.specs.declared.acts.ActSpec.{ActSpec}
-use Rattle.effect_form.specs.declared.effects.Effect.{Effect}
+use Rattle.broker_core.proofs.Names.{ActSpec, Effect, Out, Turn, Tree, Given, Heard, Notes, Phase, tasks, task_of, Scripted, Book, book, enter, fits, counts, keep, stage, standing, Desk, desk_at, all_effects, note, hears, send, fuel, state, settle_up, say, Shows, noted, answered_in, standing_at, AreNotes, LedgerParts, Settled, kept, answers_noted, settled, most_steps, MayBegin, listed, phase_in, effects_from, ledger_from, BrokerParts, IsBroker, IsLedTo, book_of, parts_of, FirstInRange, reading, NoRun, Gives, follows, FirstFits}
 use Rattle.effect_form.specs.declared.effects.Effect.TheVariants as effect
-use Rattle.message_form.specs.declared.turns.Out.{Out}
-use Rattle.message_form.specs.declared.turns.Turn.{Turn}
-use Rattle.serial_model.specs.Questions.{Tree}
-use Rattle.broker_core.specs.declared.givens.Given.{Given}
-use Rattle.broker_core.specs.declared.heards.Heard.{Heard}
-use Rattle.broker_core.specs.declared.notes.Notes.{Notes}
-use Rattle.broker_core.specs.declared.phases.Phase.{Phase}
-use Rattle.broker_core.specs.Tasks.{tasks, task_of, Scripted}
-use Rattle.broker_core.specs.Book.{Book, book, enter}
-use Rattle.broker_core.specs.Fits.{fits, counts, keep}
-use Rattle.broker_core.specs.Stages.{stage, standing}
-use Rattle.broker_core.specs.Turns.{Desk, desk_at, all_effects, note, hears, send, fuel, state, settle_up, say}
-use Rattle.broker_core.specs.Notes.{Shows, noted, answered_in}
-use Rattle.broker_core.specs.Phases.{standing_at}
-use Rattle.broker_core.specs.Ledgers.{AreNotes, LedgerParts, Settled, kept, answers_noted, settled, most_steps}
-use Rattle.broker_core.specs.Inputs.{MayBegin, listed, phase_in, effects_from, ledger_from}
-use Rattle.broker_core.specs.Parts.{BrokerParts, IsBroker, IsLedTo, book_of, parts_of}
-use Rattle.broker_core.specs.Ranges.{FirstInRange}
-use Rattle.broker_core.specs.Readings.{reading}
-use Rattle.broker_core.specs.Brokers.{NoRun, Gives, follows, FirstFits}
 use Rattle.broker_core.proofs.AddLemmas.{heard-may}
 use Rattle.broker_core.proofs.CountLemmas.{are-same}
 use Rattle.broker_core.proofs.FitLemmas.{fits-is}

@@ -2,24 +2,9 @@
 use Rattle.std.proofs.Common.{◌≡◌, ℕ, ◌==◌, ◌≤◌, nat_lt, Bool, true, false, List, refl, sym, ◌∙◌, ap, subst, Option, Some, if◌then◌else◌, arith}
 use Rattle.std.proofs.lemmas.Grind.{common_steps}
 use Rattle.std.proofs.lemmas.Bool.{eqb-true}
-use Rattle.value_form.specs.declared.acts.ActSpec.{ActSpec}
-use Rattle.effect_form.specs.declared.effects.Effect.{Effect}
+use Rattle.broker_core.proofs.Names.{ActSpec, Effect, Message, Tree, Given, Heard, Notes, Phase, tasks, Scripted, Book, open_try, last_try, Stage, Idle, stage, stage_of, standing, row, news, owed, Shows, open_last, act_at, stop_at, index_of, timeout_of, phase_at, phase_by_open, standing_at, reply_at, owed_at, Sound}
 use Rattle.effect_form.specs.declared.effects.Effect.TheVariants as effect
-use Rattle.message_form.specs.declared.messages.Message.{Message}
-use Rattle.serial_model.specs.Questions.{Tree}
-use Rattle.broker_core.specs.declared.givens.Given.{Given}
-use Rattle.broker_core.specs.declared.heards.Heard.{Heard}
-use Rattle.broker_core.specs.declared.notes.Notes.{Notes}
-use Rattle.broker_core.specs.declared.phases.Phase.{Phase}
 use Rattle.broker_core.specs.declared.phases.Phase.TheVariants as phase
-use Rattle.broker_core.specs.Tasks.{tasks, Scripted}
-use Rattle.broker_core.specs.Book.{Book, open_try, last_try}
-use Rattle.broker_core.specs.Stages.{Stage, Idle, stage, stage_of, standing}
-use Rattle.broker_core.specs.Rows.{row, news}
-use Rattle.broker_core.specs.Owed.{owed}
-use Rattle.broker_core.specs.Notes.{Shows, open_last, act_at, stop_at, index_of, timeout_of}
-use Rattle.broker_core.specs.Phases.{phase_at, phase_by_open, standing_at, reply_at, owed_at}
-use Rattle.broker_core.specs.Sound.{Sound}
 use Rattle.broker_core.proofs.PhaseLemmas.{Meets, shown, phase-is, standing-is, none-stands}
 use Rattle.broker_core.proofs.ReplyLemmas.{idle-is, reply-is}
 use Rattle.broker_core.proofs.DueLemmas.{owed-is}

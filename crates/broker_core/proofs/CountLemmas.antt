@@ -7,20 +7,9 @@ use Rattle.std.proofs.lemmas.List.{length-append, length-map, length-take-le, ma
 use Rattle.std.proofs.Math.Seq.{take-length}
 use Rattle.std.specs.List.{slice_get}
 use Rattle.std.specs.Option.{option_map}
-use Rattle.value_form.specs.declared.acts.ActSpec.{ActSpec}
-use Rattle.value_form.specs.Mirror.{block}
-use Rattle.pseudo_time.specs.StampParts.{StampParts}
-use Rattle.effect_form.specs.declared.effects.Effect.{Effect}
+use Rattle.broker_core.proofs.Names.{ActSpec, block, StampParts, Effect, Answer, RunParts, AreAsked, Given, Last, Notes, answer_of, answers_given, answered_in, act_at, tree_of, answer_noted, try_begun, LedgerParts, AreNotes, IsAskedFor, IsLedger, MayAdd, StepperFits, kept, lines_of}
 use Rattle.effect_form.specs.declared.effects.Effect.TheVariants as effect
-use Rattle.script_meaning.specs.Meaning.{Answer}
-use Rattle.script_run.specs.RunParts.{RunParts}
-use Rattle.serial_model.specs.Asked.{AreAsked}
 use Rattle.serial_model.proofs.AskedLemmas.{asked-none, asked-next, asked-few}
-use Rattle.broker_core.specs.declared.givens.Given.{Given}
-use Rattle.broker_core.specs.declared.notes.Last.{Last}
-use Rattle.broker_core.specs.declared.notes.Notes.{Notes}
-use Rattle.broker_core.specs.Notes.{answer_of, answers_given, answered_in, act_at, tree_of, answer_noted, try_begun}
-use Rattle.broker_core.specs.Ledgers.{LedgerParts, AreNotes, IsAskedFor, IsLedger, MayAdd, StepperFits, kept, lines_of}
 
 -- a try has at most 10,000 answers
 few-asked : (a : Option ActSpec) (ans : List Answer) → AreAsked (tree_of a) ans → length ans ≤ 10000

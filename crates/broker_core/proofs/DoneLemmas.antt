@@ -2,28 +2,11 @@
 use Rattle.std.proofs.Common.{◌≡◌, ℕ, ◌==◌, Bool, true, false, ◌&&◌, length, List, [], ◌++◌, reverse, refl, sym, ◌∙◌, ap, subst, Option, Some, None, if◌then◌else◌}
 use Rattle.std.proofs.lemmas.Bool.{eqb-true}
 use Rattle.std.proofs.lemmas.List.{append-nil, length-map}
-use Rattle.value_form.specs.declared.acts.ActSpec.{ActSpec}
-use Rattle.effect_form.specs.declared.effects.Effect.{Effect}
-use Rattle.message_form.specs.declared.turns.Out.{Out}
-use Rattle.message_form.specs.declared.turns.Turn.{Turn}
-use Rattle.script_meaning.specs.Meaning.{ToRead, ToWrite}
-use Rattle.serial_model.specs.Questions.{Tree}
-use Rattle.broker_core.specs.declared.givens.Given.{Given}
-use Rattle.broker_core.specs.declared.heards.Heard.{Heard}
-use Rattle.broker_core.specs.declared.notes.Notes.{Notes}
-use Rattle.broker_core.specs.declared.phases.Phase.{Phase}
-use Rattle.broker_core.specs.Tasks.{tasks, task_of, Scripted}
-use Rattle.broker_core.specs.Book.{Book}
-use Rattle.broker_core.specs.Fits.{is_none}
-use Rattle.broker_core.specs.Stages.{Stage, Idle, Refused, Opening, Asking, Finishing, Stopping, Closing, stage, standing}
-use Rattle.broker_core.specs.Owed.{all_over, done}
-use Rattle.broker_core.specs.Turns.{Desk, Hear, desk_at, send}
-use Rattle.broker_core.specs.Notes.{notes_of, act_at, most_of, over_at}
-use Rattle.broker_core.specs.Phases.{phase_at, standing_at, is_quiet}
-use Rattle.broker_core.specs.Ledgers.{LedgerParts, kept}
-use Rattle.broker_core.specs.Inputs.{listed, over_by}
-use Rattle.broker_core.specs.Parts.{BrokerParts, IsBroker, IsLedTo, book_of, parts_of}
-use Rattle.broker_core.specs.Brokers.{Gives, turn_of, is_done}
+use Rattle.broker_core.proofs.Names.{ActSpec, Effect, Out, Turn, ToRead, ToWrite, Tree, Given, Heard, Notes, Phase, tasks, task_of, Scripted, Book, is_none, Stage, Idle, Refused, Opening, Asking, Finishing, Stopping, Closing, stage, standing, all_over, Desk, Hear, desk_at, send, notes_of, act_at, most_of, over_at, phase_at, standing_at, LedgerParts, kept, listed, BrokerParts, IsBroker, IsLedTo, book_of, parts_of, Gives, turn_of}
+use Rattle.broker_core.specs.Owed.{done}
+use Rattle.broker_core.specs.Phases.{is_quiet}
+use Rattle.broker_core.specs.Inputs.{over_by}
+use Rattle.broker_core.specs.Brokers.{is_done}
 use Rattle.broker_core.proofs.ShapeLemmas.{over-is}
 use Rattle.broker_core.proofs.SoundLemmas.{sound-kept}
 use Rattle.broker_core.proofs.NotedLemmas.{most-of-last}

@@ -2,23 +2,9 @@
 use Rattle.std.proofs.Common.{◌≡◌, ℕ, max, ◌-◌, ◌==◌, nat_lt, Bool, true, false, ◌&&◌, length, List, [], ◌∷◌, ◌++◌, refl, sym, ◌∙◌, ap, Option, Some, None, if◌then◌else◌}
 use Rattle.std.specs.List.{slice_get}
 use Rattle.std.specs.Option.{option_map}
-use Rattle.value_form.specs.declared.acts.ActSpec.{ActSpec}
-use Rattle.effect_form.specs.declared.effects.Effect.{Effect}
+use Rattle.broker_core.proofs.Names.{ActSpec, Effect, ToRead, ToWrite, Tree, Given, Heard, Notes, Task, task_of, tasks, Try, Act, Book, front, tries_of, is_none, another, next_clock, Stage, Idle, Refused, Opening, Asking, Finishing, Stopping, Closing, stage, is_closed, try_or_spent, after_tries, after_act, due, by_stage, owed, last_of, over_behind, spent_in, tries_in, notes_of, calls_on, act_at, most_of, index_of, phase_at, start_at, try_or_spent_at, closed_in, after_tries_at, due_at, by_phase, owed_at, Started}
 use Rattle.effect_form.specs.declared.effects.Effect.TheVariants as effect
 use Rattle.effect_form.specs.declared.outcomes.Outcome.TheVariants as outcome
-use Rattle.script_meaning.specs.Meaning.{ToRead, ToWrite}
-use Rattle.serial_model.specs.Questions.{Tree}
-use Rattle.broker_core.specs.declared.givens.Given.{Given}
-use Rattle.broker_core.specs.declared.heards.Heard.{Heard}
-use Rattle.broker_core.specs.declared.notes.Notes.{Notes}
-use Rattle.broker_core.specs.Tasks.{Task, task_of, tasks}
-use Rattle.broker_core.specs.Book.{Try, Act, Book, front, tries_of}
-use Rattle.broker_core.specs.Fits.{is_none, another, next_clock}
-use Rattle.broker_core.specs.Stages.{Stage, Idle, Refused, Opening, Asking, Finishing, Stopping, Closing, stage, is_closed}
-use Rattle.broker_core.specs.Owed.{try_or_spent, after_tries, after_act, due, by_stage, owed}
-use Rattle.broker_core.specs.Notes.{last_of, over_behind, spent_in, tries_in, notes_of, calls_on, act_at, most_of, index_of}
-use Rattle.broker_core.specs.Phases.{phase_at, start_at, try_or_spent_at, closed_in, after_tries_at, due_at, by_phase, owed_at}
-use Rattle.broker_core.specs.Sound.{Started}
 use Rattle.broker_core.proofs.ShapeLemmas.{past-zero, start-is, another-is}
 use Rattle.broker_core.proofs.MeetLemmas.{last-act, act-is}
 use Rattle.broker_core.proofs.PhaseLemmas.{shown, Meets, StageOf, phase-is, stage-of-is}

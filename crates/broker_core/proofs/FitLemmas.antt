@@ -3,23 +3,10 @@ use Rattle.std.proofs.Common.{◌≡◌, ℕ, ◌+◌, ◌==◌, nat_lt, Bool, t
 use Rattle.std.proofs.lemmas.Option.{slice_get-map}
 use Rattle.std.specs.List.{slice_get}
 use Rattle.std.specs.Option.{option_map}
-use Rattle.value_form.specs.declared.acts.ActSpec.{ActSpec}
-use Rattle.pseudo_time.specs.StampParts.{StampParts}
-use Rattle.effect_form.specs.declared.effects.Effect.{Effect}
+use Rattle.broker_core.proofs.Names.{ActSpec, StampParts, Effect, Outcome, Stop, Tree, Given, Last, Notes, is_task, Task, task_of, task_with, tasks, Try, Act, Book, front, tries_of, open_try, is_none, reads_now, writes_now, fits_try, fits_spent, fits_end, fits_outcome, fits_got, fits_acked, fits, last_of, over_behind, spent_in, tries_in, notes_of, open_last, act_at, stop_at, calls_on, rests_at, fits_try_at, fits_step_at, fits_at, Started}
 use Rattle.effect_form.specs.declared.effects.Effect.TheVariants as effect
-use Rattle.effect_form.specs.declared.outcomes.Outcome.{Outcome}
 use Rattle.effect_form.specs.declared.outcomes.Outcome.TheVariants as outcome
-use Rattle.script_meaning.specs.Meaning.{Stop}
-use Rattle.serial_model.specs.Questions.{Tree}
-use Rattle.broker_core.specs.declared.givens.Given.{Given}
-use Rattle.broker_core.specs.declared.notes.Last.{Last}
-use Rattle.broker_core.specs.declared.notes.Notes.{Notes}
-use Rattle.broker_core.specs.Tests.{is_task}
-use Rattle.broker_core.specs.Tasks.{Task, task_of, task_with, tasks}
-use Rattle.broker_core.specs.Book.{Try, Act, Book, front, tries_of, open_try}
-use Rattle.broker_core.specs.Fits.{is_none, reads_now, writes_now, fits_try, fits_spent, fits_end, fits_outcome, fits_got, fits_acked, fits}
-use Rattle.broker_core.specs.Notes.{last_of, over_behind, spent_in, tries_in, notes_of, open_last, act_at, stop_at, calls_on, rests_at, fits_try_at, fits_spent_at, fits_end_at, fits_step_at, fits_at}
-use Rattle.broker_core.specs.Sound.{Started}
+use Rattle.broker_core.specs.Notes.{fits_spent_at, fits_end_at}
 use Rattle.broker_core.proofs.ShapeLemmas.{open-is, rests-is, may_follow-is}
 use Rattle.broker_core.proofs.MeetLemmas.{last-act, act-is, stop-is}
 use Rattle.broker_core.proofs.PhaseLemmas.{Meets}

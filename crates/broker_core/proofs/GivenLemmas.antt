@@ -2,21 +2,12 @@
 use Rattle.std.proofs.Common.{◌≡◌, ℕ, suc, ◌<◌, ◌++◌, ◌∷◌, [], List, length, take, drop, get_or, Some, refl, ap, ◌∙◌, subst, sym}
 use Rattle.std.proofs.Math.Seq.{split_at}
 use Rattle.std.proofs.lemmas.List.{map-append}
-use Rattle.value_form.specs.declared.scripts.Stmt.{Stmt}
-use Rattle.value_form.specs.declared.transcripts.Line.{Line}
+use Rattle.broker_core.proofs.Names.{Stmt, Line, ObjectId, Value, Answer, Stop, Next, RunParts, Tells, block, Tree, denote, stop, IsAnswerTo, AreAsked, Given, answer_of, answers_given}
 use Rattle.value_form.specs.declared.transcripts.Line.TheVariants as line
-use Rattle.value_form.specs.declared.objects.ObjectId.{ObjectId}
-use Rattle.value_form.specs.declared.values.Value.{Value}
-use Rattle.script_meaning.specs.Meaning.{Answer, Got, Stored, Stop}
+use Rattle.script_meaning.specs.Meaning.{Got, Stored}
 use Rattle.script_run.specs.declared.nexts.Next.TheVariants as next
-use Rattle.script_run.specs.declared.nexts.Next.{Next}
-use Rattle.script_run.specs.RunParts.{RunParts, Tells, stop_of, answered, IsRead, IsWrite}
-use Rattle.value_form.specs.Mirror.{block}
-use Rattle.serial_model.specs.Questions.{Tree, denote, stop}
-use Rattle.serial_model.specs.Asked.{IsAnswerTo, AreAsked}
+use Rattle.script_run.specs.RunParts.{stop_of, answered, IsRead, IsWrite}
 use Rattle.serial_model.proofs.AskedLemmas.{asked-front}
-use Rattle.broker_core.specs.declared.givens.Given.{Given}
-use Rattle.broker_core.specs.Notes.{answer_of, answers_given}
 use Rattle.broker_core.proofs.StopLemmas.{told-stop}
 
 -- what is given to a run that asks for it

@@ -4,34 +4,17 @@ use Rattle.std.proofs.lemmas.Grind.{common_steps}
 use Rattle.std.proofs.lemmas.Bool.{eq-eqb}
 use Rattle.std.specs.List.{slice_get}
 use Rattle.std.specs.Cmp.Lexicographic.{bytes_decides}
-use Rattle.value_form.specs.declared.acts.ActSpec.{ActSpec}
-use Rattle.value_form.specs.declared.objects.ObjectId.{ObjectId}
-use Rattle.value_form.specs.declared.values.Value.{Value}
+use Rattle.broker_core.proofs.Names.{ActSpec, ObjectId, Value, TimeParts, same_stamp, same_time, Decision, Effect, Outcome, Message, ToRead, ToWrite, Stop, Asks, Over, Tree, Heard, Reply, Ignored, Hears, Adds, Task, task_with, same_task, is_task, is_stamp, Try, Act, Book, open_try, last_try, time_of, is_none, calls_again, has_ended, may_follow, rests, another, next_clock, reads_now, writes_now, fits_end, fits_outcome, fits_try, fits_spent, fits_got, fits_acked, fits, counts, stop_of, Stage, Idle, Refused, Opening, Asking, Finishing, Stopping, Closing, by_stop, by_last, is_finished, is_closed, stage_of, stage, row, news, when, decided_commit, decided_early, start, try_or_spent, after_tries, after_act, due, by_stage, owed, NoRun}
 use Rattle.value_form.specs.declared.endings.Ending.TheVariants as ending
-use Rattle.pseudo_time.specs.TimeParts.{TimeParts}
-use Rattle.pseudo_time.specs.Order.{same_stamp, same_time}
 use Rattle.pseudo_time.proofs.OrderLemmas.{same_time-is}
-use Rattle.pseudo_time.specs.declared.decisions.Decision.{Decision}
 use Rattle.pseudo_time.specs.declared.decisions.Decision.TheVariants as decision
-use Rattle.effect_form.specs.declared.effects.Effect.{Effect}
 use Rattle.effect_form.specs.declared.effects.Effect.TheVariants as effect
-use Rattle.effect_form.specs.declared.outcomes.Outcome.{Outcome}
 use Rattle.effect_form.specs.declared.outcomes.Outcome.TheVariants as outcome
-use Rattle.message_form.specs.declared.messages.Message.{Message}
 use Rattle.message_form.specs.declared.messages.Message.TheVariants as message
-use Rattle.script_meaning.specs.Meaning.{ToRead, ToWrite, Stop, Asks, Over}
-use Rattle.serial_model.specs.Questions.{Tree}
-use Rattle.broker_core.specs.declared.heards.Heard.{Heard}
-use Rattle.broker_core.specs.declared.replies.Reply.{Reply}
-use Rattle.broker_core.specs.declared.replies.Reply.TheVariants.{Ignored, Hears, Adds}
-use Rattle.broker_core.specs.Tasks.{Task, task_with}
-use Rattle.broker_core.specs.Tests.{same_task, is_task, is_stamp}
-use Rattle.broker_core.specs.Book.{Try, Act, Book, open_try, last_try, time_of}
-use Rattle.broker_core.specs.Fits.{is_none, calls_again, has_ended, may_follow, rests, another, next_clock, shown_to, reads_now, writes_now, fits_end, fits_outcome, fits_try, fits_spent, fits_got, fits_acked, fits, counts, stop_of}
-use Rattle.broker_core.specs.Stages.{Stage, Idle, Refused, Opening, Asking, Finishing, Stopping, Closing, by_stop, by_last, is_finished, is_closed, is_settled, stage_of, stage}
-use Rattle.broker_core.specs.Rows.{row, news, when, ends, decided_commit, decided_early}
-use Rattle.broker_core.specs.Owed.{start, by_clock, try_or_spent, after_tries, after_act, due, by_stage, owed}
-use Rattle.broker_core.specs.Brokers.{NoRun}
+use Rattle.broker_core.specs.Fits.{shown_to}
+use Rattle.broker_core.specs.Stages.{is_settled}
+use Rattle.broker_core.specs.Rows.{ends}
+use Rattle.broker_core.specs.Owed.{by_clock}
 use Rattle.broker_core.proofs.SoundLemmas.{and-left, and-both}
 use Rattle.broker_core.proofs.PhaseLemmas.{StageOf}
 

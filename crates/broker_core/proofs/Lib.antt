@@ -22,3 +22,4 @@ pub mod SoundLemmas
 pub mod StopLemmas
 pub mod TakeLemmas
 pub mod TurnLemmas
+pub mod Names

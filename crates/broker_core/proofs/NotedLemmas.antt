@@ -5,24 +5,12 @@ use Rattle.std.proofs.lemmas.List.{length-append, length-map, map-append}
 use Rattle.std.proofs.Math.Seq.{take-length}
 use Rattle.std.specs.List.{slice_get}
 use Rattle.std.specs.Option.{option_map}
-use Rattle.value_form.specs.declared.acts.ActSpec.{ActSpec}
-use Rattle.pseudo_time.specs.StampParts.{StampParts}
-use Rattle.effect_form.specs.declared.effects.Effect.{Effect}
+use Rattle.broker_core.proofs.Names.{ActSpec, StampParts, Effect, Outcome, Answer, Tree, Given, Last, Notes, Task, task_with, tasks, Try, Act, Book, enter, front, tries_of, on_act, on_front, on_try, new_try, finish, open_front, open_of, open_try, last_try, if_open, fits, fits_try, fits_got, fits_acked, fits_end, fits_spent, last_of, over_behind, spent_in, tries_in, notes_of, answers_given, answer_of, answers_of_last, answered_in, act_at, most_of, over_at, try_begun, answer_noted, noted, Shows, kept, answers_noted, Started}
 use Rattle.effect_form.specs.declared.effects.Effect.TheVariants as effect
-use Rattle.effect_form.specs.declared.outcomes.Outcome.{Outcome}
 use Rattle.effect_form.specs.declared.outcomes.Outcome.TheVariants as outcome
-use Rattle.script_meaning.specs.Meaning.{Answer}
-use Rattle.serial_model.specs.Questions.{Tree}
-use Rattle.broker_core.specs.declared.givens.Given.{Given}
 use Rattle.broker_core.specs.declared.givens.Given.TheVariants as given
-use Rattle.broker_core.specs.declared.notes.Last.{Last}
-use Rattle.broker_core.specs.declared.notes.Notes.{Notes}
-use Rattle.broker_core.specs.Tasks.{Task, task_with, tasks}
-use Rattle.broker_core.specs.Book.{Try, Act, Book, enter, front, tries_of, on_act, on_front, on_try, new_try, gain, finish, open_front, open_of, open_try, last_try, if_open}
-use Rattle.broker_core.specs.Fits.{fits, fits_try, fits_got, fits_acked, fits_end, fits_spent}
-use Rattle.broker_core.specs.Notes.{last_of, over_behind, spent_in, tries_in, notes_of, answers_given, answer_of, answers_of_last, answered_in, act_at, most_of, over_at, act_begun, try_begun, answer_noted, noted, Shows}
-use Rattle.broker_core.specs.Ledgers.{kept, answers_noted}
-use Rattle.broker_core.specs.Sound.{Started}
+use Rattle.broker_core.specs.Book.{gain}
+use Rattle.broker_core.specs.Notes.{act_begun}
 use Rattle.broker_core.proofs.ShapeLemmas.{over-is, most_in, open-is-last}
 use Rattle.broker_core.proofs.MeetLemmas.{last-act}
 use Rattle.broker_core.proofs.PhaseLemmas.{Meets}

@@ -1,20 +1,9 @@
 -- A log that is opened.
 use Rattle.std.proofs.Common.{◌≡◌, ℕ, ◌≤◌, ◌==◌, Bool, true, false, List, [], ◌∷◌, ◌++◌, reverse, refl, sym, ◌∙◌, ap, subst, Option, Some, None, if◌then◌else◌, Err}
-use Rattle.value_form.specs.declared.acts.ActSpec.{ActSpec}
-use Rattle.effect_form.specs.declared.effects.Effect.{Effect}
-use Rattle.serial_model.specs.Questions.{Tree}
-use Rattle.broker_core.specs.declared.heards.Heard.{Heard}
-use Rattle.broker_core.specs.declared.resume_faults.ResumeFault.{ResumeFault}
+use Rattle.broker_core.proofs.Names.{ActSpec, Effect, Tree, Heard, ResumeFault, tasks, Scripted, book, keep, resume_fault, Shows, passed, LedgerParts, kept, fresh_ledger, fits_now, added, led, other_at, fault_of, IsLedTo, parts_of}
 use Rattle.broker_core.specs.declared.resume_faults.ResumeFault.TheVariants as fault
-use Rattle.broker_core.specs.Tasks.{tasks, Scripted}
-use Rattle.broker_core.specs.Book.{book}
-use Rattle.broker_core.specs.Fits.{keep, resume_fault}
 use Rattle.broker_core.specs.Stages.{nothing_heard}
-use Rattle.broker_core.specs.Notes.{Shows, passed}
-use Rattle.broker_core.specs.Ledgers.{LedgerParts, kept}
-use Rattle.broker_core.specs.TakenUp.{fresh_ledger, fits_now, added, led, other_at}
-use Rattle.broker_core.specs.Inputs.{fault_of}
-use Rattle.broker_core.specs.Parts.{IsLedTo, opened_broker, parts_of}
+use Rattle.broker_core.specs.Parts.{opened_broker}
 use Rattle.broker_core.specs.Brokers.{Opens}
 use Rattle.broker_core.proofs.LogLemmas.{Took, led-took, other-is, fault-is, not-old}
 

@@ -6,56 +6,33 @@ use Rattle.std.proofs.lemmas.Bool.{eqb-true, false≢true}
 use Rattle.std.proofs.lemmas.Bool.Decides.{nat_tests}
 use Rattle.std.proofs.lemmas.List.{reverse-reverse}
 use Rattle.std.proofs.Math.Nat.{max-le}
-use Rattle.pseudo_time.specs.Lists.{Every}
-use Rattle.pseudo_time.specs.StampParts.{StampParts, IsStamp}
-use Rattle.pseudo_time.specs.TimeParts.{TimeParts, IsTime}
-use Rattle.pseudo_time.specs.Order.{same_stamp, same_time}
-use Rattle.pseudo_time.specs.declared.decisions.Decision.{Decision}
+use Rattle.broker_core.proofs.Names.{Every, StampParts, TimeParts, same_stamp, same_time, Decision, ActSpec, block, Effect, Outcome, Message, Out, Turn, AreEffects, AreOuts, Stop, Asks, Over, ToRead, ToWrite, Given, Heard, Last, Notes, Phase, Reply, Ignored, Hears, Adds, is_none, next_clock, is_asking, task_of, is_stamp, is_time, when, act_at, answered_in, answers_given, another_at, changed, fits_try_at, index_of, most_of, open_last, passed, run_begun, stop_at, timeout_of, tree_of, unended, phase_of, phase_by_last, phase_by_stop, phase_by_open, phase_at, closed_in, standing_for, standing_by, standing_at, commit_answered, early_answered, opening_row, reading_row, writing_row, decided_of, decision_row, reply_for, reply_by, reply_at, start_at, shown_at, by_clock_at, try_or_spent_at, after_tries_at, due_at, by_phase, IsBrokerAct, AreNotes, LedgerParts, Settled, kept, owed_now, settle_on, settled, most_steps, fits_now, added, logged, led, fresh_ledger, listed, phase_in, effects_from, ledger_from, IsHeard, FirstInRange}
+use Rattle.pseudo_time.specs.StampParts.{IsStamp}
+use Rattle.pseudo_time.specs.TimeParts.{IsTime}
 use Rattle.pseudo_time.specs.declared.decisions.Decision.TheVariants as decision
 use Rattle.pseudo_time.proofs.ListLemmas.{every-append, every-reverse}
 use Rattle.field_form.specs.Decisions.{IsDecision}
-use Rattle.value_form.specs.declared.acts.ActSpec.{ActSpec}
 use Rattle.value_form.specs.declared.endings.Ending.TheVariants as ending
-use Rattle.value_form.specs.Mirror.{block}
 use Rattle.value_form.specs.ObjectBytes.{IsObject}
 use Rattle.value_form.specs.ValueBytes.{IsValue}
-use Rattle.effect_form.specs.declared.effects.Effect.{Effect}
 use Rattle.effect_form.specs.declared.effects.Effect.TheVariants as effect
-use Rattle.effect_form.specs.declared.outcomes.Outcome.{Outcome}
 use Rattle.effect_form.specs.declared.outcomes.Outcome.TheVariants as outcome
 use Rattle.effect_form.specs.Effects.{IsIndex}
 use Rattle.effect_form.specs.Outcomes.{IsOutcome}
-use Rattle.message_form.specs.declared.messages.Message.{Message}
 use Rattle.message_form.specs.declared.messages.Message.TheVariants as message
 use Rattle.message_form.specs.Messages.{IsMessage}
-use Rattle.message_form.specs.declared.turns.Out.{Out}
-use Rattle.message_form.specs.declared.turns.Turn.{Turn}
-use Rattle.message_form.specs.Ranges.{IsEffect, AreEffects, AreOuts}
-use Rattle.script_meaning.specs.Meaning.{Stop, Asks, Over, ToRead, ToWrite}
+use Rattle.message_form.specs.Ranges.{IsEffect}
 use Rattle.serial_model.specs.Ranges.{StopInRange}
 use Rattle.serial_model.specs.Requests.{AsksInRange, AnswerHasBytes}
 use Rattle.serial_model.proofs.RequestLemmas.{denote-HasBytes, stop-InRange}
 use Rattle.serial_model.proofs.TestLemmas.{by_test}
-use Rattle.broker_core.specs.declared.givens.Given.{Given}
 use Rattle.broker_core.specs.declared.givens.Given.TheVariants as given
-use Rattle.broker_core.specs.declared.heards.Heard.{Heard}
-use Rattle.broker_core.specs.declared.notes.Last.{Last}
-use Rattle.broker_core.specs.declared.notes.Notes.{Notes}
-use Rattle.broker_core.specs.declared.phases.Phase.{Phase}
 use Rattle.broker_core.specs.declared.phases.Phase.TheVariants as phase
-use Rattle.broker_core.specs.declared.replies.Reply.{Reply}
-use Rattle.broker_core.specs.declared.replies.Reply.TheVariants.{Ignored, Hears, Adds}
-use Rattle.broker_core.specs.Fits.{act_effect, is_none, next_clock}
-use Rattle.broker_core.specs.Stages.{is_asking}
-use Rattle.broker_core.specs.Tasks.{task_of}
-use Rattle.broker_core.specs.Tests.{is_stamp, is_time}
-use Rattle.broker_core.specs.Rows.{when}
-use Rattle.broker_core.specs.Notes.{act_at, answered_in, answers_given, another_at, changed, fits_try_at, end_noted, home_of, index_of, most_of, open_last, passed, run_begun, shown_by, stop_at, time_at, timeout_of, tree_of, unended}
-use Rattle.broker_core.specs.Phases.{phase_of, phase_by_last, phase_by_stop, phase_by_open, phase_at, closed_at, closed_in, standing_for, standing_by, standing_at, ends_at, commit_answered, early_answered, opening_row, ended_row, reading_row, writing_row, decided_of, decision_row, reply_for, reply_by, reply_at, start_at, shown_at, by_clock_at, try_or_spent_at, after_tries_at, due_at, by_phase}
-use Rattle.broker_core.specs.Ledgers.{IsBrokerAct, AreBrokerActs, AreNotes, LedgerParts, Settled, kept, owed_now, settle_on, settled, most_steps}
-use Rattle.broker_core.specs.TakenUp.{fits_now, added, logged, led, fresh_ledger}
-use Rattle.broker_core.specs.Inputs.{listed, phase_in, effects_from, ledger_from}
-use Rattle.broker_core.specs.Ranges.{GivenInRange, HasStamp, IsHeard, FirstInRange, AreInRange, Ranged}
+use Rattle.broker_core.specs.Fits.{act_effect}
+use Rattle.broker_core.specs.Notes.{end_noted, home_of, shown_by, time_at}
+use Rattle.broker_core.specs.Phases.{closed_at, ends_at, ended_row}
+use Rattle.broker_core.specs.Ledgers.{AreBrokerActs}
+use Rattle.broker_core.specs.Ranges.{GivenInRange, HasStamp, AreInRange, Ranged}
 use Rattle.serial_model.proofs.ScriptRangeLemmas.{printable-InRange}
 use Rattle.serial_model.proofs.TextByteLemmas.{script-IsBytes}
 

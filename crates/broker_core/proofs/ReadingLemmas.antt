@@ -3,9 +3,9 @@ use Rattle.std.proofs.Common.{◌≡◌, inl, inr, ℕ, ◌+◌, ◌≤◌, arit
 use Rattle.std.specs.Prelude.{◌==◌}
 use Rattle.std.specs.Cmp.Lexicographic.{pointwise, same_text, bytes_decides}
 use Rattle.std.proofs.lemmas.Bool.{false≢true}
-use Rattle.pseudo_time.specs.Lists.{Every, Has}
-use Rattle.value_form.specs.declared.acts.ActSpec.{ActSpec}
-use Rattle.value_form.specs.Mirror.{Block, Spot, Fixed, At, block}
+use Rattle.broker_core.proofs.Names.{Every, ActSpec, block, Tree, denote, Scripted, IsBrokerAct, reading}
+use Rattle.pseudo_time.specs.Lists.{Has}
+use Rattle.value_form.specs.Mirror.{Block, Spot, Fixed, At}
 use Rattle.script_form.specs.Row.{Row}
 use Rattle.script_form.specs.Row as r
 use Rattle.script_form.specs.Rows.{Numbered}
@@ -14,10 +14,6 @@ use Rattle.script_form.specs.Lines.{lines}
 use Rattle.script_form.specs.Printable.{IsPrintable, RowsInLimits}
 use Rattle.script_form.specs.Scripts.{IsScriptLines}
 use Rattle.script_form.proofs.PrintLemmas.{one_script_of_lines, printed_is_script}
-use Rattle.serial_model.specs.Questions.{Tree, denote}
-use Rattle.broker_core.specs.Tasks.{Scripted}
-use Rattle.broker_core.specs.Ledgers.{IsBrokerAct}
-use Rattle.broker_core.specs.Readings.{reading}
 
 -- ---- a greater greatest repository
 

@@ -1,31 +1,11 @@
 -- What is heard by the notes is what is heard by the book.
 use Rattle.std.proofs.Common.{◌≡◌, ℕ, Bool, true, false, List, refl, ◌∙◌, ap, Option, Some, None, if◌then◌else◌}
 use Rattle.std.specs.Option.{option_map}
-use Rattle.value_form.specs.declared.acts.ActSpec.{ActSpec}
-use Rattle.value_form.specs.declared.objects.ObjectId.{ObjectId}
-use Rattle.value_form.specs.declared.values.Value.{Value}
-use Rattle.pseudo_time.specs.Order.{same_stamp}
-use Rattle.pseudo_time.specs.declared.decisions.Decision.{Decision}
+use Rattle.broker_core.proofs.Names.{ActSpec, ObjectId, Value, same_stamp, Decision, Outcome, Message, ToRead, ToWrite, Stop, Tree, Given, Heard, Last, Notes, Phase, Ignored, Hears, Task, Try, Book, open_try, last_try, stop_of, Stage, Idle, Refused, Opening, Asking, Finishing, Stopping, Closing, is_finished, stage, row, news, when, decided_commit, decided_early, last_of, notes_of, act_at, index_of, stop_at, phase_at, opening_row, reading_row, writing_row, decided_of, decision_row, commit_answered, early_answered, reply_for, reply_by, reply_at}
 use Rattle.pseudo_time.specs.declared.decisions.Decision.TheVariants as decision
-use Rattle.effect_form.specs.declared.outcomes.Outcome.{Outcome}
-use Rattle.message_form.specs.declared.messages.Message.{Message}
 use Rattle.message_form.specs.declared.messages.Message.TheVariants as message
-use Rattle.script_meaning.specs.Meaning.{ToRead, ToWrite, Stop}
-use Rattle.serial_model.specs.Questions.{Tree}
-use Rattle.broker_core.specs.declared.givens.Given.{Given}
-use Rattle.broker_core.specs.declared.heards.Heard.{Heard}
-use Rattle.broker_core.specs.declared.notes.Last.{Last}
-use Rattle.broker_core.specs.declared.notes.Notes.{Notes}
-use Rattle.broker_core.specs.declared.phases.Phase.{Phase}
 use Rattle.broker_core.specs.declared.phases.Phase.TheVariants as phase
-use Rattle.broker_core.specs.declared.replies.Reply.TheVariants.{Ignored, Hears}
-use Rattle.broker_core.specs.Tasks.{Task}
-use Rattle.broker_core.specs.Book.{Try, Book, open_try, last_try}
-use Rattle.broker_core.specs.Fits.{stop_of}
-use Rattle.broker_core.specs.Stages.{Stage, Idle, Refused, Opening, Asking, Finishing, Stopping, Closing, is_finished, stage}
-use Rattle.broker_core.specs.Rows.{row, news, when, decided_commit, decided_early}
-use Rattle.broker_core.specs.Notes.{last_of, notes_of, act_at, index_of, stop_at}
-use Rattle.broker_core.specs.Phases.{phase_at, opening_row, reading_row, writing_row, decided_of, decision_row, deciding_row, commit_answered, early_answered, finished_for, reply_for, reply_by, reply_at}
+use Rattle.broker_core.specs.Phases.{deciding_row, finished_for}
 use Rattle.broker_core.proofs.ShapeLemmas.{open-is-last}
 use Rattle.broker_core.proofs.MeetLemmas.{act-is, stop-is}
 use Rattle.broker_core.proofs.PhaseLemmas.{shown, Meets, StageOf, phase-is, stage-of-is}

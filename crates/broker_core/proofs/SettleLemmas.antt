@@ -1,14 +1,6 @@
 -- Settling, effect by effect.
 use Rattle.std.proofs.Common.{◌≡◌, ℕ, zero, suc, ◌+◌, ◌-◌, ◌*◌, ◌<◌, List, [], ◌∷◌, ◌++◌, length, reverse, Option, Some, None, refl, ap, subst, sym, arith, ◌∙◌}
-use Rattle.value_form.specs.declared.acts.ActSpec.{ActSpec}
-use Rattle.effect_form.specs.declared.effects.Effect.{Effect}
-use Rattle.broker_core.specs.declared.givens.Given.{Given}
-use Rattle.broker_core.specs.declared.heards.Heard.{Heard}
-use Rattle.broker_core.specs.declared.notes.Notes.{Notes}
-use Rattle.broker_core.specs.declared.phases.Phase.{Phase}
-use Rattle.broker_core.specs.Notes.{changed}
-use Rattle.broker_core.specs.Phases.{phase_at, owed_at}
-use Rattle.broker_core.specs.Ledgers.{LedgerParts, kept, most_steps, owed_now, settle_on, settled}
+use Rattle.broker_core.proofs.Names.{ActSpec, Effect, Given, Heard, Notes, Phase, changed, phase_at, owed_at, LedgerParts, kept, most_steps, owed_now, settle_on, settled}
 use Rattle.std.proofs.lemmas.List.{reverse-append}
 
 module _ (me run : ℕ) (acts : List ActSpec) (answers : List Given) (h : Heard) where

@@ -4,17 +4,9 @@ use Rattle.std.proofs.lemmas.Grind.{common_steps}
 use Rattle.std.proofs.lemmas.Option.{slice_get-map}
 use Rattle.std.specs.List.{slice_get}
 use Rattle.std.specs.Option.{option_map}
-use Rattle.value_form.specs.declared.acts.ActSpec.{ActSpec}
-use Rattle.effect_form.specs.declared.outcomes.Outcome.{Outcome}
-use Rattle.pseudo_time.specs.Lists.{Every}
-use Rattle.broker_core.specs.declared.notes.Last.{Last}
-use Rattle.broker_core.specs.declared.notes.Notes.{Notes}
-use Rattle.broker_core.specs.Tasks.{Task, task_of, tasks}
-use Rattle.broker_core.specs.Book.{Try, Act, Book, front, tries_of, open_front, open_of, open_try, last_try, if_open}
-use Rattle.broker_core.specs.Fits.{is_none, rests, has_ended, may_follow, another, calls_again, outcome_by}
-use Rattle.broker_core.specs.Owed.{all_over, start}
-use Rattle.broker_core.specs.Phases.{start_at}
-use Rattle.broker_core.specs.Notes.{last_of, over_behind, spent_in, tries_in, notes_of, unended, open_last, has_end, calls_on, another_at, outcome_at, over_at, rests_at}
+use Rattle.broker_core.proofs.Names.{ActSpec, Outcome, Every, Last, Notes, Task, task_of, tasks, Try, Act, Book, front, tries_of, open_front, open_of, open_try, last_try, if_open, is_none, rests, has_ended, may_follow, another, calls_again, all_over, start, start_at, last_of, over_behind, spent_in, tries_in, notes_of, unended, open_last, calls_on, another_at, over_at, rests_at}
+use Rattle.broker_core.specs.Fits.{outcome_by}
+use Rattle.broker_core.specs.Notes.{has_end, outcome_at}
 
 -- ---- tests of numbers
 

@@ -3,18 +3,10 @@ use Rattle.std.proofs.Common.{◌≡◌, ℕ, ◌==◌, Bool, true, false, ◌&&
 use Rattle.std.proofs.lemmas.Bool.{eqb-true, eq-eqb}
 use Rattle.std.specs.List.{slice_get}
 use Rattle.std.specs.Cmp.Lexicographic.{same_text}
-use Rattle.pseudo_time.specs.StampParts.{StampParts}
-use Rattle.pseudo_time.specs.Lists.{Every}
-use Rattle.effect_form.specs.declared.effects.Effect.{Effect}
+use Rattle.broker_core.proofs.Names.{StampParts, Every, Effect, Outcome, Tree, Task, task_with, same_task, is_task, Try, Act, Book, enter, book, on_act, on_front, on_try, finish, new_try, fits, counts, add_if, keep, rests, Started, OfAct, Sound}
 use Rattle.effect_form.specs.declared.effects.Effect.TheVariants as effect
-use Rattle.effect_form.specs.declared.outcomes.Outcome.{Outcome}
 use Rattle.effect_form.specs.declared.outcomes.Outcome.TheVariants as outcome
-use Rattle.serial_model.specs.Questions.{Tree}
-use Rattle.broker_core.specs.Tasks.{Task, task_with}
-use Rattle.broker_core.specs.Tests.{same_task, is_task}
-use Rattle.broker_core.specs.Book.{Try, Act, Book, enter, close, book, on_act, on_front, on_try, finish, new_try}
-use Rattle.broker_core.specs.Fits.{fits, counts, add_if, keep, rests}
-use Rattle.broker_core.specs.Sound.{Started, OfAct, Sound}
+use Rattle.broker_core.specs.Book.{close}
 
 -- ---- tests
 

@@ -1,18 +1,10 @@
 -- What a run tells is where the tree of its script stops.
 use Rattle.std.proofs.Common.{◌≡◌, List, Option, Some, None, refl, ap, sym, ◌∙◌, subst, MatchOption}
-use Rattle.value_form.specs.declared.acts.ActSpec.{ActSpec}
-use Rattle.value_form.specs.declared.scripts.Stmt.{Stmt}
-use Rattle.value_form.specs.declared.transcripts.Line.{Line}
-use Rattle.value_form.specs.Mirror.{block}
-use Rattle.script_meaning.specs.Meaning.{Answer, Came}
-use Rattle.serial_model.specs.Questions.{denote, stop}
+use Rattle.broker_core.proofs.Names.{ActSpec, Stmt, Line, block, Answer, denote, stop, Next, RunParts, Tells, Given, tree_of, answers_given, act_at, stop_at, LedgerParts, StepperFits, kept, lines_of}
+use Rattle.script_meaning.specs.Meaning.{Came}
 use Rattle.serial_model.proofs.ScriptLemmas.{talk_of}
 use Rattle.serial_model.proofs.AnswerLemmas.{talked-stop}
-use Rattle.script_run.specs.declared.nexts.Next.{Next}
-use Rattle.script_run.specs.RunParts.{RunParts, Tells, stop_of}
-use Rattle.broker_core.specs.declared.givens.Given.{Given}
-use Rattle.broker_core.specs.Notes.{tree_of, answers_given, act_at, stop_at}
-use Rattle.broker_core.specs.Ledgers.{LedgerParts, StepperFits, kept, lines_of}
+use Rattle.script_run.specs.RunParts.{stop_of}
 
 tree-lines : (a : Option ActSpec) → denote (block (lines_of a)) ≡ tree_of a
 tree-lines None = refl

@@ -2,23 +2,7 @@
 use Rattle.std.proofs.Common.{◌≡◌, ℕ, ◌==◌, Bool, true, false, List, [], reverse, refl, sym, ◌∙◌, ap, subst, Some, None}
 use Rattle.std.proofs.lemmas.Bool.{eqb-true}
 use Rattle.pseudo_time.specs.declared.nodes.NodeId.{NodeId}
-use Rattle.effect_form.specs.declared.effects.Effect.{Effect}
-use Rattle.message_form.specs.declared.messages.Message.{Message}
-use Rattle.message_form.specs.declared.turns.Turn.{Turn}
-use Rattle.serial_model.specs.Questions.{Tree}
-use Rattle.broker_core.specs.declared.heards.Heard.{Heard}
-use Rattle.broker_core.specs.declared.phases.Phase.{Phase}
-use Rattle.broker_core.specs.declared.replies.Reply.{Reply}
-use Rattle.broker_core.specs.declared.replies.Reply.TheVariants.{Ignored, Hears, Adds}
-use Rattle.broker_core.specs.Tasks.{tasks, Scripted}
-use Rattle.broker_core.specs.Book.{Book}
-use Rattle.broker_core.specs.Stages.{Stage, stage}
-use Rattle.broker_core.specs.Rows.{row, news}
-use Rattle.broker_core.specs.Turns.{Desk, Take, desk_at, reply}
-use Rattle.broker_core.specs.Phases.{reply_at}
-use Rattle.broker_core.specs.Ledgers.{LedgerParts, kept}
-use Rattle.broker_core.specs.Parts.{BrokerParts, IsBroker, book_of, parts_of}
-use Rattle.broker_core.specs.Brokers.{Gives, turn_of, follows, FirstFits}
+use Rattle.broker_core.proofs.Names.{Effect, Message, Turn, Tree, Heard, Phase, Reply, Ignored, Hears, Adds, tasks, Scripted, Book, Stage, stage, row, news, Desk, Take, desk_at, reply, reply_at, LedgerParts, kept, BrokerParts, IsBroker, book_of, parts_of, Gives, turn_of, follows, FirstFits}
 use Rattle.broker_core.proofs.PhaseLemmas.{stage-of-is}
 use Rattle.broker_core.proofs.AnyLemmas.{reply-any, stage-away}
 use Rattle.broker_core.proofs.GoodLemmas.{ReplyGood, row-good}

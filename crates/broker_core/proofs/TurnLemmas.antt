@@ -2,20 +2,8 @@
 use Rattle.std.proofs.Common.{◌≡◌, ℕ, zero, suc, ◌≤◌, ◌==◌, nat_lt, Bool, true, false, List, refl, sym, ap, subst, Option, Some, None, if◌then◌else◌, arith}
 use Rattle.std.proofs.lemmas.Grind.{common_steps}
 use Rattle.std.proofs.lemmas.Bool.{eqb-true, eq-eqb}
-use Rattle.value_form.specs.declared.acts.ActSpec.{ActSpec}
-use Rattle.effect_form.specs.declared.effects.Effect.{Effect}
+use Rattle.broker_core.proofs.Names.{ActSpec, Effect, Tree, Given, Heard, Notes, tasks, Scripted, Book, book, enter, fits, counts, add_if, keep, owed, Desk, all_effects, note, note_if, state, settle_up, Shows, run_begun, noted, changed, Settled, kept, answers_noted, settle_on, settled}
 use Rattle.effect_form.specs.declared.effects.Effect.TheVariants as effect
-use Rattle.serial_model.specs.Questions.{Tree}
-use Rattle.broker_core.specs.declared.givens.Given.{Given}
-use Rattle.broker_core.specs.declared.heards.Heard.{Heard}
-use Rattle.broker_core.specs.declared.notes.Notes.{Notes}
-use Rattle.broker_core.specs.Tasks.{tasks, Scripted}
-use Rattle.broker_core.specs.Book.{Book, book, enter}
-use Rattle.broker_core.specs.Fits.{fits, counts, add_if, keep}
-use Rattle.broker_core.specs.Owed.{owed}
-use Rattle.broker_core.specs.Turns.{Desk, all_effects, note, note_if, state, settle_up}
-use Rattle.broker_core.specs.Notes.{Shows, run_begun, noted, changed}
-use Rattle.broker_core.specs.Ledgers.{Settled, kept, answers_noted, settle_on, settled}
 use Rattle.broker_core.proofs.SoundLemmas.{sound-kept, here, closed-run}
 use Rattle.broker_core.proofs.NotedLemmas.{noted-shows}
 use Rattle.broker_core.proofs.AnyLemmas.{Knows, meets, owed-any}

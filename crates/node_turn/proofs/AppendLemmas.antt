@@ -2,29 +2,13 @@
 use Rattle.std.proofs.Common.{◌≡◌, ◌≢◌, ℕ, ◌+◌, ◌≤◌, Bool, true, false, List, [], ◌++◌, length, take, Result, Ok, Err, IsTrue, refl, sym, ap, subst, ◌∙◌, arith}
 use Rattle.std.specs.List.{filter}
 use Rattle.std.specs.Prelude.{count_by, ◌<◌}
-use Rattle.page_gate.specs.States.{is_blank}
+use Rattle.node_turn.proofs.Names.{is_blank, NodeId, Rose, Image, Effect, Out, AreEffects, StoreFault, HasPrefix, filling, storage, Gate, leaves, Base, Life, Flags, all_effects, gated_life, owed, Decided, Sight, base_at, world_at, life_at, flags_at, Gated, closed, LeavesLog, IsAppended, IsFull, DraftParts, no_draft, IsKept, HasLife, IsUp, IsStored, IsStruck, IsCause}
 use Rattle.std.proofs.lemmas.List.{length-append, take_all}
-use Rattle.pseudo_time.specs.declared.nodes.NodeId.{NodeId}
 use Rattle.pseudo_time.specs.declared.down_causes.DownCause.TheVariants as down
-use Rattle.stream_port.specs.Causes.{Rose}
-use Rattle.medium_port.specs.Image.{Image}
 use Rattle.medium_port.specs.declared.media.Medium.{Ghosts as Media}
-use Rattle.effect_form.specs.declared.effects.Effect.{Effect}
-use Rattle.message_form.specs.declared.turns.Out.{Out}
-use Rattle.message_form.specs.Ranges.{AreEffects}
-use Rattle.version_store.specs.declared.faults.StoreFault.{StoreFault}
 use Rattle.version_store.specs.declared.faults.StoreFault.TheVariants as adding
-use Rattle.version_store.specs.Filling.{HasPrefix, filling}
-use Rattle.version_store.specs.Storage.{storage}
-use Rattle.world_core.specs.declared.entries.Entry.TheVariants.{Gate}
-use Rattle.world_core.specs.Nodes.{leaves}
-use Rattle.world_core.specs.Walks.{Base, Life, Flags, all_effects, gated_life}
-use Rattle.wire_core.specs.Changes.{owed}
-use Rattle.wire_lock.specs.Decisions.{Decided}
-use Rattle.wire_lock.specs.Sights.{Sight, base_at, world_at, life_at, flags_at, Gated, closed}
 use Rattle.node_turn.specs.declared.core_meanings.Meanings.{Ghosts as Meanings}
-use Rattle.node_turn.specs.Cores.{LeavesLog, IsAppended, IsFull}
-use Rattle.node_turn.specs.Lives.{DraftParts, no_draft, IsKept, HasLife, IsUp, IsStored, IsStruck, IsCause, IsAfterAppend}
+use Rattle.node_turn.specs.Lives.{IsAfterAppend}
 use Rattle.node_turn.proofs.ReadyLemmas.{ready-whole, ready-durable}
 use Rattle.node_turn.proofs.LifeLemmas.{Follows, follows-of, on-ok, if-err, kept-none}
 

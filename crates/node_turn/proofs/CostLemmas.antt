@@ -1,8 +1,7 @@
 -- What entries cost.
 use Rattle.std.specs.Prelude.{ℕ, ◌+◌, ◌≤◌}
 use Rattle.std.proofs.Common.{arith}
-use Rattle.stream_port.specs.Causes.{Rose}
-use Rattle.node_turn.specs.Costs.{PaysFor}
+use Rattle.node_turn.proofs.Names.{Rose, PaysFor}
 
 pub pays-none : (old new count now : ℕ) → new ≤ old → count ≤ now → PaysFor old count new now
 pays-none old new count now le later first r = omega (arith, le, later, r)

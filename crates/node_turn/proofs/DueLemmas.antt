@@ -1,9 +1,7 @@
 -- Where a node has something to close, more than downs happened.
 use Rattle.std.proofs.Common.{◌≡◌, Bool, true, false, ◌&&◌, List, [], ◌∷◌, refl, sym, ◌∙◌, if◌then◌else◌}
-use Rattle.pseudo_time.specs.declared.nodes.NodeId.{NodeId}
-use Rattle.world_core.specs.declared.entries.Entry.{Entry}
-use Rattle.world_core.specs.declared.entries.Entry.TheVariants.{Take, Go, Learn, Hear, Gate, Crash, Down, Tick}
-use Rattle.world_core.specs.Walks.{Base, World, Flags, names, flagged, step, start_world, walk_from, walk}
+use Rattle.node_turn.proofs.Names.{NodeId, Entry, Take, Go, Learn, Hear, Gate, Crash, Down, Tick, Base, World, Flags, names, step, start_world, walk_from, walk}
+use Rattle.world_core.specs.Walks.{flagged}
 
 same-due : (t : Bool) (f g : Flags) → g.due ≡ f.due → (if t then g else f).due ≡ true → f.due ≡ true
 same-due true f g e h = sym e ∙ h

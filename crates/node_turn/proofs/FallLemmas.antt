@@ -1,23 +1,15 @@
 -- What a node has after it went down, or after it was opened anew.
 use Rattle.std.proofs.Common.{◌≡◌, ℕ, ◌+◌, ◌-◌, ◌≤◌, ◌<◌, Bool, true, false, List, [], ◌++◌, length, take, Option, Some, Result, Ok, Err, IsTrue, refl, sym, ap, subst, ◌∙◌, arith, length-append, ⊎_elim}
 use Rattle.std.proofs.lemmas.List.{append-nil, length-take-le}
-use Rattle.pseudo_time.specs.declared.nodes.NodeId.{NodeId}
-use Rattle.pseudo_time.specs.declared.down_causes.DownCause.{DownCause}
+use Rattle.node_turn.proofs.Names.{NodeId, DownCause, Effect, OpenFault, Entry, Base, Life, Flags, opened_life, Sight, base_at, life_at, flags_at, Owns, Looked, Added, Falls, Crashes, IsReady, HasFound, IsReopened, no_draft, IsKept, HasLife, up_flags, IsUp, IsStored, IsStruck, IsCause, IsDown, storage, cost_of_cause, PaysFor}
 use Rattle.pseudo_time.specs.declared.down_causes.DownCause.TheVariants as down
 use Rattle.medium_port.specs.declared.media.Medium.{Ghosts as Media}
-use Rattle.effect_form.specs.declared.effects.Effect.{Effect}
-use Rattle.version_store.specs.declared.faults.OpenFault.{OpenFault}
 use Rattle.version_store.specs.declared.faults.OpenFault.TheVariants as opening
-use Rattle.world_core.specs.declared.entries.Entry.{Entry}
-use Rattle.world_core.specs.Walks.{Base, Life, Flags, opened_life}
-use Rattle.wire_lock.specs.Sights.{Sight, base_at, life_at, flags_at, Owns, Looked, Added, Falls, Crashes, HadNothing, crashed}
+use Rattle.wire_lock.specs.Sights.{HadNothing, crashed}
 use Rattle.wire_lock.proofs.SightLemmas.{looked-of}
 use Rattle.node_turn.specs.declared.core_meanings.Meanings.{Ghosts as Meanings}
-use Rattle.node_turn.specs.Cores.{IsReady, HasFound, IsReopened}
-use Rattle.node_turn.specs.Lives.{no_draft, IsKept, HasLife, up_flags, IsUp, IsStored, IsStruck, IsCause, IsDown, IsFullFor}
+use Rattle.node_turn.specs.Lives.{IsFullFor}
 use Rattle.version_store.specs.Causes.{down_of_opening}
-use Rattle.version_store.specs.Storage.{storage}
-use Rattle.node_turn.specs.Costs.{cost_of_cause, PaysFor}
 use Rattle.node_turn.proofs.CostLemmas.{pays-none, pays-one}
 use Rattle.node_turn.proofs.ReadyLemmas.{ready-durable}
 use Rattle.node_turn.proofs.LifeLemmas.{Follows, follows-added, on-ok, if-ok}

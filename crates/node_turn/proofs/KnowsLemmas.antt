@@ -2,31 +2,21 @@
 use Rattle.std.proofs.Common.{◌≡◌, ℕ, Bool, true, false, ◌||◌, List, [], ◌∷◌, ◌++◌, reverse, Option, Some, None, is_some, refl, sym, ap, subst, ◌∙◌, append_assoc, ◌==◌, not, if◌then◌else◌}
 use Rattle.std.proofs.lemmas.List.{reverse-append, reverse-reverse}
 use Rattle.std.specs.List.{filter}
-use Rattle.pseudo_time.specs.StampParts.{StampParts}
+use Rattle.node_turn.proofs.Names.{StampParts, NodeId, NodeKind, Repository, Broker, is_broker, ActSpec, Effect, Tree, is_for, decided_by, Mind, gives, kind_gives, Learning, Base, Life, all_effects, after_input}
 use Rattle.pseudo_time.specs.TimeParts.{TimeParts}
 use Rattle.pseudo_time.specs.Order.{same_stamp}
 use Rattle.pseudo_time.proofs.OrderLemmas.{same_stamp-self}
-use Rattle.pseudo_time.specs.declared.nodes.NodeId.{NodeId}
-use Rattle.pseudo_time.specs.declared.nodes.NodeKind.{NodeKind}
-use Rattle.pseudo_time.specs.declared.nodes.NodeKind.TheVariants.{Repository, Broker}
-use Rattle.pseudo_time.specs.Nodes.{is_broker}
 use Rattle.value_form.specs.declared.objects.ObjectId.{ObjectId}
-use Rattle.value_form.specs.declared.acts.ActSpec.{ActSpec}
-use Rattle.effect_form.specs.declared.effects.Effect.{Effect}
 use Rattle.effect_form.specs.declared.effects.Effect.TheVariants as effect
 use Rattle.object_history.specs.declared.steps.ReadStep.{ReadStep}
 use Rattle.object_history.specs.declared.steps.ReadStep.TheVariants as read
 use Rattle.object_history.specs.Answers.{read_step}
-use Rattle.serial_model.specs.Questions.{Tree}
-use Rattle.repository_log.specs.Logs.{knows, known, is_for, decided_by, marks}
+use Rattle.repository_log.specs.Logs.{knows, known, marks}
 use Rattle.repository_log.proofs.MarkLemmas.{knows-known}
 use Rattle.repository_core.specs.declared.waits.HeldRead.{HeldRead}
 use Rattle.repository_core.specs.Hands.{Hand, now, note, Mind as HandMind}
 use Rattle.repository_core.specs.Rows.{read_as, read_known, on_read, reread, release, learn_as, on_learn, unhold, waits_for}
 use Rattle.repository_core.specs.Turns as hands
-use Rattle.world_core.specs.Nodes.{Mind, gives, kind_gives}
-use Rattle.world_core.specs.Nodes.Input.{Learning}
-use Rattle.world_core.specs.Walks.{Base, Life, all_effects, after_input}
 
 or-right : (a b : Bool) → b ≡ true → (a || b) ≡ true
 or-right true b h = refl

@@ -19,3 +19,4 @@ pub use Rattle.wire_core.proofs.Crosses as WireCrosses
 pub use Rattle.wire_core.proofs.ScriptCrosses
 pub use Rattle.wire_lock.proofs.Crosses
 pub use Rattle.wire_lock.proofs.SightLemmas
+pub mod Names

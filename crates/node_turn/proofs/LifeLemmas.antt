@@ -1,34 +1,18 @@
 -- What a node keeps of its life, from call to call.
 use Rattle.std.proofs.Common.{◌≡◌, Bool, true, false, List, [], ◌++◌, length, Option, Result, Ok, Err, IsTrue, IfOk, IfErr, OnOk, OnErr, IsErrOf, ◌||◌, refl, sym, ap, subst, ◌∙◌, arith, append_assoc}
 use Rattle.std.proofs.lemmas.List.{append-nil}
-use Rattle.pseudo_time.proofs.ListLemmas.{every-append}
-use Rattle.pseudo_time.specs.StampParts.{StampParts}
-use Rattle.pseudo_time.specs.declared.nodes.NodeId.{NodeId}
-use Rattle.pseudo_time.specs.declared.nodes.NodeKind.{NodeKind}
-use Rattle.pseudo_time.specs.declared.nodes.NodeKind.TheVariants.{Repository, Broker}
-use Rattle.pseudo_time.specs.Nodes.{is_broker}
-use Rattle.stream_port.specs.Causes.{Rose}
-use Rattle.medium_port.specs.Image.{Image, NoMore}
+use Rattle.node_turn.proofs.Names.{every-append, StampParts, NodeId, NodeKind, Repository, Broker, is_broker, Rose, Image, NoMore, Effect, Out, AreEffects, AreOuts, HistoryFault, storage, Entry, Input, Base, Life, Flags, after_input, all_effects, walk, with_due, WireParts, base_from, Sight, origin_in, base_at, life_at, flags_at, IsOf, IsAsBefore, Looked, Added, Visited, Tested, given_for, DraftParts, IsKept, StaysReady, HasLife, up_flags, IsUnwritten, IsUp, IsStored, IsStruck, IsAfter}
 use Rattle.medium_port.specs.declared.media.Medium.{Ghosts as Media}
-use Rattle.effect_form.specs.declared.effects.Effect.{Effect}
 use Rattle.effect_form.specs.Effects.{IsEffect}
 use Rattle.message_form.specs.declared.turns.Turn.{Turn}
-use Rattle.message_form.specs.declared.turns.Out.{Out}
-use Rattle.message_form.specs.Ranges.{AreEffects, AreOuts}
 use Rattle.message_form.specs.Messages.{IsMessage}
-use Rattle.object_history.specs.declared.steps.HistoryFault.{HistoryFault}
 use Rattle.object_history.specs.declared.steps.HistoryFault.TheVariants as fault
 use Rattle.object_history.specs.Causes.{IsNotDamage}
-use Rattle.version_store.specs.Storage.{storage}
-use Rattle.world_core.specs.declared.entries.Entry.{Entry}
-use Rattle.world_core.specs.Nodes.{Input}
-use Rattle.world_core.specs.Walks.{Base, Life, Flags, after_input, all_effects, walk, went, learned, with_due}
-use Rattle.wire_core.specs.Wires.{WireParts, base_from}
+use Rattle.world_core.specs.Walks.{went, learned}
 use Rattle.wire_core.specs.declared.takens.Taken.{Taken}
-use Rattle.wire_lock.specs.Sights.{Sight, origin_in, base_at, life_at, flags_at, given, IsOf, IsAsBefore, Looked, Added, Visited, Tested, TakesOne}
+use Rattle.wire_lock.specs.Sights.{given, TakesOne}
 use Rattle.node_turn.specs.declared.core_meanings.Meanings.{Ghosts as Meanings}
-use Rattle.node_turn.specs.Cores.{HasTurn, given_for, IsGiven}
-use Rattle.node_turn.specs.Lives.{DraftParts, IsKept, StaysReady, HasLife, up_flags, IsUnwritten, IsUp, IsStored, IsStruck, IsAfter}
+use Rattle.node_turn.specs.Cores.{HasTurn, IsGiven}
 use Rattle.node_turn.proofs.ReadyLemmas.{ready-told, asks-told}
 
 -- ---- results

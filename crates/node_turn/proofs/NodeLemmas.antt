@@ -1,29 +1,17 @@
 -- What a node keeps while others move on, at rest, and over a turn.
 use Rattle.std.proofs.Common.{◌≡◌, ◌≢◌, ℕ, Bool, false, Result, Ok, Err, IsTrue, IfOk, OnOk, refl, sym, ap, subst, ◌∙◌}
 use Rattle.std.specs.Prelude.{MatchBool}
-use Rattle.pseudo_time.specs.declared.nodes.NodeId.{NodeId}
-use Rattle.pseudo_time.specs.Nodes.{is_broker}
-use Rattle.pseudo_time.specs.declared.down_causes.DownCause.{DownCause}
-use Rattle.medium_port.specs.Image.{Image}
-use Rattle.medium_port.specs.Moment.{LeftNow}
+use Rattle.node_turn.proofs.Names.{NodeId, is_broker, DownCause, Image, LeftNow, knows, Entry, Flags, WireParts, Sight, life_at, Looked, no_draft, IsUp, IsDown, costs, PaysFor, HasTested, PassesOn, Adds, Grew}
 use Rattle.medium_port.specs.declared.media.Medium.{Ghosts as Media}
 use Rattle.atomic_table.specs.declared.shared.Seat.{Seat}
 use Rattle.seat_lock.specs.declared.views.View.{View}
-use Rattle.seat_lock.specs.Words.{knows}
-use Rattle.world_core.specs.declared.entries.Entry.{Entry}
-use Rattle.world_core.specs.Walks.{Flags}
-use Rattle.wire_core.specs.Wires.{WireParts}
-use Rattle.wire_lock.specs.Sights.{Sight, life_at, Looked}
 use Rattle.node_turn.specs.declared.core_meanings.Meanings.{Ghosts as Meanings}
 use Rattle.node_turn.specs.declared.conditions.Condition.{Condition}
 use Rattle.node_turn.specs.declared.conditions.Condition.TheVariants as condition
 use Rattle.node_turn.specs.declared.conditions.Turned.{Turned}
 use Rattle.node_turn.specs.declared.conditions.Turned.TheVariants.{Worked, Quiet, Stopped}
-use Rattle.node_turn.specs.Lives.{no_draft, IsUp, IsDown, Keeps}
-use Rattle.node_turn.specs.Costs.{costs, PaysFor}
-use Rattle.node_turn.specs.Trails.{HasTested}
-use Rattle.node_turn.specs.Windows.{PassesOn}
-use Rattle.node_turn.specs.Nodes.{NodeParts, Adds, Grew, IsCondition, IsQuiet, Answers, Does, StaysWhole, TurnsTo, IsAtRest}
+use Rattle.node_turn.specs.Lives.{Keeps}
+use Rattle.node_turn.specs.Nodes.{NodeParts, IsCondition, IsQuiet, Answers, Does, StaysWhole, TurnsTo, IsAtRest}
 use Rattle.node_turn.proofs.LifeLemmas.{Follows, follows-looked, flags-seen, life-looked, up-looked, up-stored, stored-looked}
 use Rattle.node_turn.proofs.FallLemmas.{cause-same}
 use Rattle.node_turn.proofs.PageLemmas.{whole-same}

@@ -1,12 +1,11 @@
 -- An image against itself.
 use Rattle.std.proofs.Common.{◌≡◌, Bool, true, ◌==◌, List, [], ℕ, Ok, drop, refl, sym, ap, ◌∙◌, if◌then◌else◌, append-nil, arith}
 use Rattle.std.specs.Prelude.{slice_index}
-use Rattle.medium_port.specs.Image.{Image, page_of}
-use Rattle.page_gate.specs.States.{is_blank, state_of}
+use Rattle.node_turn.proofs.Names.{Image, is_blank, Effect, IsIntact}
+use Rattle.medium_port.specs.Image.{page_of}
+use Rattle.page_gate.specs.States.{state_of}
 use Rattle.page_gate.specs.declared.pages.PageState.{PageState}
 use Rattle.page_gate.specs.declared.pages.PageState.TheVariants.{Blank, Spoiled, Gated}
-use Rattle.effect_form.specs.declared.effects.Effect.{Effect}
-use Rattle.node_turn.specs.Cores.{IsIntact}
 
 blank-is : (p : List ℕ) → is_blank p ≡ true → state_of p ≡ Blank
 blank-is p h = ap (λ (t : Bool). if t then Blank else if slice_index p 0 == 165 then Gated (drop 1 p) else Spoiled) h

@@ -3,15 +3,7 @@ use Rattle.std.proofs.Common.{◌≡◌, ℕ, zero, suc, ◌+◌, ◌-◌, ◌�
 use Rattle.std.proofs.lemmas.List.{append-nil, length-append, take-append-drop, take-append-le, take_all, length-take-le, length-reverse, reverse-append, reverse-reverse}
 use Rattle.std.proofs.Math.Seq.{take-append_seam, take-append-add}
 use Rattle.std.proofs.lemmas.Bool.{cases_lt}
-use Rattle.pseudo_time.proofs.ListLemmas.{every-append}
-use Rattle.pseudo_time.specs.declared.nodes.NodeId.{NodeId}
-use Rattle.pseudo_time.specs.declared.nodes.NodeKind.{NodeKind}
-use Rattle.pseudo_time.specs.declared.nodes.NodeKind.TheVariants.{Repository, Broker}
-use Rattle.pseudo_time.specs.Nodes.{is_broker}
-use Rattle.value_form.specs.declared.acts.ActSpec.{ActSpec}
-use Rattle.effect_form.specs.declared.effects.Effect.{Effect}
-use Rattle.message_form.specs.declared.turns.Out.{Out}
-use Rattle.serial_model.specs.Questions.{Tree}
+use Rattle.node_turn.proofs.Names.{every-append, NodeId, NodeKind, Repository, Broker, is_broker, ActSpec, Effect, Out, Tree, Mind, Input, gives, kind_gives, Learning, Base, Life, all_effects, after_input, IsReady, given_for, StaysReady, AskNobody}
 use Rattle.broker_core.specs.Fits.{resume_fault}
 use Rattle.broker_core.specs.Tasks.{tasks}
 use Rattle.broker_core.specs.Turns as desks
@@ -21,11 +13,8 @@ use Rattle.broker_laws.proofs.AnyLog.{turn-always}
 use Rattle.broker_laws.proofs.Nobody.{turn-nobody}
 use Rattle.broker_laws.proofs.ReadyLemmas.{no-fault, fault-none}
 use Rattle.broker_laws.proofs.TurnLemmas.{turn-added}
-use Rattle.world_core.specs.Nodes.{Mind, Input, gives, kind_gives, is_ready, kind_ready, broker_ready, acts_of}
-use Rattle.world_core.specs.Nodes.Input.{Going, Taking, Learning, Hearing}
-use Rattle.world_core.specs.Walks.{Base, Life, all_effects, after_input}
-use Rattle.node_turn.specs.Cores.{IsReady, given_for}
-use Rattle.node_turn.specs.Lives.{StaysReady, AskNobody}
+use Rattle.world_core.specs.Nodes.{is_ready, kind_ready, broker_ready, acts_of}
+use Rattle.world_core.specs.Nodes.Input.{Going, Taking, Hearing}
 
 -- ---- lists
 

@@ -6,18 +6,13 @@ use Rattle.std.proofs.lemmas.Bool.{eqb-true}
 use Rattle.std.proofs.lemmas.List.{append-nil, take_more, take-append-le}
 use Rattle.pseudo_time.specs.Lists.{Has}
 use Rattle.pseudo_time.proofs.ListLemmas.{has-left, has-right, has-either}
-use Rattle.pseudo_time.specs.StampParts.{StampParts}
-use Rattle.pseudo_time.specs.declared.nodes.NodeId.{NodeId}
-use Rattle.effect_form.specs.declared.effects.Effect.{Effect}
+use Rattle.node_turn.proofs.Names.{StampParts, NodeId, Effect, Out, is_for, decided_by, leaves, place_of, Decided, Sight, AreSought, stamp_asked, Trail, Seeks, HasTested}
 use Rattle.message_form.specs.declared.messages.Message.{Message}
 use Rattle.message_form.specs.declared.messages.Message.TheVariants as message
-use Rattle.message_form.specs.declared.turns.Out.{Out}
-use Rattle.repository_log.specs.Logs.{knows, is_for, decided_by}
-use Rattle.world_core.specs.Nodes.{leaves}
-use Rattle.wire_core.specs.Boards.{place_of, number_of}
-use Rattle.wire_lock.specs.Decisions.{Decided, answer_of}
-use Rattle.wire_lock.specs.Sights.{Sight}
-use Rattle.node_turn.specs.Trails.{IsMissed, IsFound, IsSought, AreSought, stamp_asked, Trail, Seeks, HasTested}
+use Rattle.repository_log.specs.Logs.{knows}
+use Rattle.wire_core.specs.Boards.{number_of}
+use Rattle.wire_lock.specs.Decisions.{answer_of}
+use Rattle.node_turn.specs.Trails.{IsMissed, IsFound, IsSought}
 use Rattle.node_turn.proofs.TrailLemmas.{trail-none, trail-joins}
 
 -- ---- one test

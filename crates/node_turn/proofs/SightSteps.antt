@@ -1,17 +1,7 @@
 -- What a visit and a meeting are for the windows of a node: a step over its own entry, and entries of others.
 use Rattle.std.proofs.Common.{◌≡◌, true, List, [], ◌∷◌, ◌++◌, sym, ap, subst, ◌∙◌, append_assoc}
 use Rattle.std.proofs.lemmas.List.Elements.{filter-append}
-use Rattle.pseudo_time.specs.declared.nodes.NodeId.{NodeId}
-use Rattle.medium_port.specs.Image.{Image}
-use Rattle.world_core.specs.declared.entries.Entry.{Entry}
-use Rattle.world_core.specs.Walks.{names, own, walk}
-use Rattle.seat_lock.specs.Words.{CarriesOn}
-use Rattle.wire_core.specs.Boards.{owner_of}
-use Rattle.wire_lock.specs.Sights.{Sight, IsOf, Owns, IsAsBefore, Looked, Added, base_at, life_at}
-use Rattle.wire_lock.proofs.SightLemmas.{own-same}
-use Rattle.medium_port.specs.Moment.{Stage, LeftNow, Goes}
-use Rattle.node_turn.specs.Lives.{IsKept}
-use Rattle.node_turn.specs.Windows.{Passes}
+use Rattle.node_turn.proofs.Names.{NodeId, Image, Entry, names, own, walk, CarriesOn, owner_of, Sight, IsOf, Owns, IsAsBefore, Looked, Added, base_at, life_at, own-same, Stage, LeftNow, Goes, IsKept, Passes}
 use Rattle.node_turn.proofs.StepLemmas.{passes-between, passes-visit}
 
 nothing-added : {X : Type 0} (xs ys : List X) → xs ++ ys ≡ xs → ys ≡ []

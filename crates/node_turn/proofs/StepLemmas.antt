@@ -1,17 +1,9 @@
 -- What node_turn needs at each of its visits and calls.
 use Rattle.std.proofs.Common.{◌≡◌, ℕ, ◌≤◌, true, List, [], ◌∷◌, ◌++◌, length, take, refl, sym, ap, subst, ◌∙◌, arith, length-append, Ok}
 use Rattle.std.proofs.lemmas.List.{append-nil, take_all, take-append-le}
-use Rattle.pseudo_time.specs.declared.nodes.NodeId.{NodeId}
-use Rattle.effect_form.specs.declared.effects.Effect.{Effect}
-use Rattle.medium_port.specs.Image.{Image}
-use Rattle.medium_port.specs.Moment.{Stage, LeftNow, Goes, goes_nowhere}
-use Rattle.version_store.specs.Filling.{HasPrefix}
-use Rattle.version_store.specs.Storage.{storage}
-use Rattle.world_core.specs.declared.entries.Entry.{Entry}
+use Rattle.node_turn.proofs.Names.{NodeId, Effect, Image, Stage, LeftNow, Goes, goes_nowhere, HasPrefix, storage, Entry, Base, Life, all_effects, gated_life, names, own, walk, IsKept, IsNext, KeptAlong, Mark, Passes}
 use Rattle.world_core.specs.Nodes.{Given}
-use Rattle.world_core.specs.Walks.{Base, Life, all_effects, crashed_life, gated_life, names, own, walk, with_given}
-use Rattle.node_turn.specs.Lives.{IsKept}
-use Rattle.node_turn.specs.Windows.{IsNext, KeptAlong, Mark, Passes}
+use Rattle.world_core.specs.Walks.{crashed_life, with_given}
 
 -- ---- images
 

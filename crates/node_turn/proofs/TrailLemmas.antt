@@ -3,26 +3,11 @@ use Rattle.std.specs.Prelude.{◌≡◌, ℕ, ◌+◌, Bool, false, List, [], �
 use Rattle.std.specs.List.{filter}
 use Rattle.std.proofs.Common.{refl, ap, sym, ◌∙◌, arith, append_assoc}
 use Rattle.std.proofs.lemmas.List.{append-nil}
-use Rattle.pseudo_time.specs.StampParts.{StampParts}
-use Rattle.pseudo_time.specs.declared.nodes.NodeId.{NodeId}
-use Rattle.message_core.proofs.NodeLemmas.{same_node-refl}
-use Rattle.message_form.specs.declared.turns.Out.{Out}
-use Rattle.seat_lock.specs.Words.{CarriesOn}
-use Rattle.world_core.specs.declared.entries.Entry.{Entry}
-use Rattle.world_core.specs.declared.entries.Entry.TheVariants.{Take, Go, Learn, Hear, Gate, Crash, Down, Tick}
-use Rattle.world_core.specs.Nodes.{leaves}
-use Rattle.world_core.specs.Walks.{Base, Life, Flags, World, names, own, all_effects, start_world, step, walk_from, walk}
+use Rattle.node_turn.proofs.Names.{StampParts, NodeId, same_node-refl, Out, CarriesOn, Entry, Take, Go, Learn, Hear, Gate, Crash, Down, Tick, leaves, Base, Life, Flags, World, names, own, all_effects, start_world, step, walk_from, walk, owner_of, place_of, owed, Decided, Sight, origin_in, base_at, world_at, IsOf, Owns, Looked, Added, Gated, Tested, WireParts, base_from, own-same, costs, Adds, Grew, Trail}
 use Rattle.world_core.proofs.Lives.{walk-append}
 use Rattle.world_core.proofs.Others.{Silent, silent-more}
-use Rattle.wire_core.specs.Boards.{owner_of, place_of}
-use Rattle.wire_core.specs.Changes.{owed}
-use Rattle.wire_lock.specs.Decisions.{Decided}
-use Rattle.wire_lock.specs.Sights.{Sight, origin_in, base_at, world_at, IsOf, Owns, Looked, Added, Gated, Tested}
-use Rattle.wire_core.specs.Wires.{WireParts, base_from}
-use Rattle.wire_lock.proofs.SightLemmas.{own-same}
-use Rattle.node_turn.specs.Costs.{cost_of, costs}
-use Rattle.node_turn.specs.Nodes.{Adds, Grew}
-use Rattle.node_turn.specs.Trails.{gates, sent_from, learned_by, learned_in, Trail}
+use Rattle.node_turn.specs.Costs.{cost_of}
+use Rattle.node_turn.specs.Trails.{gates, sent_from, learned_by, learned_in}
 
 -- ---- what is sent
 

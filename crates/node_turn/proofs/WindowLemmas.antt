@@ -3,14 +3,10 @@ use Rattle.std.proofs.Common.{◌≡◌, ◌⊎◌, inl, inr, ⊎_elim, ℕ, zer
 use Rattle.std.specs.Prelude.{cond, slice_index_or}
 use Rattle.std.proofs.lemmas.List.{append-nil}
 use Rattle.std.proofs.lemmas.List.Elements.{filter-append}
-use Rattle.pseudo_time.specs.declared.nodes.NodeId.{NodeId}
-use Rattle.medium_port.specs.Image.{Image}
-use Rattle.medium_port.specs.Moment.{Stage, LeftNow, Goes, goes_on, goes_to}
-use Rattle.world_core.specs.declared.entries.Entry.{Entry}
-use Rattle.world_core.specs.Walks.{Base, Life, names, own, walk}
+use Rattle.node_turn.proofs.Names.{NodeId, Image, Stage, LeftNow, Goes, Entry, Base, Life, names, own, walk, IsKept, IsNext, Mark, KeptAlong, Passes}
+use Rattle.medium_port.specs.Moment.{goes_on, goes_to}
 use Rattle.world_core.proofs.Lives.{same-life}
-use Rattle.node_turn.specs.Lives.{IsKept}
-use Rattle.node_turn.specs.Windows.{IsNext, Mark, KeptAlong, Passes, entries_in, cuts_of, cut_at}
+use Rattle.node_turn.specs.Windows.{entries_in, cuts_of, cut_at}
 
 own-append : (n : NodeId) (xs ys : List Entry) → own n (xs ++ ys) ≡ own n xs ++ own n ys
 own-append n xs ys = filter-append (names n) xs ys

@@ -4,14 +4,8 @@ use Rattle.std.proofs.lemmas.List.{reverse-append, append_assoc, append-nil}
 use Rattle.std.specs.Prelude.{IfSome}
 use Rattle.std.proofs.Math.Seq.{take-suc}
 use Rattle.pseudo_time.proofs.ListLemmas.{every-reverse}
-use Rattle.value_form.specs.declared.objects.ObjectId.{ObjectId}
-use Rattle.effect_form.specs.declared.effects.Effect.{Effect}
-use Rattle.object_history.specs.declared.marks.Mark.{Mark}
-use Rattle.object_history.specs.declared.marks.Mark.TheVariants.{Put, Stretch, Settle, Floor}
-use Rattle.object_history.specs.Ranges.{AreMarks, IsMark}
-use Rattle.object_header.specs.Odd.{kept_of, is_kept}
-use Rattle.repository_log.specs.Logs.{marks, mark_of}
-use Rattle.object_header.specs.Marks.{added}
+use Rattle.object_header.proofs.Names.{ObjectId, Effect, Mark, Put, Stretch, Settle, Floor, AreMarks, IsMark, kept_of, marks, mark_of, added}
+use Rattle.object_header.specs.Odd.{is_kept}
 use Rattle.object_header.proofs.LedgerLemmas.{kept-append, kept-twice}
 
 kept-one : (odd : ObjectId → Bool) (f : Mark) → kept_of odd (f ∷ []) ≡ (if is_kept odd f then f ∷ [] else [])

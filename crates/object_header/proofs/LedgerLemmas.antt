@@ -7,23 +7,11 @@ use Rattle.std.specs.declared.cmp.Ordering.TheVariants.{Less, Equal, Greater}
 use Rattle.std.proofs.lemmas.Grind.{common_steps}
 use Rattle.std.proofs.lemmas.List.{reverse-append, take_at, append_cancel_right}
 use Rattle.std.proofs.lemmas.Bool.{false≢true}
-use Rattle.pseudo_time.specs.StampParts.{StampParts}
-use Rattle.pseudo_time.specs.TimeParts.{TimeParts}
-use Rattle.value_form.specs.declared.objects.ObjectId.{ObjectId}
-use Rattle.value_form.specs.declared.values.Value.{Value}
-use Rattle.effect_form.specs.declared.effects.Effect.{Effect}
-use Rattle.object_history.specs.declared.marks.Mark.{Mark}
-use Rattle.object_history.specs.declared.marks.Mark.TheVariants.{Put, Stretch, Settle, Floor}
-use Rattle.object_history.specs.Objects.{same_object}
-use Rattle.object_history.specs.History.{floor_of}
-use Rattle.object_history.specs.Kept.{Settled}
-use Rattle.object_history.specs.Ranges.{AreMarks, IsMark}
-use Rattle.object_header.specs.Odd.{kept_of}
-use Rattle.object_header.specs.Heads.{Headed, head_at, first_put}
-use Rattle.object_header.specs.Ledgers.{LedgerParts, content, odd_in, IsIndexed, IsLedger}
-use Rattle.repository_log.specs.Logs.{HasMarks, marks, mark_of}
+use Rattle.object_header.proofs.Names.{StampParts, TimeParts, ObjectId, Value, Effect, Mark, Put, Stretch, Settle, Floor, same_object, floor_of, Settled, AreMarks, IsMark, kept_of, Headed, head_at, first_put, content, odd_in, IsIndexed, marks, mark_of, added}
+use Rattle.object_header.specs.Ledgers.{LedgerParts, IsLedger}
+use Rattle.repository_log.specs.Logs.{HasMarks}
 use Rattle.repository_log.proofs.MarkLemmas.{marks-append}
-use Rattle.object_header.specs.Marks.{added, is_here, mark_put}
+use Rattle.object_header.specs.Marks.{is_here, mark_put}
 
 -- ---- objects
 

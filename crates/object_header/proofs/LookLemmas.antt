@@ -2,27 +2,9 @@
 use Rattle.std.proofs.Common.{◌≡◌, ℕ, ◌+◌, ◌≤◌, ◌<◌, Bool, true, false, List, [], ◌∷◌, refl, sym, ◌∙◌, ap, subst, Option, Some, None, ◌==◌, ◌&&◌, ◌||◌, not, if◌then◌else◌, arith}
 use Rattle.std.specs.FinMap as finite
 use Rattle.std.proofs.lemmas.Bool.{false≢true, true≢false}
-use Rattle.pseudo_time.specs.StampParts.{StampParts, stamp_cmp}
-use Rattle.pseudo_time.specs.TimeParts.{TimeParts}
-use Rattle.pseudo_time.specs.Order.{lt}
-use Rattle.pseudo_time.proofs.OrderLemmas.{lt-irreflexive}
-use Rattle.value_form.specs.declared.objects.ObjectId.{ObjectId}
-use Rattle.value_form.specs.declared.values.Value.{Value}
-use Rattle.object_history.specs.declared.marks.Mark.{Mark}
-use Rattle.object_history.specs.declared.marks.Mark.TheVariants.{Put, Stretch, Settle, Floor}
-use Rattle.object_history.specs.Objects.{same_object}
-use Rattle.object_history.specs.History.{is_alive, settle_of, alive, version_count, Seen, scan, sees, newest, stretched}
-use Rattle.object_history.specs.Answers.{some_put}
-use Rattle.object_history.specs.Kept.{Settled}
-use Rattle.object_history.proofs.ScanLemmas.{same-scan}
-use Rattle.object_history.proofs.StableLemmas.{starts-all}
-use Rattle.object_header.specs.declared.limits.Limit.{Limit}
+use Rattle.object_header.proofs.Names.{StampParts, stamp_cmp, TimeParts, lt, lt-irreflexive, ObjectId, Value, Mark, Put, Stretch, Settle, Floor, same_object, is_alive, settle_of, alive, version_count, Seen, scan, sees, newest, stretched, some_put, Settled, same-scan, starts-all, Limit, Span, Look, within, is_living, is_firm, passes, look, Fits, spans_in, Rising}
 use Rattle.object_header.specs.declared.limits.Limit.TheVariants as limit
-use Rattle.object_header.specs.declared.heads.Span.{Span}
-use Rattle.object_header.specs.declared.heads.Look.{Look}
 use Rattle.object_header.specs.declared.heads.Look.TheVariants as found
-use Rattle.object_header.specs.Spans.{within, is_living, is_firm, passes, look}
-use Rattle.object_header.specs.Heads.{Fits, spans_in, Rising}
 use Rattle.object_header.proofs.SpanLemmas.{looked, firm-living}
 use Rattle.object_header.proofs.RisingLemmas.{scan-own, scan-over, none-above}
 use Rattle.object_header.proofs.HeadLemmas.{span_of}

@@ -2,15 +2,8 @@
 use Rattle.std.proofs.Common.{◌≡◌, ℕ, zero, suc, ◌+◌, ◌-◌, ◌≤◌, ◌<◌, Bool, true, false, List, [], ◌∷◌, ◌++◌, length, reverse, take, drop, refl, sym, ◌∙◌, ap, subst, Option, Some, None, slice_set, slice_index_or, arith, if◌then◌else◌}
 use Rattle.std.specs.List.{push}
 use Rattle.std.proofs.lemmas.List.{reverse-append, length-reverse, append_assoc, take-append-drop, take_all}
-use Rattle.pseudo_time.specs.TimeParts.{TimeParts}
-use Rattle.pseudo_time.specs.Order.{lt}
-use Rattle.object_history.specs.History.{top}
-use Rattle.object_history.specs.Kept.{Settled}
-use Rattle.object_header.specs.declared.limits.Limit.{Limit}
-use Rattle.object_header.specs.declared.heads.Span.{Span}
-use Rattle.object_header.specs.declared.heads.Look.{Look}
+use Rattle.object_header.proofs.Names.{TimeParts, lt, top, Settled, Limit, Span, Look, HeadParts, within, is_living, is_firm, read_up_to, look, marked, current, with_version, AreAlike}
 use Rattle.object_header.specs.declared.heads.Look.TheVariants as found
-use Rattle.object_header.specs.Spans.{HeadParts, within, is_living, is_firm, read_up_to, look, marked, current, with_version, AreAlike}
 use Rattle.object_header.proofs.SpanLemmas.{looked, mark, firm-living, current-cons}
 
 -- ---- looking

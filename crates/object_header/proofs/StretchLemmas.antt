@@ -3,25 +3,9 @@ use Rattle.std.proofs.Common.{◌≡◌, ℕ, ◌+◌, ◌≤◌, ◌<◌, Bool,
 use Rattle.std.specs.FinMap as finite
 use Rattle.std.proofs.lemmas.Bool.{false≢true, true≢false}
 use Rattle.std.proofs.lemmas.Grind.{common_steps}
-use Rattle.pseudo_time.specs.StampParts.{StampParts, stamp_cmp}
-use Rattle.pseudo_time.specs.TimeParts.{TimeParts}
-use Rattle.pseudo_time.specs.Order.{lt}
-use Rattle.value_form.specs.declared.objects.ObjectId.{ObjectId}
-use Rattle.value_form.specs.declared.values.Value.{Value}
-use Rattle.object_history.specs.declared.marks.Mark.{Mark}
-use Rattle.object_history.specs.declared.marks.Mark.TheVariants.{Put, Stretch, Settle, Floor}
-use Rattle.object_history.specs.Objects.{same_object}
-use Rattle.object_history.specs.History.{is_alive, settle_of, alive, version_count, Seen, scan, sees, place_of, same_place, top, stretched}
-use Rattle.object_history.specs.Answers.{some_put}
-use Rattle.object_history.specs.Kept.{Settled}
-use Rattle.object_history.proofs.KeptLemmas.{scan-under}
-use Rattle.object_history.proofs.ObjectLemmas.{same_object-of}
+use Rattle.object_header.proofs.Names.{StampParts, stamp_cmp, TimeParts, lt, ObjectId, Value, Mark, Put, Stretch, Settle, Floor, same_object, is_alive, settle_of, alive, version_count, Seen, scan, sees, place_of, same_place, top, stretched, some_put, Settled, scan-under, same_object-of, Span, Look, HeadParts, within, is_living, is_firm, passes, read_up_to, current, look, marked, with_end, ended, Fits, spans_in, Rising, IsHead}
 use Rattle.object_header.specs.declared.limits.Limit.TheVariants as limit
-use Rattle.object_header.specs.declared.heads.Span.{Span}
-use Rattle.object_header.specs.declared.heads.Look.{Look}
 use Rattle.object_header.specs.declared.heads.Look.TheVariants as found
-use Rattle.object_header.specs.Spans.{HeadParts, within, is_living, is_firm, passes, read_up_to, current, look, marked, with_end, ended}
-use Rattle.object_header.specs.Heads.{Fits, spans_in, Rising, IsHead}
 use Rattle.object_header.proofs.SpanLemmas.{put, mark, looked, current-marked, look-same, firm-living}
 use Rattle.object_header.proofs.RisingLemmas.{scan-own, scan-over}
 use Rattle.object_header.proofs.HeadLemmas.{span_of, some_put-fewer}

@@ -4,25 +4,15 @@ use Rattle.std.proofs.lemmas.Bool.{false≢true, true≢false, cond-true, cond-f
 use Rattle.std.proofs.lemmas.List.{reverse-append}
 use Rattle.std.proofs.Math.Seq.{take-suc}
 use Rattle.field_form.proofs.FormLaws.{some_is}
-use Rattle.pseudo_time.specs.TimeParts.{TimeParts}
-use Rattle.value_form.specs.declared.objects.ObjectId.{ObjectId}
-use Rattle.value_form.specs.declared.values.Value.{Value}
-use Rattle.effect_form.specs.declared.effects.Effect.{Effect}
+use Rattle.object_header.proofs.Names.{TimeParts, ObjectId, Value, Effect, Place, Mark, same_object, same_object-is, Entry, Log, IsIn, first_put, first, mark_of, marks, added, marks_in, Walks}
 use Rattle.effect_form.specs.declared.effects.Effect.TheVariants.{Put, Stretch, Begin, Decide, Learn, Run, Act, Try, Got, Acked, End}
 use Rattle.effect_form.specs.declared.effects.Effect.TheVariants as effect
-use Rattle.effect_form.specs.declared.effects.Place.{Place}
-use Rattle.object_history.specs.declared.marks.Mark.{Mark}
 use Rattle.object_history.specs.declared.marks.Mark.TheVariants as mark
-use Rattle.object_history.specs.Objects.{same_object}
-use Rattle.object_history.proofs.ObjectLemmas.{same_object-is}
-use Rattle.version_store.specs.Entries.{Entry, Log, effects_of, IsIn, put_object, is_object, last_put, back_in}
+use Rattle.version_store.specs.Entries.{effects_of, put_object, is_object, last_put, back_in}
 use Rattle.std.specs.Option.{is_some}
 use Rattle.version_store.specs.Fetch.{StandsAt}
 use Rattle.version_store.proofs.LogLemmas.{last_from-push, effects_of-append}
-use Rattle.object_header.specs.Heads.{first_put}
-use Rattle.object_header.specs.Plans.{first}
-use Rattle.repository_log.specs.Logs.{mark_of, marks}
-use Rattle.object_header.specs.Marks.{added, marks_in, put_found, Walks}
+use Rattle.object_header.specs.Marks.{put_found}
 
 marks-push : (log : Log) (e : Entry) → marks_in (log ++ e ∷ []) ≡ added (mark_of e.effect) (marks_in log)
 marks-push log e = ap (λ l. marks (reverse l)) (effects_of-append log (e ∷ [])) ∙ ap marks (reverse-append (effects_of log) (e.effect ∷ []))

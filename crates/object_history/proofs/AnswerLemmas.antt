@@ -1,27 +1,14 @@
 -- What the answers of reads and writes say.
 use Rattle.std.proofs.Common.{ℕ, ◌≡◌, ◌≢◌, Bool, true, false, List, [], ◌∷◌, refl, sym, ◌∙◌, ap, subst, Option, Some, None, ◌&&◌, ◌||◌, not, if◌then◌else◌, ◌⊎◌, inl, inr}
 use Rattle.std.proofs.lemmas.Bool.{false≢true, true≢false}
-use Rattle.pseudo_time.specs.StampParts.{StampParts}
-use Rattle.pseudo_time.specs.TimeParts.{TimeParts}
-use Rattle.value_form.specs.declared.objects.ObjectId.{ObjectId}
-use Rattle.value_form.specs.declared.values.Value.{Value}
-use Rattle.object_history.specs.declared.marks.Mark.{Mark}
-use Rattle.object_history.specs.declared.marks.Mark.TheVariants.{Put, Stretch, Settle, Floor}
-use Rattle.pseudo_time.specs.Order.{same_stamp, same_time, lt}
-use Rattle.object_history.specs.Objects.{same_object, same_value}
-use Rattle.object_history.specs.History.{Seen, settle_of, is_alive, is_settled, is_committed, alive, scan, sees, newest, place_of, same_place, top, stretched, floor_of, latest, read_to, reach}
-use Rattle.object_history.specs.Answers.{is_above, some_put, is_over, settled_over, needs_stretch}
-use Rattle.object_history.specs.Views.{Starts, HasPut, views, Covers, Firm, IsOnFloor, Shut, value_of, Viewed}
+use Rattle.object_history.proofs.Names.{StampParts, TimeParts, ObjectId, Value, Mark, Put, Stretch, Settle, Floor, same_stamp, same_time, lt, same_object, same_value, Seen, settle_of, is_alive, is_settled, is_committed, alive, scan, sees, newest, place_of, same_place, top, stretched, floor_of, latest, read_to, reach, some_put, is_over, settled_over, needs_stretch, Starts, HasPut, views, Covers, Firm, Shut, value_of, Viewed, same_stamp-is, same_time-is, lt-trans, lt-irreflexive, Nothing, Answer, Wait, LaterRead, WriteStep, read_seen, read_from, read_step, write_reach, write_newest, write_step, stands_written, has_put, Has}
+use Rattle.object_history.specs.Answers.{is_above}
+use Rattle.object_history.specs.Views.{IsOnFloor}
 use Rattle.object_history.proofs.Words.{Passes, AtMost}
 use Rattle.object_history.proofs.BoolLemmas.{and-both, and-left, and-right}
-use Rattle.pseudo_time.proofs.OrderLemmas.{same_stamp-is, same_time-is, lt-trans, lt-irreflexive}
 use Rattle.object_history.proofs.ObjectLemmas.{eqb-yes, same_object-is, same_object-of}
-use Rattle.value_form.specs.declared.values.Value.TheVariants.{Nothing}
-use Rattle.object_history.specs.declared.steps.ReadStep.TheVariants.{Answer, Wait, LaterRead}
-use Rattle.object_history.specs.declared.steps.WriteStep.{WriteStep}
 use Rattle.object_history.specs.declared.steps.WriteStep.TheVariants as write
-use Rattle.object_history.specs.Answers.{read_seen, read_from, read_step, write_reach, write_newest, write_step, stands_written, has_put, after_read}
-use Rattle.pseudo_time.specs.Lists.{Has}
+use Rattle.object_history.specs.Answers.{after_read}
 use Rattle.object_history.proofs.ObjectLemmas.{same_value-is}
 use Rattle.object_history.proofs.StableLemmas.{scan-passes}
 use Rattle.object_history.proofs.ViewLemmas.{sees-views, settled-true, top-all, has-with, covers-first, covers-rest, covers-read, firm-kept}

@@ -9,24 +9,10 @@ use Rattle.std.specs.FinMap.{get-empty, get-insert}
 use Rattle.std.proofs.lemmas.Bool.{false≢true, true≢false}
 use Rattle.std.proofs.lemmas.Cmp.{eq_by_cmp_equiv}
 use Rattle.std.proofs.lemmas.Grind.{common_steps}
-use Rattle.pseudo_time.specs.StampParts.{StampParts, stamp_cmp}
-use Rattle.pseudo_time.specs.TimeParts.{TimeParts}
-use Rattle.pseudo_time.specs.Order.{same_stamp, lt}
-use Rattle.pseudo_time.proofs.OrderLemmas.{stamp_cmp-total, same_stamp-is}
-use Rattle.value_form.specs.declared.objects.ObjectId.{ObjectId}
-use Rattle.value_form.specs.declared.values.Value.{Value}
-use Rattle.value_form.specs.Objects.{object_cmp}
+use Rattle.object_history.proofs.Names.{StampParts, stamp_cmp, TimeParts, same_stamp, lt, stamp_cmp-total, same_stamp-is, ObjectId, Value, object_cmp, IsValue, Mark, Put, Stretch, Settle, Floor, Version, same_object, or_else, settle_of, version_count, Seen, starts_above, pick, scan, sees, place_of, same_place, top, floor_of, latest, read_to, reach, stretched, LaterRead, read_seen, read_from, read_step, Settled, TrackParts, Tracked, empty_track, track_at, IsKept, with_version, read_up_to, ended_at, with_end, versions_in}
 use Rattle.value_form.specs.ObjectBytes.{IsObject}
-use Rattle.value_form.specs.ValueBytes.{IsValue}
-use Rattle.object_history.specs.declared.marks.Mark.{Mark}
-use Rattle.object_history.specs.declared.marks.Mark.TheVariants.{Put, Stretch, Settle, Floor}
-use Rattle.object_history.specs.declared.versions.Version.{Version}
-use Rattle.object_history.specs.Objects.{same_object}
-use Rattle.object_history.specs.History.{or_else, settle_of, version_count, Seen, starts_above, pick, scan, sees, place_of, same_place, top, floor_of, latest, read_to, reach, stretched}
 use Rattle.object_history.specs.declared.steps.ReadStep.{ReadStep}
-use Rattle.object_history.specs.declared.steps.ReadStep.TheVariants.{LaterRead}
-use Rattle.object_history.specs.Answers.{read_seen, read_from, read_step}
-use Rattle.object_history.specs.Kept.{Settled, TrackParts, Tracked, empty_track, track_at, IsKept, IsWhole, with_version, read_up_to, ended_at, with_end, versions_in, track_of, Keeps}
+use Rattle.object_history.specs.Kept.{IsWhole, track_of, Keeps}
 use Rattle.object_history.proofs.ObjectLemmas.{same_object-is}
 
 -- ---- places

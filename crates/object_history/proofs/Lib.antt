@@ -13,3 +13,4 @@ pub mod TestLemmas
 pub mod TrackLemmas
 pub mod ViewLemmas
 pub mod Words
+pub mod Names

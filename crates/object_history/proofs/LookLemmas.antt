@@ -10,24 +10,10 @@ use Rattle.std.proofs.Math.ListN.{get_or-append}
 use Rattle.std.proofs.Math.Seq.{get_or-append_seam}
 use Rattle.std.proofs.lemmas.Bool.{true≢false}
 use Rattle.std.proofs.lemmas.Grind.{common_steps}
-use Rattle.pseudo_time.specs.TimeParts.{TimeParts}
-use Rattle.pseudo_time.specs.Order.{same_stamp, same_time, lt}
+use Rattle.object_history.proofs.Names.{TimeParts, same_stamp, same_time, lt, lt-trans, lt-split, ObjectId, Value, Nothing, IsValue, Mark, Put, Stretch, Settle, Floor, Version, same_object, same_value, settle_of, is_alive, is_settled, is_committed, alive, version_count, Seen, starts_above, pick, scan, sees, floor_of, stretched, is_over, some_put, settled_over, needs_stretch, read_seen, read_from, read_step, has_put, value_of, AreMarks, Answer, Wait, LaterRead, Settled, Tracked, TrackParts, empty_track, IsKept, versions_in, value_under, takes_over, joined, last_of, is_living, is_past, is_firm, some_version}
 use Rattle.pseudo_time.proofs.ListLemmas.{every-has}
-use Rattle.pseudo_time.proofs.OrderLemmas.{lt-trans, lt-split}
-use Rattle.value_form.specs.declared.objects.ObjectId.{ObjectId}
-use Rattle.value_form.specs.declared.values.Value.{Value}
-use Rattle.value_form.specs.declared.values.Value.TheVariants.{Nothing}
-use Rattle.value_form.specs.ValueBytes.{IsValue}
-use Rattle.object_history.specs.declared.marks.Mark.{Mark}
-use Rattle.object_history.specs.declared.marks.Mark.TheVariants.{Put, Stretch, Settle, Floor}
-use Rattle.object_history.specs.declared.versions.Version.{Version}
-use Rattle.object_history.specs.Objects.{same_object, same_value}
-use Rattle.object_history.specs.History.{settle_of, is_alive, is_settled, is_committed, alive, version_count, Seen, starts_above, pick, scan, sees, floor_of, stretched}
-use Rattle.object_history.specs.Answers.{is_over, some_put, settled_over, needs_stretch, read_seen, read_from, read_step, has_put}
-use Rattle.object_history.specs.Views.{value_of}
-use Rattle.object_history.specs.Ranges.{IsMark, AreMarks, IsReadStep}
-use Rattle.object_history.specs.declared.steps.ReadStep.TheVariants.{Answer, Wait, LaterRead}
-use Rattle.object_history.specs.Kept.{Settled, Tracked, TrackParts, empty_track, IsKept, versions_in, value_put, value_under, seen_in, takes_over, joined, last_of, is_below, is_living, is_past, is_firm, some_version, HasEnd}
+use Rattle.object_history.specs.Ranges.{IsMark, IsReadStep}
+use Rattle.object_history.specs.Kept.{value_put, seen_in, is_below, HasEnd}
 use Rattle.object_history.proofs.BoolLemmas.{not-false}
 use Rattle.object_history.proofs.ObjectLemmas.{eqb-yes, eq-from}
 use Rattle.object_history.proofs.ScanLemmas.{Standing, standing, stands-has}

@@ -7,16 +7,9 @@ use Rattle.std.specs.Cmp.{tied_itself, signed_Decides}
 use Rattle.std.specs.Cmp.Lexicographic.{bytes_decides}
 use Rattle.std.proofs.lemmas.Grind.{common_steps}
 use Rattle.std.proofs.lemmas.Bool.{false≢true}
-use Rattle.pseudo_time.specs.StampParts.{StampParts, stamp_cmp}
-use Rattle.pseudo_time.specs.TimeParts.{TimeParts}
-use Rattle.pseudo_time.specs.Order.{same_stamp, same_time}
+use Rattle.object_history.proofs.Names.{StampParts, stamp_cmp, TimeParts, same_stamp, same_time, ObjectId, Value, Nothing, object_cmp, object_cmp-total, object_cmp-exact, same_object, same_value}
 use Rattle.pseudo_time.proofs.OrderLemmas.{is_equal}
-use Rattle.value_form.specs.declared.objects.ObjectId.{ObjectId}
-use Rattle.value_form.specs.declared.values.Value.{Value}
-use Rattle.value_form.specs.declared.values.Value.TheVariants.{Nothing, Number, Text}
-use Rattle.value_form.specs.Objects.{object_cmp}
-use Rattle.value_form.proofs.ObjectLemmas.{object_cmp-total, object_cmp-exact}
-use Rattle.object_history.specs.Objects.{same_object, same_value}
+use Rattle.value_form.specs.declared.values.Value.TheVariants.{Number, Text}
 
 pub same_object-is : (a b : ObjectId) → same_object a b ≡ true → a ≡ b
 unfolding same_object

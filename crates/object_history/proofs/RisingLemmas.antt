@@ -3,14 +3,7 @@ use Rattle.std.proofs.Common.{◌≡◌, ◌==◌, ℕ, length, Bool, true, fals
 use Rattle.std.specs.List.{push}
 use Rattle.std.proofs.lemmas.Bool.{true≢false}
 use Rattle.std.proofs.lemmas.List.{reverse-append}
-use Rattle.pseudo_time.specs.TimeParts.{TimeParts}
-use Rattle.pseudo_time.specs.Order.{same_time, lt}
-use Rattle.pseudo_time.proofs.OrderLemmas.{lt-trans, lt-asymmetric, lt-irreflexive, same_time-is}
-use Rattle.value_form.specs.declared.values.Value.{Value}
-use Rattle.object_history.specs.declared.marks.Mark.{Mark}
-use Rattle.object_history.specs.declared.versions.Version.{Version}
-use Rattle.object_history.specs.Objects.{same_value}
-use Rattle.object_history.specs.Kept.{Settled, TrackParts, takes_over, joined, last_of, is_past, is_firm, some_version, value_under, tops, rising, read_up_to, ended_at, with_end}
+use Rattle.object_history.proofs.Names.{TimeParts, same_time, lt, lt-trans, lt-asymmetric, lt-irreflexive, same_time-is, Value, Mark, Version, same_value, Settled, TrackParts, takes_over, joined, last_of, is_past, is_firm, some_version, value_under, tops, rising, read_up_to, ended_at, with_end}
 use Rattle.object_history.proofs.BoolLemmas.{and-left, and-right, not-false}
 use Rattle.object_history.proofs.LookLemmas.{reverse-push, is_written}
 

@@ -1,22 +1,10 @@
 -- What a scan finds.
 use Rattle.std.proofs.Common.{◌≡◌, ◌≢◌, Bool, true, false, List, [], ◌∷◌, refl, sym, ◌∙◌, ap, subst, Option, Some, None, ◌&&◌, not, if◌then◌else◌, inl, inr}
 use Rattle.std.proofs.lemmas.Bool.{true≢false}
-use Rattle.pseudo_time.specs.StampParts.{StampParts}
-use Rattle.pseudo_time.specs.TimeParts.{TimeParts}
-use Rattle.value_form.specs.declared.objects.ObjectId.{ObjectId}
-use Rattle.value_form.specs.declared.values.Value.{Value}
-use Rattle.object_history.specs.declared.marks.Mark.{Mark}
-use Rattle.object_history.specs.declared.marks.Mark.TheVariants.{Put, Stretch, Settle, Floor}
-use Rattle.pseudo_time.specs.Order.{lt}
-use Rattle.object_history.specs.Objects.{same_object}
-use Rattle.object_history.specs.History.{version_count, newest, reach, Seen, settle_of, is_alive, alive, starts_above, pick, scan}
-use Rattle.object_history.specs.Views.{Starts, IsVersion, Distinct, Fits}
+use Rattle.object_history.proofs.Names.{StampParts, TimeParts, ObjectId, Value, Mark, Put, Stretch, Settle, Floor, lt, same_object, version_count, newest, reach, Seen, settle_of, is_alive, alive, starts_above, pick, scan, Starts, IsVersion, Distinct, Fits, lt-irreflexive, write_step, Has}
 use Rattle.object_history.proofs.Words.{Passes, Ends, AtMost}
-use Rattle.pseudo_time.proofs.OrderLemmas.{lt-irreflexive}
 use Rattle.object_history.proofs.ObjectLemmas.{same_object-is}
 use Rattle.object_history.specs.declared.steps.WriteStep.TheVariants as write
-use Rattle.object_history.specs.Answers.{write_step}
-use Rattle.pseudo_time.specs.Lists.{Has}
 use Rattle.object_history.proofs.StableLemmas.{starts-map, low-all, put-says, settled-stays, kept-choice, scan-passes}
 use Rattle.object_history.proofs.ViewLemmas.{top-all}
 

@@ -1,22 +1,10 @@
 -- Each mark that a call may add leaves the settled versions a prefix.
 use Rattle.std.proofs.Common.{◌≡◌, Bool, true, false, List, [], ◌∷◌, ◌++◌, refl, sym, ◌∙◌, ap, subst, Option, Some, None, ◌&&◌, ◌||◌, not, if◌then◌else◌, inl, inr}
 use Rattle.std.proofs.lemmas.Bool.{false≢true, true≢false}
-use Rattle.pseudo_time.specs.StampParts.{StampParts}
-use Rattle.pseudo_time.specs.TimeParts.{TimeParts}
-use Rattle.value_form.specs.declared.objects.ObjectId.{ObjectId}
-use Rattle.value_form.specs.declared.values.Value.{Value}
-use Rattle.object_history.specs.declared.marks.Mark.{Mark}
-use Rattle.object_history.specs.declared.marks.Mark.TheVariants.{Put, Stretch, Settle, Floor}
-use Rattle.pseudo_time.specs.Order.{lt}
-use Rattle.object_history.specs.Objects.{same_object}
-use Rattle.object_history.specs.History.{version_count, Seen, settle_of, is_alive, is_settled, is_committed, alive}
-use Rattle.object_history.specs.Answers.{some_put}
-use Rattle.object_history.specs.Views.{Starts, HasPut}
+use Rattle.object_history.proofs.Names.{StampParts, TimeParts, ObjectId, Value, Mark, Put, Stretch, Settle, Floor, lt, same_object, version_count, Seen, settle_of, is_alive, is_settled, is_committed, alive, some_put, Starts, HasPut, lt-split, lt-asymmetric, write_step}
 use Rattle.object_history.proofs.BoolLemmas.{and-both, and-left, and-right, not-false, not-true}
-use Rattle.pseudo_time.proofs.OrderLemmas.{lt-split, lt-asymmetric}
 use Rattle.object_history.proofs.ObjectLemmas.{same_object-is, same_object-of}
 use Rattle.object_history.specs.declared.steps.WriteStep.TheVariants as write
-use Rattle.object_history.specs.Answers.{write_step}
 use Rattle.pseudo_time.specs.Lists.{Every}
 use Rattle.object_history.specs.Settled.{insert, listed, is_blocked, settled_versions, Adds}
 use Rattle.object_history.proofs.StableLemmas.{starts-map, settled-stays}

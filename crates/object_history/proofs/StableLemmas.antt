@@ -1,22 +1,11 @@
 -- What was seen stays seen under each mark that fits.
 use Rattle.std.proofs.Common.{◌≡◌, Bool, true, false, List, [], ◌∷◌, refl, sym, ◌∙◌, ap, subst, Option, Some, None, ◌&&◌, ◌||◌, not, if◌then◌else◌, inl, inr}
 use Rattle.std.proofs.lemmas.Bool.{false≢true, true≢false}
-use Rattle.pseudo_time.specs.StampParts.{StampParts}
-use Rattle.pseudo_time.specs.TimeParts.{TimeParts}
-use Rattle.value_form.specs.declared.objects.ObjectId.{ObjectId}
-use Rattle.value_form.specs.declared.values.Value.{Value}
-use Rattle.object_history.specs.declared.marks.Mark.{Mark}
-use Rattle.object_history.specs.declared.marks.Mark.TheVariants.{Put, Stretch, Settle, Floor}
-use Rattle.pseudo_time.specs.Order.{same_stamp, lt}
-use Rattle.object_history.specs.Objects.{same_object}
-use Rattle.object_history.specs.History.{version_count, Seen, or_else, settle_of, is_alive, alive, starts_above, pick, scan, newest, reach}
-use Rattle.object_history.specs.Views.{Starts, HasPut, shows, views, Covers, Firm, Shut, Fits}
+use Rattle.object_history.proofs.Names.{StampParts, TimeParts, ObjectId, Value, Mark, Put, Stretch, Settle, Floor, same_stamp, lt, same_object, version_count, Seen, or_else, settle_of, is_alive, alive, starts_above, pick, scan, newest, reach, Starts, HasPut, shows, views, Covers, Firm, Shut, Fits, same_stamp-is, lt-trans, lt-split, lt-fall, write_reach, write_newest, write_step, stands_written, WriteStep}
 use Rattle.object_history.proofs.Words.{Passes, Ends, Low}
 use Rattle.object_history.proofs.BoolLemmas.{and-both, and-left}
-use Rattle.pseudo_time.proofs.OrderLemmas.{same_stamp-is, same_stamp-of, lt-trans, lt-split, lt-fall, between}
+use Rattle.pseudo_time.proofs.OrderLemmas.{same_stamp-of, between}
 use Rattle.object_history.proofs.ObjectLemmas.{same_object-is, same_object-of}
-use Rattle.object_history.specs.Answers.{write_reach, write_newest, write_step, stands_written}
-use Rattle.object_history.specs.declared.steps.WriteStep.{WriteStep}
 use Rattle.object_history.specs.declared.steps.WriteStep.TheVariants as write
 use Rattle.object_history.proofs.TestLemmas.{two-tests}
 

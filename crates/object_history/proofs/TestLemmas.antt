@@ -1,16 +1,8 @@
 -- Two tests that find the same version.
 use Rattle.std.proofs.Common.{◌≡◌, Bool, true, false, List, [], ◌∷◌, refl, sym, ◌∙◌, ap, Option, Some, None, ◌&&◌, ◌||◌, not, if◌then◌else◌}
 use Rattle.std.proofs.lemmas.Bool.{false≢true, true≢false}
-use Rattle.pseudo_time.specs.TimeParts.{TimeParts}
-use Rattle.value_form.specs.declared.objects.ObjectId.{ObjectId}
-use Rattle.object_history.specs.declared.marks.Mark.{Mark}
-use Rattle.object_history.specs.declared.marks.Mark.TheVariants.{Put, Stretch, Settle, Floor}
-use Rattle.pseudo_time.specs.Order.{lt}
-use Rattle.object_history.specs.Objects.{same_object}
-use Rattle.object_history.specs.History.{version_count, Seen, starts_above, pick, scan}
-use Rattle.object_history.specs.Views.{Starts}
+use Rattle.object_history.proofs.Names.{TimeParts, ObjectId, Mark, Put, Stretch, Settle, Floor, lt, same_object, version_count, Seen, starts_above, pick, scan, Starts, lt-trans, lt-split}
 use Rattle.object_history.proofs.Words.{Passes}
-use Rattle.pseudo_time.proofs.OrderLemmas.{lt-trans, lt-split}
 use Rattle.object_history.proofs.ObjectLemmas.{same_object-is}
 
 -- the choice between a put and the rest, over plain Booleans

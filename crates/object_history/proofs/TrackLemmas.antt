@@ -5,14 +5,7 @@ use Rattle.std.specs.Ordering.{is_eq}
 use Rattle.std.specs.FinMap as finite
 use Rattle.std.proofs.lemmas.Grind.{common_steps}
 use Rattle.std.proofs.lemmas.List.{reverse-append, length-reverse}
-use Rattle.pseudo_time.specs.TimeParts.{TimeParts}
-use Rattle.value_form.specs.declared.objects.ObjectId.{ObjectId}
-use Rattle.value_form.specs.Objects.{object_cmp}
-use Rattle.object_history.specs.declared.versions.Version.{Version}
-use Rattle.object_history.specs.History.{top}
-use Rattle.object_history.specs.Objects.{same_object}
-use Rattle.object_history.specs.Kept.{TrackParts, Tracked, track_at, empty_track, read_up_to, ended_at, with_end}
-use Rattle.value_form.proofs.ObjectLemmas.{object_cmp-total, object_cmp-exact}
+use Rattle.object_history.proofs.Names.{TimeParts, ObjectId, object_cmp, Version, top, same_object, TrackParts, Tracked, track_at, empty_track, read_up_to, ended_at, with_end, object_cmp-total, object_cmp-exact}
 use Rattle.object_history.proofs.ObjectLemmas.{same_object-is}
 use Rattle.object_history.proofs.MapLemmas.{found_at, Puts, get-entries_of}
 

@@ -1,18 +1,9 @@
 -- What is viewed stays viewed, and what a reader sees is its view.
 use Rattle.std.proofs.Common.{◌≡◌, ◌≢◌, Bool, true, false, List, [], ◌∷◌, refl, sym, ◌∙◌, ap, subst, Option, Some, None, ◌&&◌, ◌||◌, not, if◌then◌else◌, ◌⊎◌, inl, inr}
 use Rattle.std.proofs.lemmas.Bool.{false≢true, true≢false}
-use Rattle.pseudo_time.specs.TimeParts.{TimeParts}
-use Rattle.value_form.specs.declared.objects.ObjectId.{ObjectId}
-use Rattle.value_form.specs.declared.values.Value.{Value}
-use Rattle.object_history.specs.declared.marks.Mark.{Mark}
-use Rattle.object_history.specs.declared.marks.Mark.TheVariants.{Put, Stretch, Settle, Floor}
-use Rattle.pseudo_time.specs.Order.{same_stamp, lt}
-use Rattle.object_history.specs.Objects.{same_object}
-use Rattle.object_history.specs.History.{version_count, Seen, settle_of, is_alive, alive, starts_above, pick, scan, sees, place_of, same_place, top, stretched, floor_of, latest, read_to, reach}
-use Rattle.object_history.specs.Views.{Starts, HasPut, shows, views, Covers, Firm, Shut, value_of, Viewed, Fits}
+use Rattle.object_history.proofs.Names.{TimeParts, ObjectId, Value, Mark, Put, Stretch, Settle, Floor, same_stamp, lt, same_object, version_count, Seen, settle_of, is_alive, alive, starts_above, pick, scan, sees, place_of, same_place, top, stretched, floor_of, latest, read_to, reach, Starts, HasPut, shows, views, Covers, Firm, Shut, value_of, Viewed, Fits, same_stamp-is, lt-trans, lt-fall, lt-asymmetric, lt-irreflexive}
 use Rattle.object_history.proofs.Words.{Passes, AtMost}
 use Rattle.object_history.proofs.BoolLemmas.{and-both, not-false}
-use Rattle.pseudo_time.proofs.OrderLemmas.{same_stamp-is, lt-trans, lt-fall, lt-asymmetric, lt-irreflexive}
 use Rattle.object_history.proofs.ObjectLemmas.{same_object-of}
 use Rattle.object_history.proofs.TestLemmas.{two-tests}
 use Rattle.object_history.proofs.StableLemmas.{view-kept, settled-stays, starts-map, scan-passes, starts-all}

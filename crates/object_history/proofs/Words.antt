@@ -1,8 +1,6 @@
 -- Facts on what is seen, which the lemmas on histories share.
 use Rattle.std.specs.Prelude.{◌≡◌, Bool, true, false, Option, Some, None}
-use Rattle.pseudo_time.specs.TimeParts.{TimeParts}
-use Rattle.pseudo_time.specs.Order.{lt}
-use Rattle.object_history.specs.History.{Seen}
+use Rattle.object_history.proofs.Names.{TimeParts, lt, Seen}
 
 -- what is seen passes the test
 abbrev pub Passes : (TimeParts → Bool) → Option Seen → Type 0

@@ -2,18 +2,10 @@
 use Rattle.std.proofs.Common.{◌≡◌, ◌<◌, ◌≤◌, ◌+◌, ℕ, ◌++◌, take, length, List, [], ◌∷◌, map, refl, sym, ap, subst, ◌∙◌, None}
 use Rattle.std.proofs.Math.ListN.{get_or}
 use Rattle.std.proofs.lemmas.List.{take_more, take_all}
-use Rattle.pseudo_time.specs.Lists.{Every}
+use Rattle.trace_logs.proofs.Names.{Every, NodeId, Entry, Opened, Base, World, start_world, opened_life, walk, step, ReplayedNode, Replay, all_posted, Lives, IsOnce, AreAt, Apart, Shows, nodes_of, is_among, gated_logs}
 use Rattle.pseudo_time.proofs.ListLemmas.{every-append}
-use Rattle.pseudo_time.specs.declared.nodes.NodeId.{NodeId}
-use Rattle.world_core.specs.declared.entries.Entry.{Entry}
-use Rattle.world_core.specs.declared.traces.Opened.{Opened}
 use Rattle.world_core.proofs.Lives.{walk-more}
-use Rattle.world_core.specs.Walks.{Base, World, start_world, opened_life, walk, step}
-use Rattle.trace_logs.specs.declared.replayed_nodes.ReplayedNode.{ReplayedNode}
-use Rattle.trace_logs.specs.declared.replays.Replay.{Replay}
-use Rattle.trace_logs.specs.Letters.{all_posted}
-use Rattle.trace_logs.specs.ReplayedNodes.{Lives}
-use Rattle.trace_logs.specs.Replays.{IsOnce, AreAt, Apart, Shows, nodes_of, is_among, gated_logs, logs_in}
+use Rattle.trace_logs.specs.Replays.{logs_in}
 use Rattle.trace_logs.proofs.PlaceLemmas.{once-apart, at-more, at-nodes, at-start, among-opened}
 
 -- one node more

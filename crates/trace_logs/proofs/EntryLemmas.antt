@@ -5,22 +5,9 @@ use Rattle.std.specs.List.{filter}
 use Rattle.std.specs.Option.{option_map}
 use Rattle.std.proofs.Math.ListN.{get_or, set}
 use Rattle.std.proofs.lemmas.List.{append-nil}
-use Rattle.pseudo_time.specs.declared.nodes.NodeId.{NodeId}
+use Rattle.trace_logs.proofs.Names.{NodeId, posts, same_node, same_is, Entry, Gate, leaves, Taking, Hearing, Base, Life, World, names, step, after_input, took, lives_on, sent_by, all_effects, numbered, last_after, SentMessage, ReplayedNode, Replay, posted, all_posted, AreLetters, Lives, IsAbsent, Shows, nodes_of, is_among}
 use Rattle.message_form.specs.Messages.{IsMessage}
-use Rattle.message_form.specs.Posts.{posts}
-use Rattle.pseudo_time.specs.Nodes.{same_node}
-use Rattle.message_core.proofs.NodeLemmas.{same_is}
-use Rattle.world_core.specs.declared.entries.Entry.{Entry}
-use Rattle.world_core.specs.declared.entries.Entry.TheVariants.{Gate}
-use Rattle.world_core.specs.Nodes.{leaves}
-use Rattle.world_core.specs.Nodes.Input.{Taking, Hearing}
-use Rattle.world_core.specs.Walks.{Base, Life, World, names, step, after_input, took, hears, lives_on, sent_by, all_effects, numbered, last_after}
-use Rattle.trace_logs.specs.declared.letters.SentMessage.{SentMessage}
-use Rattle.trace_logs.specs.declared.replayed_nodes.ReplayedNode.{ReplayedNode}
-use Rattle.trace_logs.specs.declared.replays.Replay.{Replay}
-use Rattle.trace_logs.specs.Letters.{posted, all_posted, AreLetters}
-use Rattle.trace_logs.specs.ReplayedNodes.{Lives}
-use Rattle.trace_logs.specs.Replays.{IsAbsent, Shows, nodes_of, is_among}
+use Rattle.world_core.specs.Walks.{hears}
 use Rattle.trace_logs.proofs.PlaceLemmas.{among-at, among-not, every-at}
 use Rattle.trace_logs.proofs.WalkLemmas.{moved, sent-gate, leaving-known, leaving-unknown, took-letter, took_post}
 

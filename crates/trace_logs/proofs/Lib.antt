@@ -12,3 +12,4 @@ pub mod RefusedSends
 pub mod RefusedTraces
 pub mod WorkedTraces
 pub mod WorkedTurns
+pub mod Names

@@ -2,12 +2,7 @@
 use Rattle.std.proofs.Common.{◌≡◌, ◌≤◌, ◌+◌, ℕ, Bool, true, false, List, [], ◌∷◌, ◌++◌, refl, sym, ap, subst, ◌∙◌, cond, arith}
 use Rattle.std.specs.List.{count_by}
 use Rattle.std.proofs.lemmas.List.Sums.{sum_by-append, sum_by-cons}
-use Rattle.pseudo_time.specs.Lists.{Every}
-use Rattle.pseudo_time.specs.declared.nodes.NodeId.{NodeId}
-use Rattle.pseudo_time.specs.Nodes.{same_node}
-use Rattle.message_core.proofs.NodeLemmas.{same_is}
-use Rattle.world_core.specs.declared.traces.Opened.{Opened}
-use Rattle.trace_logs.specs.Replays.{IsOnce}
+use Rattle.trace_logs.proofs.Names.{Every, NodeId, same_node, same_is, Opened, IsOnce}
 
 -- no node of the list is this one
 abbrev pub IsNew : NodeId → List Opened → Type 0

@@ -6,15 +6,7 @@ use Rattle.std.specs.List.{count_by}
 use Rattle.std.proofs.lemmas.List.Sums.{sum_by-cons}
 use Rattle.std.specs.Option.{unwrap_or}
 use Rattle.std.specs.Prelude.{is_some}
-use Rattle.pseudo_time.specs.Lists.{Every}
-use Rattle.pseudo_time.specs.declared.nodes.NodeId.{NodeId}
-use Rattle.pseudo_time.specs.Nodes.{same_node}
-use Rattle.message_core.proofs.NodeLemmas.{same_is, same_node-refl}
-use Rattle.world_core.specs.declared.traces.Opened.{Opened}
-use Rattle.world_core.specs.Walks.{Base, opened_log, opened_life}
-use Rattle.trace_logs.specs.declared.replayed_nodes.ReplayedNode.{ReplayedNode}
-use Rattle.trace_logs.specs.ReplayedNodes.{Lives}
-use Rattle.trace_logs.specs.Replays.{IsOnce, IsAbsent, Apart, AreAt, nodes_of, is_among}
+use Rattle.trace_logs.proofs.Names.{Every, NodeId, same_node, same_is, same_node-refl, Opened, Base, opened_log, opened_life, ReplayedNode, Lives, IsOnce, IsAbsent, Apart, AreAt, nodes_of, is_among}
 
 -- ---- names
 

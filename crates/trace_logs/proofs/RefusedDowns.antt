@@ -1,22 +1,10 @@
 -- Nodes that are down: what they may no longer do, and which nodes may be down before anything else happens.
 use Rattle.std.proofs.Common.{◌≡◌, ℕ, true, false, List, [], ◌∷◌, refl, ap, inl, inr, arith}
-use Rattle.pseudo_time.specs.Lists.{Every}
-use Rattle.pseudo_time.specs.declared.nodes.NodeId.{NodeId}
-use Rattle.pseudo_time.specs.declared.nodes.NodeKind.TheVariants.{Repository}
-use Rattle.effect_form.specs.declared.effects.Effect.{Effect}
+use Rattle.trace_logs.proofs.Names.{Every, NodeId, Repository, Effect, Asked, Tree, Entry, Take, Go, Learn, Hear, Gate, Crash, Down, Tick, Opened, Sent, Base, names, start_world, JustNodes, Meets, Plan}
 use Rattle.effect_form.specs.declared.effects.Effect.TheVariants as effect
-use Rattle.stream_port.specs.declared.fates.Asked.{Asked}
-use Rattle.serial_model.specs.Questions.{Tree}
-use Rattle.world_core.specs.declared.entries.Entry.{Entry}
 use Rattle.pseudo_time.specs.declared.down_causes.DownCause.TheVariants as cause
-use Rattle.world_core.specs.declared.entries.Entry.TheVariants.{Take, Go, Learn, Hear, Gate, Crash, Down, Tick}
-use Rattle.world_core.specs.declared.traces.Opened.{Opened}
-use Rattle.world_core.specs.declared.traces.Sent.{Sent}
-use Rattle.world_core.specs.Walks.{Base, names, start_world}
-use Rattle.world_core.specs.Legal.{JustNodes, Meets}
 use Rattle.world_core.specs.Pasts.{Call, IsCall, WasNotOpened}
 use Rattle.trace_logs.proofs.WorkedTraces.{home, desk, stamp, lone_act, script, blank, base, prompt}
-use Rattle.plan_form.specs.declared.plans.Plan.{Plan}
 use Rattle.trace_logs.proofs.WorkedTurns.{plan}
 
 abbrev Breaks : List Entry → Type 0

@@ -2,15 +2,11 @@
 use Rattle.std.proofs.Common.{◌≡◌, ◌<◌, ◌+◌, ℕ, Bool, true, false, ◌==◌, List, [], ◌∷◌, ◌++◌, map, drop, length, Option, Some, None, slice_get, refl, ap, sym, ◌∙◌, arith}
 use Rattle.std.proofs.lemmas.Bool.{true≢false}
 use Rattle.std.proofs.lemmas.List.{length-append}
-use Rattle.pseudo_time.specs.Lists.{Every}
+use Rattle.trace_logs.proofs.Names.{Every, Post, Asked, Sent, Trace, Legal, post_of}
 use Rattle.pseudo_time.specs.declared.decisions.Decision.TheVariants as decision
 use Rattle.message_form.specs.declared.messages.Message.TheVariants as message
-use Rattle.message_form.specs.Posts.{Post}
-use Rattle.stream_port.specs.declared.fates.Asked.{Asked}
-use Rattle.world_core.specs.declared.traces.Sent.{Sent}
-use Rattle.world_core.specs.declared.traces.Trace.{Trace}
 use Rattle.pseudo_time.specs.Nodes.{kind_number}
-use Rattle.world_core.specs.Legal.{Legal, asked_of, post_of}
+use Rattle.world_core.specs.Legal.{asked_of}
 use Rattle.message_form.specs.Messages.{tag_of}
 use Rattle.trace_logs.proofs.WorkedTraces.{home, desk, stamp, blank, prompt}
 use Rattle.trace_logs.proofs.WorkedTurns.{object, ten, plan, script, entries, at, request, answer, question, sent, asked, trace}

@@ -1,19 +1,8 @@
 -- Traces that aren't legal: for each rule, entries that break it.
 use Rattle.std.proofs.Common.{◌≡◌, ◌≤◌, ◌<◌, ◌+◌, ◌^◌, ℕ, true, List, [], ◌∷◌, refl, ap, ◌∙◌, inl, inr, Option, Some, None, arith}
-use Rattle.pseudo_time.specs.Lists.{Every}
-use Rattle.world_core.specs.declared.entries.Entry.{Entry}
+use Rattle.trace_logs.proofs.Names.{Every, Entry, Take, Go, Learn, Hear, Gate, Crash, Down, Tick, Fate, same_stamp, NodeId, book, keep, settle_up, gives, Sending, start_world, Meets}
 use Rattle.pseudo_time.specs.declared.down_causes.DownCause.TheVariants as cause
-use Rattle.world_core.specs.declared.entries.Entry.TheVariants.{Take, Go, Learn, Hear, Gate, Crash, Down, Tick}
-use Rattle.stream_port.specs.declared.fates.Fate.{Fate}
-use Rattle.pseudo_time.specs.Order.{same_stamp}
-use Rattle.pseudo_time.specs.declared.nodes.NodeId.{NodeId}
 use Rattle.stream_port.specs.Fates.{copies_of}
-use Rattle.broker_core.specs.Book.{book}
-use Rattle.broker_core.specs.Fits.{keep}
-use Rattle.broker_core.specs.Turns.{settle_up}
-use Rattle.world_core.specs.Nodes.{gives}
-use Rattle.world_core.specs.Walks.{Sending, start_world}
-use Rattle.world_core.specs.Legal.{Meets}
 use Rattle.trace_logs.proofs.WorkedTraces.{home, desk, stamp, base, prompt}
 
 abbrev Breaks : List Entry → Type 0

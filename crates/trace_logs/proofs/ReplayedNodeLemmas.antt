@@ -3,27 +3,14 @@ use Rattle.std.proofs.Common.{◌≡◌, ◌≤◌, ℕ, Bool, arith, ◌==◌, 
 use Rattle.std.specs.List.{filter}
 use Rattle.std.proofs.lemmas.List.{append-nil, take-append-drop, map-append}
 use Rattle.std.proofs.lemmas.List.Elements.{filter-append}
-use Rattle.pseudo_time.specs.declared.nodes.NodeId.{NodeId}
-use Rattle.pseudo_time.specs.declared.nodes.NodeKind.{NodeKind}
-use Rattle.pseudo_time.specs.declared.nodes.NodeKind.TheVariants.{Repository, Broker}
+use Rattle.trace_logs.proofs.Names.{NodeId, NodeKind, Repository, Broker, Effect, Out, Post, posts, Tree, denote, block, script_text, ActSpec, AreEffects, AreBrokerActs, Scripted, opened_mind, Base, Life, all_effects, gated_life, ReplayedNode, StandsFor, own_acts, Lives, IsSound}
 use Rattle.pseudo_time.proofs.ListLemmas.{every-left}
-use Rattle.effect_form.specs.declared.effects.Effect.{Effect}
-use Rattle.message_form.specs.declared.turns.Out.{Out}
-use Rattle.message_form.specs.Posts.{Post, post, posts}
-use Rattle.serial_model.specs.Questions.{Tree, denote}
-use Rattle.value_form.specs.Mirror.{block}
-use Rattle.script_form.specs.RowTexts.{script_text}
-use Rattle.value_form.specs.declared.acts.ActSpec.{ActSpec}
-use Rattle.message_form.specs.Ranges.{IsEffect, AreEffects, AreOuts}
-use Rattle.broker_core.specs.Ledgers.{AreBrokerActs}
-use Rattle.broker_core.specs.Tasks.{Scripted}
+use Rattle.message_form.specs.Posts.{post}
+use Rattle.message_form.specs.Ranges.{IsEffect, AreOuts}
 use Rattle.repository_core.proofs.HeldLemmas.{every-filter}
-use Rattle.world_core.specs.Nodes.{opened_mind}
-use Rattle.world_core.specs.Walks.{Base, Life, all_effects, gated_life, crashed_life}
+use Rattle.world_core.specs.Walks.{crashed_life}
 use Rattle.world_core.proofs.PlanRangeLemmas.{own-acts as broker-acts}
-use Rattle.trace_logs.specs.declared.replayed_nodes.ReplayedNode.{ReplayedNode}
-use Rattle.trace_logs.specs.Cores.{StandsFor, IsAble, kind_of, own_acts, acts_for}
-use Rattle.trace_logs.specs.ReplayedNodes.{Lives, IsSound}
+use Rattle.trace_logs.specs.Cores.{IsAble, kind_of, acts_for}
 
 -- ---- ranges
 

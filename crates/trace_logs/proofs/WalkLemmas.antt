@@ -5,25 +5,9 @@ use Rattle.std.specs.List.{filter}
 use Rattle.std.specs.Option.{option_map}
 use Rattle.std.proofs.lemmas.List.{map-append}
 use Rattle.std.proofs.lemmas.Option.{slice_get-map}
-use Rattle.pseudo_time.specs.Lists.{Every}
-use Rattle.pseudo_time.specs.declared.nodes.NodeId.{NodeId}
-use Rattle.pseudo_time.specs.declared.nodes.NodeKind.{NodeKind}
-use Rattle.pseudo_time.specs.declared.nodes.NodeKind.TheVariants.{Repository, Broker}
-use Rattle.message_form.specs.Posts.{Post, posts}
-use Rattle.pseudo_time.specs.Nodes.{same_node}
-use Rattle.message_core.proofs.NodeLemmas.{same_is, same_node-refl}
-use Rattle.world_core.specs.declared.entries.Entry.{Entry}
-use Rattle.world_core.specs.declared.entries.Entry.TheVariants.{Take, Go, Learn, Hear, Gate, Crash, Down, Tick}
-use Rattle.world_core.specs.Nodes.{leaves}
-use Rattle.world_core.specs.Nodes.Input.{Taking}
-use Rattle.world_core.specs.Walks.{Base, Life, Flags, Sending, World, names, step, after_input, took, lives_on, flagged, went, learned, has_heard, leaving, sent_by, all_effects, numbered, last_after}
+use Rattle.trace_logs.proofs.Names.{Every, NodeId, NodeKind, Repository, Broker, Post, posts, same_node, same_is, same_node-refl, Entry, Take, Go, Learn, Hear, Gate, Crash, Down, Tick, leaves, Taking, Base, Life, Flags, Sending, World, names, step, after_input, took, lives_on, sent_by, all_effects, numbered, last_after, SentMessage, ReplayedNode, Replay, posted, all_posted, Lives, IsAbsent, Apart, Shows, nodes_of, is_among}
+use Rattle.world_core.specs.Walks.{flagged, went, learned, has_heard, leaving}
 use Rattle.world_core.proofs.Lives.{step-other}
-use Rattle.trace_logs.specs.declared.letters.SentMessage.{SentMessage}
-use Rattle.trace_logs.specs.declared.replayed_nodes.ReplayedNode.{ReplayedNode}
-use Rattle.trace_logs.specs.declared.replays.Replay.{Replay}
-use Rattle.trace_logs.specs.Letters.{posted, all_posted}
-use Rattle.trace_logs.specs.ReplayedNodes.{Lives}
-use Rattle.trace_logs.specs.Replays.{IsAbsent, Apart, Shows, nodes_of, is_among}
 use Rattle.trace_logs.proofs.PlaceLemmas.{same-sym, set-every, nodes-set, among-at, all-change, absent-change, every-at}
 
 -- ---- flags

@@ -1,26 +1,9 @@
 -- A trace worked by hand: an act without a statement is carried out, and nothing is lost.
 use Rattle.std.proofs.Common.{◌≡◌, ℕ, List, [], ◌∷◌, refl}
-use Rattle.pseudo_time.specs.StampParts.{StampParts}
-use Rattle.pseudo_time.specs.Order.{same_stamp, same_time}
+use Rattle.trace_logs.proofs.Names.{StampParts, same_stamp, same_time, NodeId, Repository, Broker, ActSpec, block, Fate, Tree, denote, book, keep, settle_up, knows, first_begin, decision_of, on_message, on_begin, on_close, release, tell_askers, Entry, Take, Go, Gate, Opened, gives, Base, walk, walk_from, sent_by}
 use Rattle.pseudo_time.specs.declared.decisions.Decision.TheVariants as decision
-use Rattle.pseudo_time.specs.declared.nodes.NodeId.{NodeId}
-use Rattle.pseudo_time.specs.declared.nodes.NodeKind.TheVariants.{Repository, Broker}
-use Rattle.value_form.specs.declared.acts.ActSpec.{ActSpec}
-use Rattle.value_form.specs.Mirror.{block}
 use Rattle.message_form.specs.declared.messages.Message.TheVariants as message
-use Rattle.stream_port.specs.declared.fates.Fate.{Fate}
-use Rattle.serial_model.specs.Questions.{Tree, denote}
-use Rattle.broker_core.specs.Book.{book}
-use Rattle.broker_core.specs.Fits.{keep}
-use Rattle.broker_core.specs.Turns.{settle_up}
-use Rattle.repository_core.specs.Logs.{knows, first_begin, decision_of}
-use Rattle.repository_core.specs.Rows.{on_message, on_begin, on_close, release, tell_askers}
 use Rattle.repository_core.specs.Turns as turns
-use Rattle.world_core.specs.declared.entries.Entry.{Entry}
-use Rattle.world_core.specs.declared.entries.Entry.TheVariants.{Take, Go, Gate}
-use Rattle.world_core.specs.declared.traces.Opened.{Opened}
-use Rattle.world_core.specs.Nodes.{gives}
-use Rattle.world_core.specs.Walks.{Base, walk, walk_from, sent_by}
 
 abbrev pub home : NodeId
 home = record { kind = Repository; number = 1 }

@@ -1,11 +1,8 @@
 -- Lists of which the last element is changed.
 use Rattle.std.proofs.Common.{◌≡◌, List, [], ◌∷◌, ◌++◌, map, sym, ◌∙◌, ap}
 use Rattle.std.proofs.lemmas.List.{reverse-append, map-append}
-use Rattle.trace_report.specs.declared.answers.Answered.{Answered}
-use Rattle.trace_report.specs.declared.begun.BegunAct.{BegunAct}
-use Rattle.trace_report.specs.declared.begun.BegunTry.{BegunTry}
-use Rattle.trace_report.specs.Begun.{ActParts, TryParts, kept, kept_act, kept_try, kept_tries}
-use Rattle.trace_report.specs.Transcripts.{answer_of, answers_of}
+use Rattle.trace_report.proofs.Names.{Answered, BegunAct, BegunTry, ActParts, kept, kept_act, kept_try, answer_of, answers_of}
+use Rattle.trace_report.specs.Begun.{TryParts, kept_tries}
 
 pub kept-more : (old new : List BegunAct) (a : BegunAct) → new ≡ old ++ a ∷ [] → kept new ≡ kept_act a ∷ kept old
 kept-more old new a is = ap kept is ∙ ap (map kept_act) (reverse-append old (a ∷ []))

@@ -3,33 +3,19 @@ use Rattle.std.proofs.Common.{◌≡◌, ℕ, zero, suc, ◌≤◌, ◌==◌, Bo
 use Rattle.std.specs.Prelude.{◌-◌}
 use Rattle.std.proofs.lemmas.List.{length-reverse}
 use Rattle.std.proofs.lemmas.Bool.{cond-true, cond-false}
-use Rattle.pseudo_time.specs.declared.nodes.NodeId.{NodeId}
-use Rattle.pseudo_time.specs.declared.nodes.NodeKind.TheVariants.{Broker}
-use Rattle.pseudo_time.specs.Nodes.{broker}
-use Rattle.pseudo_time.specs.StampParts.{StampParts}
-use Rattle.value_form.specs.declared.acts.ActSpec.{ActSpec}
-use Rattle.effect_form.specs.declared.effects.Effect.{Effect}
+use Rattle.trace_report.proofs.Names.{NodeId, Broker, broker, StampParts, ActSpec, Effect, Answer, Got, Stored, Tree, Plan, IsOfLanguage, Act, Try, Book, book, keep, AreBrokerActs, reading, Task, tasks, Scripted, acts_of, own-reading, begun_acts, act_parts, try_parts, begun_to, begun_last}
 use Rattle.effect_form.specs.declared.effects.Effect.TheVariants as effect
 use Rattle.effect_form.specs.declared.outcomes.Outcome.{Outcome}
 use Rattle.effect_form.specs.declared.outcomes.Outcome.TheVariants as outcome
-use Rattle.script_meaning.specs.Meaning.{Answer, Got, Stored}
-use Rattle.serial_model.specs.Questions.{Tree}
-use Rattle.plan_form.specs.declared.plans.Plan.{Plan}
-use Rattle.plan_form.specs.PlanTexts.{IsOfLanguage}
-use Rattle.broker_core.specs.Book.{Act, Try, Book, book, enter, close, on_act, on_front, on_try, gain, finish, new_try}
+use Rattle.broker_core.specs.Book.{enter, close, on_act, on_front, on_try, gain, finish, new_try}
 use Rattle.broker_core.specs.Counted.{counted, counts_now, counting}
-use Rattle.broker_core.specs.Fits.{fits, counts, keep, add_if}
-use Rattle.broker_core.specs.Ledgers.{AreBrokerActs}
-use Rattle.broker_core.specs.Readings.{reading}
-use Rattle.broker_core.specs.Tasks.{Task, tasks, Scripted}
+use Rattle.broker_core.specs.Fits.{fits, counts, add_if}
 use Rattle.broker_core.proofs.SoundLemmas.{closed-run}
-use Rattle.world_core.specs.Nodes.{acts_of}
-use Rattle.world_core.proofs.OneReading.{own-reading}
 use Rattle.world_core.proofs.PlanRangeLemmas.{plan-own_acts}
 use Rattle.trace_logs.proofs.ReplayedNodeLemmas.{own-scripted}
-use Rattle.trace_report.specs.Acts.{acts_in, begun_acts}
-use Rattle.trace_report.specs.Begun.{act_parts, try_parts, entered, closed, tried, spent_by, on_first, on_last, gained, ended}
-use Rattle.trace_report.specs.Books.{entered_if, read_off, begun_to, begun_last}
+use Rattle.trace_report.specs.Acts.{acts_in}
+use Rattle.trace_report.specs.Begun.{entered, closed, tried, spent_by, on_first, on_last, gained, ended}
+use Rattle.trace_report.specs.Books.{entered_if, read_off}
 
 -- ---- what an effect changes of the acts at hand
 

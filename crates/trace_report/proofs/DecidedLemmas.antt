@@ -6,15 +6,8 @@ use Rattle.std.specs.FinMap as finite
 use Rattle.std.proofs.lemmas.Grind.{common_steps}
 use Rattle.std.proofs.lemmas.List.{length-append}
 use Rattle.std.proofs.lemmas.Bool.{cond-true, cond-false}
-use Rattle.pseudo_time.specs.declared.nodes.NodeId.{NodeId}
-use Rattle.pseudo_time.specs.Nodes.{repository}
-use Rattle.pseudo_time.specs.StampParts.{StampParts}
-use Rattle.effect_form.specs.declared.effects.Effect.{Effect}
-use Rattle.world_core.specs.Deeds.{RunLogs, committed, has_commit, has_learned, in_run, log_of, some_of}
-use Rattle.world_core.specs.declared.traces.Opened.{Opened}
-use Rattle.trace_report.specs.Decided.{AreDecided, AreEach, learned_in_some, said_at}
-use Rattle.trace_report.specs.Firsts.{Said, AreFirsts, is_decided, is_learned}
-use Rattle.trace_report.specs.Reports.{logs_by}
+use Rattle.trace_report.proofs.Names.{NodeId, repository, StampParts, Effect, RunLogs, committed, has_commit, has_learned, Opened, AreDecided, AreEach, learned_in_some, said_at, Said, AreFirsts, is_decided, is_learned, logs_by}
+use Rattle.world_core.specs.Deeds.{in_run, log_of, some_of}
 use Rattle.trace_report.proofs.FirstLemmas.{commit-is, learned-is}
 
 -- ---- one log more

@@ -2,17 +2,11 @@
 use Rattle.std.proofs.Common.{◌≡◌, Some, if◌then◌else◌, List, [], ◌∷◌, ◌++◌, refl, sym, ◌∙◌, ap}
 use Rattle.std.specs.List.{flat_map}
 use Rattle.std.proofs.lemmas.Grind.{flat_map-append}
-use Rattle.pseudo_time.specs.declared.nodes.NodeId.{NodeId}
-use Rattle.pseudo_time.specs.Nodes.{same_node}
-use Rattle.pseudo_time.specs.declared.nodes.NodeKind.TheVariants.{Repository, Broker}
-use Rattle.world_core.specs.declared.entries.Entry.{Entry}
-use Rattle.world_core.specs.declared.entries.Entry.TheVariants.{Down, Tick}
-use Rattle.world_core.specs.declared.traces.Trace.{Trace}
-use Rattle.plan_form.specs.declared.plans.Plan.{Plan}
+use Rattle.trace_report.proofs.Names.{NodeId, same_node, Repository, Broker, Entry, Down, Tick, Trace, Plan, downs_shown, fallen, shown, nodes_of_kind}
 use Rattle.report_writer.specs.declared.records.Down.{Down as Fallen}
 use Rattle.world_core.specs.Counts.{down_cause}
-use Rattle.trace_report.specs.Reports.{down_shown, downs_shown, nodes_of}
-use Rattle.trace_report.specs.Downs.{fallen, cause_of, shown, nodes_of_kind}
+use Rattle.trace_report.specs.Reports.{down_shown, nodes_of}
+use Rattle.trace_report.specs.Downs.{cause_of}
 
 cause-is : (n : NodeId) (es : List Entry) → cause_of (fallen es) n ≡ down_cause n es
 cause-is n [] = refl

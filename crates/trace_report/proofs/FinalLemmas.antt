@@ -9,29 +9,19 @@ use Rattle.std.specs.BTreeMap.{is_at}
 use Rattle.std.specs.List.Sorted.{IsStrictlySortedBy}
 use Rattle.std.proofs.lemmas.Bool.{true≢false, false≢true}
 use Rattle.std.proofs.lemmas.Cmp.{eq_by_cmp_equiv}
-use Rattle.pseudo_time.specs.StampParts.{StampParts}
-use Rattle.pseudo_time.specs.TimeParts.{TimeParts}
-use Rattle.pseudo_time.specs.Order.{lt}
-use Rattle.value_form.specs.declared.objects.ObjectId.{ObjectId}
-use Rattle.value_form.specs.declared.values.Value.{Value}
-use Rattle.value_form.specs.declared.values.Value.TheVariants.{Nothing}
+use Rattle.trace_report.proofs.Names.{StampParts, TimeParts, lt, ObjectId, Value, Nothing, Effect, Mark, pick, scan, version_count, same_object, value_of, RunLogs, committed, last_put, AreLast, final_last}
 use Rattle.value_form.specs.Objects.{object_cmp, value_at}
 use Rattle.value_form.proofs.ObjectLemmas.{object_cmp-total, object_cmp-exact}
-use Rattle.effect_form.specs.declared.effects.Effect.{Effect}
 use Rattle.effect_form.specs.declared.effects.Effect.TheVariants as effect
-use Rattle.object_history.specs.declared.marks.Mark.{Mark}
 use Rattle.object_history.specs.declared.marks.Mark.TheVariants.{Put, Stretch, Settle, Floor}
-use Rattle.object_history.specs.History.{Seen, pick, scan, starts_above, version_count}
-use Rattle.object_history.specs.Objects.{same_object}
-use Rattle.object_history.specs.Views.{value_of}
+use Rattle.object_history.specs.History.{Seen, starts_above}
 use Rattle.object_history.proofs.ObjectLemmas.{same_object-is}
 use Rattle.repository_log.specs.Logs.{mark_of}
 use Rattle.serial_model.proofs.MapLemmas.{rising_entries}
-use Rattle.world_core.specs.Deeds.{RunLogs, committed}
 use Rattle.trace_report.specs.declared.last_versions.Last.{Last}
 use Rattle.trace_report.specs.declared.last_versions.LastVersions.{LastVersions}
-use Rattle.trace_report.specs.Finals.{all_marks, holding, last_put, last_values}
-use Rattle.trace_report.specs.LastVersions.{AreLast, final_last, is_above, last_at, last_parts, seen_parts}
+use Rattle.trace_report.specs.Finals.{all_marks, holding, last_values}
+use Rattle.trace_report.specs.LastVersions.{is_above, last_at, last_parts, seen_parts}
 use Rattle.trace_report.specs.Reports.{final_of}
 
 -- ---- one put more

@@ -11,3 +11,4 @@ pub mod TextLemmas
 pub mod TraceLemmas
 pub mod TranscriptLemmas
 pub mod WorkedReports
+pub mod Names

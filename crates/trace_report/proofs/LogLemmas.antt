@@ -2,20 +2,11 @@
 use Rattle.std.proofs.Common.{◌≡◌, Bool, true, false, List, [], ◌∷◌, refl, sym, ◌∙◌, ap, Option, Some, None, if◌then◌else◌}
 use Rattle.std.specs.Option.{is_some, unwrap_or}
 use Rattle.std.proofs.lemmas.Bool.{and_right}
-use Rattle.pseudo_time.specs.declared.nodes.NodeId.{NodeId}
-use Rattle.pseudo_time.specs.Nodes.{same_node}
-use Rattle.effect_form.specs.declared.effects.Effect.{Effect}
+use Rattle.trace_report.proofs.Names.{NodeId, same_node, Effect, Plan, reading, Entry, Opened, Trace, gated_log, logs_in, logs_by}
 use Rattle.message_core.proofs.NodeLemmas.{same_is}
-use Rattle.plan_form.specs.declared.plans.Plan.{Plan}
-use Rattle.broker_core.specs.Readings.{reading}
-use Rattle.world_core.specs.declared.entries.Entry.{Entry}
-use Rattle.world_core.specs.declared.traces.Opened.{Opened}
-use Rattle.world_core.specs.declared.traces.Trace.{Trace}
 use Rattle.world_core.specs.Legal.{base_of}
-use Rattle.world_core.specs.Readings.{world_after, gated_log}
+use Rattle.world_core.specs.Readings.{world_after}
 use Rattle.world_core.specs.Walks.{Base, World, names, flagged, lives_on, opened_log, start_world, step, walk_from}
-use Rattle.trace_logs.specs.Replays.{logs_in}
-use Rattle.trace_report.specs.Reports.{logs_by}
 
 -- ---- a node that isn't known stays as it is
 

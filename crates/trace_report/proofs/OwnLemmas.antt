@@ -2,28 +2,15 @@
 use Rattle.std.proofs.Common.{◌≡◌, inl, inr, ℕ, zero, suc, ◌+◌, ◌==◌, Bool, true, false, List, [], ◌∷◌, length, refl, sym, ◌∙◌, ap, Option, Some, None, if◌then◌else◌, cond, arith}
 use Rattle.std.specs.List.{slice_get, filter}
 use Rattle.std.proofs.lemmas.Bool.{eqb-true}
-use Rattle.pseudo_time.specs.declared.nodes.NodeId.{NodeId}
-use Rattle.pseudo_time.specs.Nodes.{broker}
-use Rattle.pseudo_time.specs.Lists.{Every, Has}
+use Rattle.trace_report.proofs.Names.{NodeId, broker, Every, Has, ActSpec, block, IsScript, Effect, denote, Plan, IsOfLanguage, EachAct, Act, Book, reading, OfAct, Task, tasks, acts_of, own-reading, begun_acts}
 use Rattle.pseudo_time.proofs.ListLemmas.{every-has}
-use Rattle.value_form.specs.declared.acts.ActSpec.{ActSpec}
-use Rattle.value_form.specs.Mirror.{block}
-use Rattle.value_form.specs.Ranges.{IsScript}
-use Rattle.effect_form.specs.declared.effects.Effect.{Effect}
 use Rattle.script_form.specs.RowTexts.{script_text}
 use Rattle.script_form.proofs.RangeLemmas.{printable-range}
-use Rattle.serial_model.specs.Questions.{denote}
-use Rattle.plan_form.specs.declared.plans.Plan.{Plan}
-use Rattle.plan_form.specs.PlanTexts.{IsOfLanguage, EachAct}
 use Rattle.plan_form.proofs.PlanRangeLemmas.{of-whole}
-use Rattle.broker_core.specs.Book.{Act, Book}
-use Rattle.broker_core.specs.Readings.{reading}
-use Rattle.broker_core.specs.Sound.{Started, OfAct}
-use Rattle.broker_core.specs.Tasks.{Task, task_of, tasks}
+use Rattle.broker_core.specs.Sound.{Started}
+use Rattle.broker_core.specs.Tasks.{task_of}
 use Rattle.broker_core.proofs.SoundLemmas.{sound-kept}
-use Rattle.world_core.specs.Nodes.{acts_of}
-use Rattle.world_core.proofs.OneReading.{own-reading}
-use Rattle.trace_report.specs.Acts.{begun_acts, counted_by, tasks_of}
+use Rattle.trace_report.specs.Acts.{counted_by, tasks_of}
 
 -- ---- places
 

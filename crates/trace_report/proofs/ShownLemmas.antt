@@ -7,28 +7,10 @@ use Rattle.std.specs.BTreeMap.{is_at}
 use Rattle.std.proofs.lemmas.Bool.{eqb-true, true≢false, eq-eqb}
 use Rattle.std.proofs.lemmas.Bool.Decides.{nat_tests}
 use Rattle.std.proofs.lemmas.List.{reverse-append, reverse-reverse, map-append}
-use Rattle.pseudo_time.specs.declared.nodes.NodeId.{NodeId}
-use Rattle.pseudo_time.specs.Lists.{Every, Has}
+use Rattle.trace_report.proofs.Names.{NodeId, Every, Has, ActSpec, Stmt, block, Effect, Tree, denote, talked, Plan, IsOfLanguage, EachAct, Act, Try, reading, OfAct, Task, TryReport, ActReport, BegunAct, BegunTry, acts_shown, begun_acts, ActParts, act_parts, try_parts, kept, kept_act, kept_try, begun_to, HasActs, act_told, part_at, try_told}
 use Rattle.pseudo_time.proofs.ListLemmas.{every-reverse}
-use Rattle.value_form.specs.declared.acts.ActSpec.{ActSpec}
-use Rattle.value_form.specs.declared.scripts.Stmt.{Stmt}
-use Rattle.value_form.specs.Mirror.{block}
-use Rattle.effect_form.specs.declared.effects.Effect.{Effect}
-use Rattle.serial_model.specs.Questions.{Tree, denote, talked}
-use Rattle.plan_form.specs.declared.plans.Plan.{Plan}
-use Rattle.plan_form.specs.PlanTexts.{IsOfLanguage, EachAct}
-use Rattle.broker_core.specs.Book.{Act, Try}
-use Rattle.broker_core.specs.Readings.{reading}
-use Rattle.broker_core.specs.Sound.{OfAct}
-use Rattle.broker_core.specs.Tasks.{Task}
-use Rattle.report_writer.specs.declared.records.TryReport.{TryReport}
-use Rattle.report_writer.specs.declared.records.ActReport.{ActReport}
-use Rattle.trace_report.specs.declared.begun.BegunAct.{BegunAct}
-use Rattle.trace_report.specs.declared.begun.BegunTry.{BegunTry}
-use Rattle.trace_report.specs.Acts.{act_begun, act_shown, acts_shown, begun_acts, shown_end, spent_at, tries_shown, try_shown}
-use Rattle.trace_report.specs.Begun.{ActParts, act_parts, try_parts, kept, kept_act, kept_try}
-use Rattle.trace_report.specs.Books.{begun_to}
-use Rattle.trace_report.specs.Shown.{HasActs, act_told, part_at, spent_told, tries_told, try_told}
+use Rattle.trace_report.specs.Acts.{act_begun, act_shown, shown_end, spent_at, tries_shown, try_shown}
+use Rattle.trace_report.specs.Shown.{spent_told, tries_told}
 use Rattle.trace_report.proofs.OwnLemmas.{IsOwn, begun-own, begun-tries, numbered, numbered-is, read-own}
 
 -- ---- a map of acts

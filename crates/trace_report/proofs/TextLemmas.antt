@@ -2,21 +2,12 @@
 use Rattle.std.proofs.Common.{◌≡◌, ℕ, List, [], ◌++◌, append_assoc, length, ◌∙◌, ap, Option, Some}
 use Rattle.std.specs.Prelude.{◌-◌}
 use Rattle.std.specs.List.{flat_map}
-use Rattle.pseudo_time.specs.declared.nodes.NodeId.{NodeId}
-use Rattle.value_form.specs.declared.values.Value.{Value}
-use Rattle.effect_form.specs.declared.effects.Effect.{Effect}
-use Rattle.plan_form.specs.declared.plans.Plan.{Plan}
-use Rattle.world_core.specs.declared.traces.Trace.{Trace}
-use Rattle.report_writer.specs.declared.records.ActReport.{ActReport}
+use Rattle.trace_report.proofs.Names.{NodeId, Value, Effect, Plan, Trace, ActReport, Open, down_text, count_of, acts_shown, downs_shown, last_of, load_line, load_text_by, sum_in, tries_in, wire_shown}
 use Rattle.report_writer.specs.declared.records.Down.{Down}
 use Rattle.report_writer.specs.declared.records.Final.{Final}
 use Rattle.report_writer.specs.declared.records.Report.{Report}
-use Rattle.report_writer.specs.declared.records.ActOutcome.TheVariants.{Open}
 use Rattle.report_writer.specs.declared.records.Wire.{Wire}
-use Rattle.report_writer.specs.Reports.{down_text}
-use Rattle.report_writer.specs.Standings.{count_of}
-use Rattle.trace_report.specs.Acts.{acts_shown}
-use Rattle.trace_report.specs.Reports.{acts_line, downs_shown, finals_shown, last_of, load_line, load_text_by, report_by, sum_in, sum_text, tries_in, wire_shown}
+use Rattle.trace_report.specs.Reports.{acts_line, finals_shown, report_by, sum_text}
 
 module _ (plan : Plan) (logs : NodeId → List Effect) (t : Trace) (acts : List ActReport) (downs : List Down) (acts-are : acts ≡ acts_shown plan logs) (downs-are : downs ≡ downs_shown plan t) where
   pub report-is : (finals : List Final) (wire : Wire) → finals ≡ finals_shown plan logs → wire ≡ wire_shown t →

@@ -1,22 +1,9 @@
 -- The logs that are read off a trace are the durable logs at its end.
 use Rattle.std.proofs.Common.{◌≡◌, List, ℕ, sym, ◌∙◌, ap, subst}
-use Rattle.pseudo_time.specs.declared.nodes.NodeId.{NodeId}
-use Rattle.effect_form.specs.declared.effects.Effect.{Effect}
-use Rattle.value_form.specs.declared.acts.ActSpec.{ActSpec}
-use Rattle.serial_model.specs.Questions.{Tree}
-use Rattle.plan_form.specs.declared.plans.Plan.{Plan}
-use Rattle.plan_form.specs.PlanTexts.{IsOfLanguage}
-use Rattle.broker_core.specs.Ledgers.{AreBrokerActs}
-use Rattle.broker_core.specs.Readings.{reading}
-use Rattle.broker_core.specs.Tasks.{Scripted}
-use Rattle.world_core.specs.declared.traces.Opened.{Opened}
-use Rattle.world_core.specs.declared.traces.Trace.{Trace}
-use Rattle.world_core.specs.Readings.{gated_log}
+use Rattle.trace_report.proofs.Names.{NodeId, Effect, ActSpec, Tree, Plan, IsOfLanguage, AreBrokerActs, reading, Scripted, Opened, Trace, gated_log, own-reading, logs_in, logs_by}
 use Rattle.world_core.specs.Walks.{walk}
-use Rattle.world_core.proofs.OneReading.{own-reading}
 use Rattle.world_core.proofs.PlanRangeLemmas.{plan-AreBrokerActs}
-use Rattle.trace_logs.specs.Replays.{base_for, logs_in}
-use Rattle.trace_report.specs.Reports.{logs_by}
+use Rattle.trace_logs.specs.Replays.{base_for}
 use Rattle.trace_report.proofs.LogLemmas.{logs-are}
 
 pub plan-acts : (plan : Plan) (acts : List ActSpec) → IsOfLanguage plan → acts ≡ plan.acts → AreBrokerActs acts

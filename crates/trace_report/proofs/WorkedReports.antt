@@ -2,40 +2,18 @@
 use Rattle.std.proofs.Common.{◌≡◌, ℕ, List, [], ◌∷◌, ◌++◌, refl, Some, None}
 use Rattle.std.specs.Prelude.{codes, pos}
 use Rattle.std.specs.Fmt.{digits}
-use Rattle.pseudo_time.specs.StampParts.{StampParts}
-use Rattle.pseudo_time.specs.TimeParts.{TimeParts}
-use Rattle.pseudo_time.specs.Order.{lt, same_stamp}
+use Rattle.trace_report.proofs.Names.{StampParts, TimeParts, lt, same_stamp, NodeId, Repository, Broker, ObjectId, Nothing, Effect, pick, scan, version_count, same_object, value_of, knows, Plan, book, keep, reading, committed, has_commit, Down, Tick, Trace, TryReport, ActReport, report_text, acts_shown, last_put, downs_shown, run_over, wire_shown}
 use Rattle.pseudo_time.specs.declared.decisions.Decision.TheVariants as decision
-use Rattle.pseudo_time.specs.declared.nodes.NodeId.{NodeId}
 use Rattle.pseudo_time.specs.declared.nodes.NodeKind.{NodeKind}
-use Rattle.pseudo_time.specs.declared.nodes.NodeKind.TheVariants.{Repository, Broker}
 use Rattle.pseudo_time.specs.declared.down_causes.DownCause.TheVariants as cause
-use Rattle.value_form.specs.declared.objects.ObjectId.{ObjectId}
-use Rattle.value_form.specs.declared.values.Value.TheVariants.{Nothing, Number}
-use Rattle.effect_form.specs.declared.effects.Effect.{Effect}
+use Rattle.value_form.specs.declared.values.Value.TheVariants.{Number}
 use Rattle.effect_form.specs.declared.effects.Effect.TheVariants as effect
 use Rattle.effect_form.specs.declared.outcomes.Outcome.TheVariants as ended
 use Rattle.message_form.specs.declared.messages.Message.TheVariants as message
-use Rattle.object_history.specs.History.{pick, scan, version_count}
-use Rattle.object_history.specs.Objects.{same_object}
-use Rattle.object_history.specs.Views.{value_of}
-use Rattle.repository_log.specs.Logs.{knows}
-use Rattle.plan_form.specs.declared.plans.Plan.{Plan}
-use Rattle.broker_core.specs.Book.{book}
-use Rattle.broker_core.specs.Fits.{keep}
-use Rattle.broker_core.specs.Readings.{reading}
-use Rattle.world_core.specs.Deeds.{committed, has_commit}
-use Rattle.world_core.specs.declared.entries.Entry.TheVariants.{Crash, Down, Tick}
+use Rattle.world_core.specs.declared.entries.Entry.TheVariants.{Crash}
 use Rattle.world_core.specs.declared.traces.Sent.{Sent}
-use Rattle.world_core.specs.declared.traces.Trace.{Trace}
 use Rattle.trace_logs.proofs.WorkedTraces.{home, desk, stamp, lone_act, prompt}
 use Rattle.report_writer.specs.declared.records.TryOutcome.TheVariants as outcome
-use Rattle.report_writer.specs.declared.records.TryReport.{TryReport}
-use Rattle.report_writer.specs.declared.records.ActReport.{ActReport}
-use Rattle.report_writer.specs.Reports.{report_text}
-use Rattle.trace_report.specs.Acts.{acts_shown}
-use Rattle.trace_report.specs.Finals.{last_put}
-use Rattle.trace_report.specs.Reports.{downs_shown, run_over, wire_shown}
 
 -- one act without a statement
 abbrev plan : ℕ → Plan

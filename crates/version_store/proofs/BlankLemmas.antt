@@ -4,15 +4,8 @@ use Rattle.std.specs.List.{list_all}
 use Rattle.std.proofs.lemmas.Bool.{cases_Bool, cond-true, and_parts}
 use Rattle.std.proofs.lemmas.List.{take-append-drop}
 use Rattle.std.proofs.lemmas.List.Sums.{sum_by-append}
-use Rattle.medium_port.specs.Image.{Image}
-use Rattle.page_gate.specs.States.{is_blank, state_of}
-use Rattle.page_gate.specs.declared.pages.PageState.TheVariants.{Blank}
-use Rattle.version_store.specs.Entries.{Log}
-use Rattle.version_store.specs.Storage.{Content, Reading, Going, Ended, Damaged, begun, next, scan}
-use Rattle.version_store.specs.Laying.{IsAtRest}
+use Rattle.version_store.proofs.Names.{Image, is_blank, state_of, Blank, Log, Content, Reading, Going, Ended, Damaged, begun, next, scan, IsAtRest, PageState, Spoiled, Gated}
 use Rattle.version_store.proofs.ScanLemmas.{going}
-use Rattle.page_gate.specs.declared.pages.PageState.{PageState}
-use Rattle.page_gate.specs.declared.pages.PageState.TheVariants.{Spoiled, Gated}
 
 -- once ended or damaged, the reading goes on no more
 abbrev Stopped : Reading → Type 0

@@ -1,10 +1,7 @@
 -- Pages that are kept, and clean ones, over two runs.
 use Rattle.std.proofs.Common.{◌≢◌, List, ℕ, sym, ◌∙◌, ap, subst, inl, inr}
 use Rattle.std.proofs.lemmas.Bool.{cases_Bool}
-use Rattle.medium_port.specs.Image.{Image, page_of}
-use Rattle.page_gate.specs.States.{is_blank, state_of}
-use Rattle.page_gate.specs.declared.pages.PageState.TheVariants.{Spoiled}
-use Rattle.version_store.specs.Filling.{KeepsPages, StaysClean}
+use Rattle.version_store.proofs.Names.{Image, page_of, is_blank, state_of, Spoiled, KeepsPages, StaysClean}
 
 pub keeps-joins : (a b c : Image) → KeepsPages a b → KeepsPages b c → KeepsPages a c
 keeps-joins a b c first second page marked =

@@ -2,24 +2,11 @@
 use Rattle.std.proofs.Common.{◌≡◌, ℕ, ◌+◌, ◌≤◌, ◌<◌, List, [], ◌∷◌, ◌++◌, length, drop, Option, Some, None, Result, Ok, Err, refl, sym, ◌∙◌, ap, subst, arith, Vec, inl, ⊎_elim, length-append}
 use Rattle.std.specs.declared.alloc.Global.{Global}
 use Rattle.std.proofs.lemmas.List.{drop_more, drop_all}
-use Rattle.field_form.specs.Forms.{IsBytes}
-use Rattle.medium_port.specs.Image.{Image, page_of}
-use Rattle.page_gate.specs.States.{state_of}
-use Rattle.page_gate.specs.declared.pages.PageState.{PageState}
-use Rattle.effect_form.specs.declared.effects.Place.{Place}
-use Rattle.effect_form.specs.Effects.{Written, effect_bytes, effect_at}
-use Rattle.effect_form.proofs.EffectLaws.{effect_takes}
-use Rattle.effect_form.proofs.ReadLaws.{length-effect_bytes}
-use Rattle.effect_form.proofs.SizeLaws.{size_most, without_back}
-use Rattle.version_store.specs.Fetch.{Sight, Told, Due, LastTells, StandsBehind, Tells, first_sight, next_sight, sheet_on, shown, shown_alone, shown_behind, shown_in, sight_of, sight_then}
+use Rattle.version_store.proofs.Names.{IsBytes, Image, page_of, state_of, PageState, Place, Written, effect_bytes, effect_at, effect_takes, length-effect_bytes, size_most, without_back, LastTells, first_sight, next_sight, sheet_on, shown, shown_alone, shown_behind, shown_in, sight_then, Gated, Sheet, sheet_of, First, Middle, Last, Stand, Sees}
+use Rattle.version_store.specs.Fetch.{Sight, Told, Due, StandsBehind, Tells, sight_of}
 use Rattle.std.specs.Prelude.{◌==◌}
 use Rattle.std.proofs.lemmas.Bool.{cond-true, eq-eqb}
-use Rattle.page_gate.specs.declared.pages.PageState.TheVariants.{Gated}
-use Rattle.version_store.specs.Storage.{Sheet, sheet_of}
-use Rattle.version_store.specs.declared.pieces.Piece.TheVariants.{First, Middle, Last}
 use Rattle.version_store.proofs.ReadLemmas.{IsBytes-append}
-use Rattle.version_store.specs.Found.{Stand}
-use Rattle.version_store.specs.Sights.{Sees}
 use Rattle.version_store.specs.declared.fetches.Sight.TheVariants as code
 
 -- ---- one effect and no more

@@ -4,12 +4,9 @@ use Rattle.std.specs.Prelude.{nat_le, ◌==◌, ◌*◌}
 use Rattle.std.specs.List.{flat_map}
 use Rattle.std.proofs.lemmas.Bool.{cases_Bool, cond-true, cond-false, le-leb, lt-leb, leb-true, leb-false, ne_eqb}
 use Rattle.std.proofs.lemmas.List.{append-nil, drop_more, drop_all}
-use Rattle.pseudo_time.specs.Lists.{Every}
+use Rattle.version_store.proofs.Names.{Every, Effect, IsEffect, AreEffects, size_of, size_some, size_most, sizes, Parcel, Shared, Alone, closed, parcels_from, parcels, pieced, full_pages, pages_of, filling, joined, reach, begun_pages, Filled}
 use Rattle.pseudo_time.proofs.ListLemmas.{every-append}
-use Rattle.effect_form.specs.declared.effects.Effect.{Effect}
-use Rattle.effect_form.specs.Effects.{IsEffect, AreEffects, size_of}
-use Rattle.effect_form.proofs.SizeLaws.{size_some, size_most}
-use Rattle.version_store.specs.Filling.{sizes, Parcel, Shared, Alone, closed, parcels_from, parcels, pieced, full_pages, pages_of, filling, joined, reach, begun_pages, own_pages, pages_apart, Filled}
+use Rattle.version_store.specs.Filling.{own_pages, pages_apart}
 
 pub sizes-append : (a b : List Effect) → sizes (a ++ b) ≡ sizes a + sizes b
 sizes-append [] b = sym (zero-add (sizes b))

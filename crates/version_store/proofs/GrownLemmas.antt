@@ -3,15 +3,9 @@ use Rattle.std.proofs.Common.{◌≡◌, ◌≢◌, ◌⊎◌, inl, inr, ⊎_eli
 use Rattle.std.specs.List.{list_all}
 use Rattle.std.proofs.lemmas.Bool.{and_parts, cond-true, cases_eq}
 use Rattle.std.proofs.lemmas.List.{append-nil, drop_more, take_more, flat_map_more, drop-set-lt, get_or-set_same, get_or-set_other}
-use Rattle.medium_port.specs.Image.{Image, Only}
-use Rattle.medium_port.specs.Moment.{Stage, LeftNow, LeavesOnly, stays, joins}
-use Rattle.page_gate.specs.States.{is_blank, state_of, gated_page}
+use Rattle.version_store.proofs.Names.{Image, Only, Stage, LeftNow, LeavesOnly, joins, is_blank, state_of, gated_page, Spoiled, Gated, Log, Going, log_going, begun, next, scan, entries, KeepsPages, Laid, PagesFit, HasPages, Grows, IsAtRest, all_of, body_of, padded}
+use Rattle.medium_port.specs.Moment.{stays}
 use Rattle.page_gate.specs.Steps.{MayPut}
-use Rattle.page_gate.specs.declared.pages.PageState.TheVariants.{Spoiled, Gated}
-use Rattle.version_store.specs.Entries.{Log}
-use Rattle.version_store.specs.Storage.{Going, log_going, begun, next, scan, entries}
-use Rattle.version_store.specs.Filling.{KeepsPages}
-use Rattle.version_store.specs.Laying.{Laid, PagesFit, HasPages, Grows, IsAtRest, all_of, body_of, padded}
 use Rattle.version_store.proofs.ScanLemmas.{going, stays_blank, stays_spoiled, steps, front_steps, log_at_rest}
 
 -- a page that is none

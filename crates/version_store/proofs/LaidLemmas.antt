@@ -7,20 +7,8 @@ use Rattle.std.specs.Prelude.{◌*◌, ◌/◌, ◌==◌, All}
 use Rattle.std.specs.Option.{option_map}
 use Rattle.std.specs.List.{flat_map}
 use Rattle.std.proofs.lemmas.List.{append-nil, map-append, length-map, take-append-drop}
-use Rattle.pseudo_time.specs.Lists.{Every}
-use Rattle.page_gate.specs.declared.pages.PageState.TheVariants.{Gated}
-use Rattle.value_form.specs.declared.objects.ObjectId.{ObjectId}
-use Rattle.effect_form.specs.declared.effects.Effect.{Effect}
-use Rattle.effect_form.specs.declared.effects.Place.{Place}
-use Rattle.effect_form.specs.Effects.{IsPlace, IsBack, IsWritten, IsEffect, AreEffects, effect_bytes, effect_at, size_of}
-use Rattle.effect_form.proofs.ReadLaws.{length-effect_bytes}
-use Rattle.version_store.specs.declared.pieces.Piece.TheVariants.{First, Middle, Last}
-use Rattle.effect_form.proofs.SizeLaws.{size_some}
-use Rattle.version_store.specs.Entries.{Entry, Log, effects_of, put_object, is_object, last_put, back_of, back_in}
-use Rattle.version_store.specs.Filling.{sizes, Parcel, Shared, Alone, closed, parcels_from, parcels, pieced, full_pages, pages_of, begun_pages, filling, joined}
-use Rattle.version_store.specs.Heads.{Heads, HeadsFit, ArePlaces}
-use Rattle.version_store.specs.Storage.{Content, content_of, Reading, Going, Sheet, piece_of, log_going, next, going_or_damaged, with_sheet, place_alone, alone, admitted}
-use Rattle.version_store.specs.Laying.{texts, body_with, padded, place_after, entry_at, entry_on, laid_on, Laid, body_of, all_of, whole, closed_body, piece_bodies, ending, laid_in, laid_pages, laid, PagesFit, LeadsTo, LaidOut, IsBody, bytes_of}
+use Rattle.version_store.proofs.Names.{Every, Gated, ObjectId, Effect, Place, IsPlace, IsBack, IsWritten, IsEffect, AreEffects, effect_bytes, effect_at, size_of, length-effect_bytes, First, Middle, Last, size_some, Entry, Log, effects_of, put_object, is_object, last_put, back_of, back_in, sizes, Parcel, Shared, Alone, closed, parcels_from, parcels, pieced, full_pages, pages_of, begun_pages, filling, joined, Heads, HeadsFit, ArePlaces, Content, content_of, Reading, Going, Sheet, piece_of, log_going, next, going_or_damaged, with_sheet, place_alone, alone, admitted, texts, body_with, padded, place_after, entry_at, Laid, body_of, all_of, piece_bodies, laid, PagesFit, LaidOut, IsBody, bytes_of}
+use Rattle.version_store.specs.Laying.{entry_on, laid_on, whole, closed_body, ending, laid_in, laid_pages, LeadsTo}
 use Rattle.version_store.proofs.LogLemmas.{last_from-push, has_back, effects_of-append}
 use Rattle.version_store.proofs.FillingLemmas.{FitsPage, FitsPages, parcels-takes, parcels-begins, parcels-alone, filling-fits, joined-filling, length-pieced, count_of, count-first, count-alone}
 use Rattle.version_store.proofs.ScanLemmas.{going}

@@ -12,3 +12,4 @@ pub mod BlankLemmas
 pub mod PlaceLemmas
 pub mod StandLemmas
 mod CleanLemmas
+pub mod Names

@@ -4,15 +4,8 @@ use Rattle.std.specs.Ordering.{is_eq}
 use Rattle.std.specs.BTreeMap.{get, Updates}
 use Rattle.std.proofs.lemmas.Bool.{cases_Bool, cond-true, cond-false}
 use Rattle.std.proofs.lemmas.List.{map-append}
-use Rattle.field_form.proofs.FormLaws.{some_is}
-use Rattle.value_form.specs.declared.objects.ObjectId.{ObjectId}
-use Rattle.value_form.specs.Objects.{object_cmp}
-use Rattle.effect_form.specs.declared.effects.Effect.{Effect}
+use Rattle.version_store.proofs.Names.{some_is, ObjectId, object_cmp, Effect, Place, IsBack, IsWritten, IsEffect, Entry, Log, effects_of, put_object, is_object, last_from, Heads, HeadsFit, ArePlaces}
 use Rattle.effect_form.specs.declared.effects.Effect.TheVariants.{Put, Stretch, Begin, Decide, Learn, Run, Act, Try, Got, Acked, End, Mark, Whole}
-use Rattle.effect_form.specs.declared.effects.Place.{Place}
-use Rattle.effect_form.specs.Effects.{IsBack, IsWritten, IsEffect}
-use Rattle.version_store.specs.Entries.{Entry, Log, effects_of, put_object, is_object, last_from}
-use Rattle.version_store.specs.Heads.{Heads, HeadsFit, ArePlaces}
 
 pub last_from-push : (before : Option Place) (log : Log) (e : Entry) (object : ObjectId) → last_from before (log ++ e ∷ []) object ≡ cond (is_object (put_object e.effect) object) (Some e.place) (last_from before log object)
 last_from-push before [] e object = refl

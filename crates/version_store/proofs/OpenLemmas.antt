@@ -5,16 +5,7 @@ use Rattle.std.specs.List.{list_all}
 use Rattle.std.proofs.lemmas.Bool.{cases_Bool, and_from, cond-true, cond-false}
 use Rattle.std.proofs.lemmas.List.{take_more, take_all, drop_all, drop-append-le}
 use Rattle.std.proofs.lemmas.List.Folds.{list_all-append}
-use Rattle.medium_port.specs.Image.{Image, Only}
-use Rattle.page_gate.specs.States.{is_blank, state_of}
-use Rattle.page_gate.specs.declared.pages.PageState.{PageState}
-use Rattle.page_gate.specs.declared.pages.PageState.TheVariants.{Blank, Spoiled, Gated}
-use Rattle.effect_form.specs.declared.effects.Effect.{Effect}
-use Rattle.version_store.specs.Storage.{Content, content_of, Reading, log_going, Going, Ended, Damaged, begun, next, scan, going_or_damaged, with_sheet, sheet_of}
-use Rattle.version_store.specs.Laying.{IsAtRest}
-use Rattle.version_store.specs.Heads.{Heads, IsFound}
-use Rattle.version_store.specs.Found.{HeldFit, Reached, reading_of}
-use Rattle.version_store.specs.declared.page_reads.Held.{Held}
+use Rattle.version_store.proofs.Names.{Image, Only, is_blank, state_of, PageState, Blank, Spoiled, Gated, Effect, Content, content_of, Reading, log_going, Going, Ended, Damaged, begun, next, scan, going_or_damaged, with_sheet, sheet_of, IsAtRest, Heads, IsFound, HeldFit, Reached, reading_of, Held}
 use Rattle.version_store.proofs.ScanLemmas.{scan_more}
 
 -- a page that is in another state isn't blank

@@ -5,21 +5,9 @@ use Rattle.std.specs.Option.{option_map}
 use Rattle.std.specs.Int.{w16, to_be_bytes}
 use Rattle.std.proofs.lemmas.Bool.{cond-true, eq-eqb, and_from}
 use Rattle.std.proofs.lemmas.List.{append-nil}
-use Rattle.field_form.specs.Forms.{◌>>=◌}
-use Rattle.field_form.specs.Numbers.{byte_at, number_at, between}
-use Rattle.field_form.proofs.NumberLaws.{u16_form, between_form, front_again}
-use Rattle.page_gate.specs.States.{is_blank}
-use Rattle.effect_form.specs.declared.effects.Place.{Place}
-use Rattle.effect_form.specs.Effects.{Written, IsWritten, effect_bytes, effect_at, size_of}
+use Rattle.version_store.proofs.Names.{◌>>=◌, byte_at, number_at, between, u16_form, between_form, is_blank, Place, Written, IsWritten, effect_bytes, effect_at, size_of, length-effect_bytes, effect_cons, size_some, Entry, Log, effects_of, back_in, same_back, sizes, Content, content_of, piece_of, padded_at, new_sheet_at, sheet_of, place_before, admitted, log_at, alone, with_sheet, Piece, Whole, texts, body_with, padded, place_after}
+use Rattle.field_form.proofs.NumberLaws.{front_again}
 use Rattle.effect_form.proofs.EffectLaws.{effect_again}
-use Rattle.effect_form.proofs.ReadLaws.{length-effect_bytes}
-use Rattle.effect_form.proofs.SizeLaws.{effect_cons, size_some}
-use Rattle.version_store.specs.Entries.{Entry, Log, effects_of, back_in, same_back}
-use Rattle.version_store.specs.Filling.{sizes}
-use Rattle.version_store.specs.Storage.{Content, content_of, piece_of, padded_at, new_sheet_at, sheet_of, place_before, admitted, log_at, alone, with_sheet}
-use Rattle.version_store.specs.declared.pieces.Piece.{Piece}
-use Rattle.version_store.specs.declared.pieces.Piece.TheVariants.{Whole}
-use Rattle.version_store.specs.Laying.{texts, body_with, padded, place_after}
 
 same_back-self : (b : Option Place) → same_back b b ≡ true
 same_back-self None = refl

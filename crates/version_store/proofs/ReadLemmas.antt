@@ -3,27 +3,12 @@ use Rattle.std.proofs.Common.{◌≡◌, ℕ, zero, suc, ◌+◌, ◌-◌, ◌�
 use Rattle.std.specs.Prelude.{◌==◌}
 use Rattle.std.proofs.lemmas.Bool.{cases_Bool, cond-true, cond-false, and_parts, eqb-true}
 use Rattle.std.proofs.lemmas.List.{drop_at, take_all}
-use Rattle.field_form.specs.Forms.{IsBytes, ◌>>=◌}
-use Rattle.effect_form.specs.declared.effects.Effect.{Effect}
-use Rattle.effect_form.specs.declared.effects.Place.{Place}
-use Rattle.effect_form.specs.Effects.{Written, effect_bytes, effect_at}
-use Rattle.effect_form.proofs.EffectLaws.{effect_takes}
-use Rattle.effect_form.proofs.ReadLaws.{length-effect_bytes}
-use Rattle.effect_form.proofs.SizeLaws.{size_most, without_back}
-use Rattle.version_store.specs.Entries.{Log, back_in, same_back}
-use Rattle.version_store.specs.Heads.{Heads, HeadsFit, IsFound}
-use Rattle.version_store.specs.Found.{HeldBelow, HeldFit, Stand, reading_of}
-use Rattle.page_gate.specs.declared.pages.PageState.{PageState}
-use Rattle.page_gate.specs.declared.pages.PageState.TheVariants.{Blank, Spoiled, Gated}
-use Rattle.version_store.specs.declared.page_reads.Held.{Held}
-use Rattle.version_store.specs.declared.pieces.Piece.TheVariants.{Whole, First}
+use Rattle.version_store.proofs.Names.{IsBytes, ◌>>=◌, Effect, Place, Written, effect_bytes, effect_at, effect_takes, length-effect_bytes, size_most, without_back, Log, back_in, same_back, Heads, HeadsFit, IsFound, HeldBelow, HeldFit, Stand, reading_of, PageState, Blank, Spoiled, Gated, Held, Whole, First, Content, content_of, Sheet, Going, going_or_damaged, with_sheet, next, place_before, place_alone, admitted, alone, held_more, held_ends, log_at, entry_at}
 use Rattle.std.proofs.lemmas.Bool.Decides.{nat_tests}
-use Rattle.version_store.specs.Storage.{Content, content_of, Sheet, Going, going_or_damaged, with_sheet, next, place_before, place_alone, admitted, alone, held_more, held_ends, log_at}
 use Rattle.std.specs.Prelude.{MatchOption, MatchBool, Vec}
 use Rattle.std.specs.declared.alloc.Global.{Global}
 use Rattle.std.specs.Option.{option_map}
 use Rattle.std.specs.Borrow.{Bor}
-use Rattle.version_store.specs.Laying.{entry_at}
 use Rattle.version_store.proofs.LogLemmas.{effects_of-append}
 
 pub IsBytes-append : (s t : List ℕ) → IsBytes s → IsBytes t → IsBytes (s ++ t)

@@ -3,12 +3,7 @@ use Rattle.std.proofs.Common.{◌≡◌, ℕ, suc, ◌+◌, ◌<◌, List, [], �
 use Rattle.std.specs.List.{list_all}
 use Rattle.std.proofs.lemmas.Bool.{cond-true, and_parts}
 use Rattle.std.proofs.lemmas.List.{set_split, take_more, take_more_set, take-append-drop}
-use Rattle.field_form.proofs.FormLaws.{some_is}
-use Rattle.medium_port.specs.Image.{Image}
-use Rattle.page_gate.specs.States.{is_blank, state_of}
-use Rattle.page_gate.specs.declared.pages.PageState.TheVariants.{Blank, Spoiled, Gated}
-use Rattle.version_store.specs.Entries.{Log}
-use Rattle.version_store.specs.Storage.{Content, content_of, Reading, Going, Ended, Damaged, log_going, begun, next, scan, finish, entries}
+use Rattle.version_store.proofs.Names.{some_is, Image, is_blank, state_of, Blank, Spoiled, Gated, Log, Content, content_of, Reading, Going, Ended, Damaged, log_going, begun, next, scan, finish, entries}
 
 pub scan-append : (front rest : Image) (reading : Reading) (n : ℕ) → scan reading n (front ++ rest) ≡ scan (scan reading n front) (n + length front) rest
 scan-append [] rest reading n = ap (λ (k : ℕ). scan reading k rest) (sym (add-zero n))

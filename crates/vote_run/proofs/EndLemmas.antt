@@ -6,49 +6,27 @@ use Rattle.std.proofs.lemmas.Bool.{and_parts}
 use Rattle.std.proofs.lemmas.List.{append-nil}
 use Rattle.std.proofs.lemmas.Bool.Decides.{nat_tests}
 use Rattle.std.proofs.lemmas.Option.{slice_get_within}
-use Rattle.pseudo_time.specs.Nodes.{broker, repository}
-use Rattle.pseudo_time.specs.declared.nodes.NodeId.{NodeId}
-use Rattle.pseudo_time.specs.declared.nodes.NodeKind.{NodeKind}
-use Rattle.pseudo_time.specs.declared.nodes.NodeKind.TheVariants.{Repository, Broker}
+use Rattle.vote_run.proofs.Names.{broker, repository, NodeId, NodeKind, Repository, Broker, state_of, MemberNumber, First, Second, Third, PollState, member, Line, Entry, Take, Go, Learn, Hear, Gate, Crash, Down, Tick, is_behind, is_within, Flags, names, opened_log, Media, Base, Hall, world_of, down_cause, WasNotOpened, base_of, most_of, CourierParts, tick_moment, hall_of, trace_of, Adds, IsReady, PollIsAt, and-false, never-false, Between, Follows, HasCome, HasGoneRound, HaveSat, MayAllTurn, all_late, is_member, late, PollsAre, PollsTurned, is_poll, Sits, Limits, Next, Over, Round, Ticked, Members, Seat, Up, Fallen, Wanting}
 use Rattle.stream_port.specs.declared.fates.Asked.{Asked}
 use Rattle.message_core.specs.Flights.{AllEmpty}
-use Rattle.message_core.specs.Parts.{state_of}
-use Rattle.record_votes.specs.declared.member_numbers.MemberNumber.{MemberNumber}
-use Rattle.record_votes.specs.declared.member_numbers.MemberNumber.TheVariants.{First, Second, Third}
-use Rattle.record_votes.specs.Polls.{PollState, held, member}
-use Rattle.record_votes.specs.Voting.{Line}
-use Rattle.world_core.specs.declared.entries.Entry.{Entry}
-use Rattle.world_core.specs.declared.entries.Entry.TheVariants.{Take, Go, Learn, Hear, Gate, Crash, Down, Tick}
-use Rattle.world_core.specs.Legal.{Idle, asked_of, fates_of, is_behind, is_within}
-use Rattle.world_core.specs.Walks.{Flags, flagged, names, opened_log}
+use Rattle.record_votes.specs.Polls.{held}
+use Rattle.world_core.specs.Legal.{Idle, asked_of, fates_of}
+use Rattle.world_core.specs.Walks.{flagged}
 use Rattle.vote_courier.specs.Clocked.{IsClocked, tick_moments}
 use Rattle.vote_courier.proofs.MomentLemmas.{clocked-tick, latest}
 use Rattle.vote_courier.proofs.QuietLemmas.{not-behind}
-use Rattle.run_media.specs.Media.{Media}
-use Rattle.vote_courier.specs.Walks.{Base, Hall, start_hall, step, walk, walk_from, world_of}
-use Rattle.world_core.specs.Counts.{down_cause}
-use Rattle.vote_courier.specs.Legal.{WasNotOpened, base_of, most_of}
+use Rattle.vote_courier.specs.Walks.{start_hall, step, walk, walk_from}
 use Rattle.vote_courier.proofs.CauseLemmas.{at-if}
 use Rattle.vote_courier.proofs.WalkLemmas.{walk-append}
 use Rattle.vote_law.specs.Smooth.{HoldAll, TicksForPolls}
 use Rattle.vote_courier.specs.Carried.{IsAtRest, IsAtRestAt}
 use Rattle.vote_courier.proofs.CarryLemmas.{idles}
-use Rattle.vote_courier.specs.Couriers.{CourierParts, tick_moment}
-use Rattle.vote_courier.specs.Stations.{hall_of, trace_of}
-use Rattle.vote_courier.specs.Places.{Adds, IsReady, PollIsAt, Tells}
+use Rattle.vote_courier.specs.Places.{Tells}
 use Rattle.vote_courier.proofs.StationLemmas.{ticks-legal}
-use Rattle.vote_courier.proofs.PlaceLemmas.{adds-join, adds-still, and-false, never-false, there}
-use Rattle.vote_run.specs.Ends.{Between, Follows, HasCome, HasEnded, HasGoneRound, HasTicked, IsOver, TicksAreWanted, all_held, any_node}
+use Rattle.vote_courier.proofs.PlaceLemmas.{adds-join, adds-still, there}
+use Rattle.vote_run.specs.Ends.{HasEnded, HasTicked, IsOver, TicksAreWanted, all_held, any_node}
 use Rattle.vote_run.specs.MemberTurns.{MayTurn}
-use Rattle.vote_run.specs.Members.{HaveSat, MayAllTurn, all_late, is_late, is_member, late, some_late}
-use Rattle.vote_run.specs.Rounds.{PollsAre, PollsTurned, is_poll}
-use Rattle.vote_run.specs.Sittings.{Sits}
-use Rattle.vote_run.specs.declared.limits.Limits.{Limits}
-use Rattle.vote_run.specs.declared.limits.Next.{Next}
-use Rattle.vote_run.specs.declared.limits.Next.TheVariants.{Over, Round, Ticked}
-use Rattle.vote_run.specs.declared.members.Members.{Members}
-use Rattle.vote_run.specs.declared.seats.Seat.{Seat}
-use Rattle.vote_run.specs.declared.seats.Seat.TheVariants.{Up, Fallen, Wanting}
+use Rattle.vote_run.specs.Members.{is_late, some_late}
 use Rattle.vote_run.proofs.EntryLemmas.{down-still, out-stays}
 use Rattle.vote_run.proofs.MembersLemmas.{or-parts, sits-stay}
 use Rattle.vote_run.proofs.PollLemmas.{poll-stays}

@@ -3,22 +3,8 @@ use Rattle.std.proofs.Common.{◌≡◌, ℕ, ◌+◌, Bool, true, false, List, 
 use Rattle.std.specs.Prelude.{Option, Some, None, cond, if◌then◌else◌}
 use Rattle.std.proofs.lemmas.List.{append-nil}
 use Rattle.std.proofs.lemmas.List.Elements.{filter-append}
-use Rattle.pseudo_time.specs.Nodes.{same_node}
-use Rattle.pseudo_time.specs.declared.down_causes.DownCause.{DownCause}
-use Rattle.pseudo_time.specs.declared.nodes.NodeId.{NodeId}
-use Rattle.message_form.specs.declared.turns.Turn.{Turn}
-use Rattle.record_votes.specs.Books.{MemberState}
-use Rattle.message_core.proofs.NodeLemmas.{same_node-refl}
-use Rattle.world_core.specs.declared.entries.Entry.{Entry}
-use Rattle.world_core.specs.declared.entries.Entry.TheVariants.{Take, Go, Learn, Hear, Gate, Crash, Down, Tick}
-use Rattle.world_core.specs.Walks.{is_down, names, own}
-use Rattle.world_core.specs.Counts.{down_cause}
-use Rattle.vote_members.specs.Costs.{cost_of, costs}
-use Rattle.vote_courier.specs.Legal.{IsOfDowns, WasNotOpened}
-use Rattle.vote_courier.proofs.PlaceLemmas.{never-false}
-use Rattle.vote_courier.specs.Couriers.{CourierParts}
-use Rattle.vote_run.specs.Fares.{Lengthens}
-use Rattle.vote_run.specs.MemberTurns.{Begins}
+use Rattle.vote_run.proofs.Names.{same_node, DownCause, NodeId, Turn, MemberState, same_node-refl, Entry, Take, Go, Learn, Hear, Gate, Crash, Down, Tick, is_down, names, own, down_cause, cost_of, costs, WasNotOpened, never-false, CourierParts, Lengthens, Begins}
+use Rattle.vote_courier.specs.Legal.{IsOfDowns}
 
 -- ---- costs
 

@@ -3,45 +3,16 @@ use Rattle.std.proofs.Common.{◌≡◌, ◌≢◌, ℕ, ◌+◌, ◌≤◌, Boo
 use Rattle.std.proofs.lemmas.List.{append-nil}
 use Rattle.std.specs.Prelude.{Option, Some, None, ◌-◌, ◌==◌, length, drop, slice_index, IsTrue, if◌then◌else◌}
 use Rattle.std.proofs.lemmas.Bool.{cases_Bool}
-use Rattle.pseudo_time.specs.Nodes.{same_node}
-use Rattle.pseudo_time.specs.declared.down_causes.DownCause.{DownCause}
+use Rattle.vote_run.proofs.Names.{same_node, DownCause, NodeId, Out, Turn, same_node-refl, Effect, medium_of, Store, MemberState, MemberNumber, First, Second, Third, PollState, member, Entry, Gate, Crash, Down, Tick, is_down, names, own, Media, down_cause, IsFallenFor, cost_of, costs, CourierParts, tick_moment, never-false, Follows, AllFare, Lengthens, Begins, EndsAs, IsDown, IsGated, IsReopened, Turns, Wants, all_late, late, some_wants, wants, Limits, Next, Over, Round, Ticked, Members, Seat, Up, Fallen, Wanting}
 use Rattle.pseudo_time.specs.declared.down_causes.DownCause.TheVariants as down
-use Rattle.pseudo_time.specs.declared.nodes.NodeId.{NodeId}
-use Rattle.message_form.specs.declared.turns.Out.{Out}
-use Rattle.message_form.specs.declared.turns.Turn.{Turn}
-use Rattle.message_core.proofs.NodeLemmas.{same_node-refl}
 use Rattle.stream_port.specs.Causes.{RoseBy, rises_add}
 use Rattle.medium_port.specs.Image.{Image, page_of}
 use Rattle.page_gate.specs.States.{is_blank, state_of}
 use Rattle.page_gate.specs.declared.pages.PageState.{PageState}
 use Rattle.page_gate.specs.declared.pages.PageState.TheVariants.{Blank, Gated, Spoiled}
-use Rattle.effect_form.specs.declared.effects.Effect.{Effect}
 use Rattle.version_store.specs.Filling.{KeepsPages, StaysClean, pages_apart}
-use Rattle.version_store.specs.StoreWords.{medium_of}
-use Rattle.version_store.specs.declared.stores.Store.{Store}
-use Rattle.record_votes.specs.Books.{MemberState}
-use Rattle.record_votes.specs.declared.member_numbers.MemberNumber.{MemberNumber}
-use Rattle.record_votes.specs.declared.member_numbers.MemberNumber.TheVariants.{First, Second, Third}
-use Rattle.record_votes.specs.Polls.{PollState, member}
-use Rattle.world_core.specs.declared.entries.Entry.{Entry}
-use Rattle.world_core.specs.declared.entries.Entry.TheVariants.{Gate, Crash, Down, Tick}
-use Rattle.world_core.specs.Walks.{is_down, names, own}
-use Rattle.run_media.specs.Media.{Media}
-use Rattle.world_core.specs.Counts.{down_cause}
-use Rattle.vote_members.specs.Closings.{Grows, HasGrown, IsFallenFor}
-use Rattle.vote_members.specs.Costs.{cost_of, costs}
-use Rattle.vote_courier.specs.Couriers.{CourierParts, tick_moment}
-use Rattle.vote_courier.proofs.PlaceLemmas.{never-false}
-use Rattle.vote_run.specs.Ends.{Follows}
-use Rattle.vote_run.specs.Fares.{AllFare, Fares, FaresWell, FellLater, HasPaid, Lengthens, NeverOpened}
-use Rattle.vote_run.specs.MemberTurns.{Begins, EndsAs, IsDown, IsGated, IsReopened, Turns, Wants}
-use Rattle.vote_run.specs.Members.{all_late, late, some_wants, wants}
-use Rattle.vote_run.specs.declared.limits.Limits.{Limits}
-use Rattle.vote_run.specs.declared.limits.Next.{Next}
-use Rattle.vote_run.specs.declared.limits.Next.TheVariants.{Over, Round, Ticked}
-use Rattle.vote_run.specs.declared.members.Members.{Members}
-use Rattle.vote_run.specs.declared.seats.Seat.{Seat}
-use Rattle.vote_run.specs.declared.seats.Seat.TheVariants.{Up, Fallen, Wanting}
+use Rattle.vote_members.specs.Closings.{Grows, HasGrown}
+use Rattle.vote_run.specs.Fares.{Fares, FaresWell, FellLater, HasPaid, NeverOpened}
 use Rattle.vote_run.proofs.EntryLemmas.{begun-entry, begun-up, costs-more, down-more, down-still, lengthens-join, lengthens-one, lengthens-still, none-begun, out-stays, own-still}
 use Rattle.vote_run.proofs.MembersLemmas.{or-parts}
 

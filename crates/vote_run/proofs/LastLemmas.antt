@@ -1,26 +1,11 @@
 -- What of members' media lasts over turns.
 use Rattle.std.proofs.Common.{◌≡◌, ℕ, List, ◌++◌, take, inl, inr, refl, sym, ap, subst, ◌∙◌, append_assoc}
 use Rattle.std.specs.Prelude.{Option, Some, None, Ok, IsTrue}
-use Rattle.pseudo_time.specs.declared.nodes.NodeId.{NodeId}
-use Rattle.effect_form.specs.declared.effects.Effect.{Effect}
-use Rattle.message_form.specs.declared.turns.Out.{Out}
-use Rattle.version_store.specs.Entries.{effects_of}
-use Rattle.version_store.specs.Storage.{entries, log_of, storage}
-use Rattle.version_store.specs.StoreWords.{effects_in, medium_of}
-use Rattle.version_store.specs.declared.stores.Store.{Store}
-use Rattle.record_votes.specs.Books.{MemberState}
-use Rattle.record_votes.specs.declared.member_numbers.MemberNumber.{MemberNumber}
-use Rattle.record_votes.specs.declared.member_numbers.MemberNumber.TheVariants.{First, Second, Third}
-use Rattle.record_votes.specs.Polls.{member}
-use Rattle.run_media.specs.Media.{IsBack, Media}
-use Rattle.vote_members.specs.Closings.{IsDurable, LeavesFront, LeavesLog}
-use Rattle.vote_courier.specs.Couriers.{CourierParts}
-use Rattle.vote_run.specs.Lasts.{AllLast, KeepsWhole, Lasts, LosesNothing, medium_in}
-use Rattle.vote_run.specs.MemberTurns.{EndsAs, Turns, Wants}
-use Rattle.vote_run.specs.Members.{all_late, late}
-use Rattle.vote_run.specs.declared.members.Members.{Members}
-use Rattle.vote_run.specs.declared.seats.Seat.{Seat}
-use Rattle.vote_run.specs.declared.seats.Seat.TheVariants.{Up, Fallen, Wanting}
+use Rattle.vote_run.proofs.Names.{NodeId, Effect, Out, effects_of, entries, log_of, effects_in, medium_of, Store, MemberState, MemberNumber, First, Second, Third, member, Media, IsDurable, LeavesLog, CourierParts, AllLast, EndsAs, Turns, Wants, all_late, late, Members, Seat, Up, Fallen, Wanting}
+use Rattle.version_store.specs.Storage.{storage}
+use Rattle.run_media.specs.Media.{IsBack}
+use Rattle.vote_members.specs.Closings.{LeavesFront}
+use Rattle.vote_run.specs.Lasts.{KeepsWhole, Lasts, LosesNothing, medium_in}
 use Rattle.vote_run.proofs.SittingLemmas.{read-so}
 
 module _ {M : Type 0} {g : _} (w : Media M) (told : IsTrue w.tells) where

@@ -9,3 +9,4 @@ pub mod SittingLemmas
 pub mod VoterLemmas
 pub use Rattle.vote_courier.proofs.PlaceLemmas
 pub use Rattle.vote_courier.proofs.StationLemmas
+pub mod Names

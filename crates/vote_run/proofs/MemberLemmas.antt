@@ -3,37 +3,19 @@ use Rattle.std.proofs.Common.{◌≡◌, ℕ, ◌≤◌, Bool, true, false, List
 use Rattle.std.specs.Prelude.{Option, Some, None, ◌&&◌, not, is_some, if◌then◌else◌}
 use Rattle.std.specs.Option.{unwrap_or}
 use Rattle.std.proofs.lemmas.List.{append-nil}
-use Rattle.pseudo_time.specs.Nodes.{same_node}
-use Rattle.pseudo_time.specs.declared.down_causes.DownCause.{DownCause}
-use Rattle.pseudo_time.specs.declared.nodes.NodeId.{NodeId}
-use Rattle.pseudo_time.specs.declared.nodes.NodeKind.TheVariants.{Repository}
-use Rattle.effect_form.specs.declared.effects.Effect.{Effect}
-use Rattle.message_form.specs.declared.turns.Out.{Out}
-use Rattle.message_form.specs.declared.turns.Turn.{Turn}
+use Rattle.vote_run.proofs.Names.{same_node, DownCause, NodeId, Repository, Effect, Out, Turn, state_of, same_node-refl, MemberState, MemberNumber, First, Second, Third, member, number_of, Line, Member, Entry, Take, Hear, Gate, Crash, Down, is_behind, Flags, Base, Hall, world_of, base_of, CourierParts, HasSent, with_entry, Stands, hall_of, trace_of, Keeps, and-false, keeps-still, never-false, Begins, moment_of, MemberIsAt, MemberOwes}
 use Rattle.message_form.specs.Posts.{Post}
 use Rattle.message_core.specs.Flights.{was_shut}
-use Rattle.message_core.specs.Parts.{state_of}
-use Rattle.message_core.proofs.NodeLemmas.{same_node-refl}
-use Rattle.record_votes.specs.Books.{MemberState}
 use Rattle.record_votes.specs.Members.{Given, on_message, on_moment}
-use Rattle.record_votes.specs.declared.member_numbers.MemberNumber.{MemberNumber}
-use Rattle.record_votes.specs.declared.member_numbers.MemberNumber.TheVariants.{First, Second, Third}
-use Rattle.record_votes.specs.Polls.{member, number_of}
-use Rattle.record_votes.specs.Voting.{Line, Member, crashed, heard, shut, took}
-use Rattle.world_core.specs.declared.entries.Entry.{Entry}
-use Rattle.world_core.specs.declared.entries.Entry.TheVariants.{Take, Hear, Gate, Crash, Down}
-use Rattle.world_core.specs.Legal.{is_behind}
-use Rattle.world_core.specs.Walks.{Flags, with_due}
+use Rattle.record_votes.specs.Voting.{crashed, heard, shut, took}
+use Rattle.world_core.specs.Walks.{with_due}
 use Rattle.vote_courier.proofs.QuietLemmas.{behind-parts}
-use Rattle.vote_courier.specs.Walks.{Base, Hall, life_of, life_with, member_heard, member_took, world_of}
-use Rattle.vote_courier.specs.Legal.{base_of}
-use Rattle.vote_courier.specs.Couriers.{CourierParts, HasSent, with_entry}
-use Rattle.vote_courier.specs.Stations.{Stands, hall_of, owes, trace_of}
-use Rattle.vote_courier.specs.Places.{Keeps}
+use Rattle.vote_courier.specs.Walks.{life_of, life_with, member_heard, member_took}
+use Rattle.vote_courier.specs.Stations.{owes}
 use Rattle.vote_courier.proofs.StationLemmas.{takes-legal, notes-legal, gates-legal, downs-legal}
-use Rattle.vote_courier.proofs.PlaceLemmas.{Called, and-false, down-called, flags-on, heard-due, keeps, keeps-still, leads, member-on, never-false, noted, sent-called, taken-is, took-called}
-use Rattle.vote_run.specs.MemberTurns.{Begins, HearsMoment, TakesCopy, moment_of}
-use Rattle.vote_run.specs.Seats.{MemberIsAt, MemberIsDown, MemberOwes}
+use Rattle.vote_courier.proofs.PlaceLemmas.{Called, down-called, flags-on, heard-due, keeps, leads, member-on, noted, sent-called, taken-is, took-called}
+use Rattle.vote_run.specs.MemberTurns.{HearsMoment, TakesCopy}
+use Rattle.vote_run.specs.Seats.{MemberIsDown}
 
 life-member : (h : Hall) (s : MemberNumber) → life_of h Repository (number_of s) ≡ life_with (h.members s).gated (h.members s).fresh (h.members s).owed
 life-member h First = refl

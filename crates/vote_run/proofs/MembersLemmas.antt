@@ -1,28 +1,8 @@
 -- The turns of all members.
 use Rattle.std.proofs.Common.{◌≡◌, ℕ, Bool, true, false, List, refl, sym, ap, subst, ◌∙◌, inl, inr}
 use Rattle.std.specs.Prelude.{Some, None, ◌||◌, not, IsTrue}
-use Rattle.pseudo_time.specs.Nodes.{is_broker, repository, same_node}
-use Rattle.pseudo_time.specs.declared.nodes.NodeId.{NodeId}
-use Rattle.pseudo_time.specs.declared.nodes.NodeKind.{NodeKind}
-use Rattle.pseudo_time.specs.declared.nodes.NodeKind.TheVariants.{Repository, Broker}
-use Rattle.record_votes.specs.declared.member_numbers.MemberNumber.{MemberNumber}
-use Rattle.record_votes.specs.declared.member_numbers.MemberNumber.TheVariants.{First, Second, Third}
-use Rattle.record_votes.specs.Polls.{member, number_of}
-use Rattle.record_votes.specs.Voting.{Line, Member}
-use Rattle.world_core.specs.Walks.{Flags}
-use Rattle.run_media.specs.Media.{Media}
-use Rattle.world_core.specs.Counts.{down_cause}
-use Rattle.vote_courier.specs.Legal.{WasNotOpened}
-use Rattle.vote_courier.specs.Couriers.{CourierParts}
-use Rattle.vote_courier.specs.Stations.{Stands, hall_of}
-use Rattle.vote_courier.specs.Places.{Adds, Keeps, OnlyChanges}
-use Rattle.vote_courier.proofs.PlaceLemmas.{keeps-join, keeps-wider, never-false}
-use Rattle.vote_run.specs.Members.{AllSat, SitAll, is_member, wants}
-use Rattle.vote_run.specs.MemberTurns.{Turns}
-use Rattle.vote_run.specs.Sittings.{SatOn, Sits}
-use Rattle.vote_run.specs.declared.members.Members.{Members}
-use Rattle.vote_run.specs.declared.seats.Seat.{Seat}
-use Rattle.vote_run.specs.declared.seats.Seat.TheVariants.{Up, Fallen, Wanting}
+use Rattle.vote_run.proofs.Names.{is_broker, repository, same_node, NodeId, NodeKind, Repository, Broker, MemberNumber, First, Second, Third, member, number_of, Line, Member, Flags, Media, down_cause, WasNotOpened, CourierParts, Stands, hall_of, Adds, Keeps, OnlyChanges, keeps-join, keeps-wider, never-false, is_member, wants, Turns, SatOn, Sits, Members, Seat, Up, Fallen, Wanting}
+use Rattle.vote_run.specs.Members.{AllSat, SitAll}
 use Rattle.vote_run.proofs.EntryLemmas.{down-still, out-stays}
 use Rattle.vote_run.proofs.PollLemmas.{ready-stays}
 use Rattle.vote_run.proofs.SittingLemmas.{sat-on}

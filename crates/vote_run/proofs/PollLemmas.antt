@@ -4,25 +4,12 @@ use Rattle.std.specs.Prelude.{Some, ◌&&◌, ◌⊎◌, not, is_some, nat_lt, s
 use Rattle.std.proofs.Math.ListN.{get_or, set}
 use Rattle.std.proofs.lemmas.Option.{slice_get-get_or}
 use Rattle.std.proofs.lemmas.Bool.Decides.{nat_tests}
-use Rattle.pseudo_time.specs.Nodes.{broker, is_broker, same_node}
-use Rattle.pseudo_time.specs.declared.nodes.NodeId.{NodeId}
-use Rattle.pseudo_time.specs.declared.nodes.NodeKind.{NodeKind}
-use Rattle.pseudo_time.specs.declared.nodes.NodeKind.TheVariants.{Repository, Broker}
-use Rattle.message_form.specs.declared.turns.Out.{Out}
-use Rattle.record_votes.specs.Polls.{PollState, poll_goes, poll_hears, poll_takes}
-use Rattle.record_votes.specs.Voting.{Line}
-use Rattle.world_core.specs.declared.entries.Entry.{Entry}
-use Rattle.world_core.specs.declared.entries.Entry.TheVariants.{Gate, Go, Hear, Take}
-use Rattle.world_core.specs.Walks.{Flags, names}
-use Rattle.vote_courier.specs.Walks.{Hall}
-use Rattle.vote_courier.specs.Couriers.{CourierParts, HasSent, with_entry}
-use Rattle.vote_courier.specs.Stations.{Stands, hall_of}
-use Rattle.vote_courier.specs.Places.{IsReady, OnlyChanges, PollIsAt, PollIsNew}
+use Rattle.vote_run.proofs.Names.{broker, is_broker, same_node, NodeId, NodeKind, Repository, Broker, Out, PollState, Line, Entry, Gate, Go, Hear, Take, Flags, names, Hall, CourierParts, HasSent, with_entry, Stands, hall_of, IsReady, OnlyChanges, PollIsAt, keeps-join, keeps-still, keeps-wider, never-false, Lengthens, PollsAre, PollsGo, PollsTurned, PollsWent, is_poll}
+use Rattle.record_votes.specs.Polls.{poll_goes, poll_hears, poll_takes}
+use Rattle.vote_courier.specs.Places.{PollIsNew}
 use Rattle.vote_courier.specs.Turns.{Goes, PollTurns}
-use Rattle.vote_courier.proofs.PlaceLemmas.{goes-kept, keeps-join, keeps-still, keeps-wider, never-false, turns-kept}
-use Rattle.vote_run.specs.Fares.{Lengthens}
+use Rattle.vote_courier.proofs.PlaceLemmas.{goes-kept, turns-kept}
 use Rattle.vote_run.proofs.EntryLemmas.{lengthens-join, lengthens-one, lengthens-still}
-use Rattle.vote_run.specs.Rounds.{PollsAre, PollsGo, PollsTurned, PollsWent, is_poll}
 
 -- ---- who isn't named stays
 

@@ -2,35 +2,13 @@
 use Rattle.std.proofs.Common.{◌≡◌, ℕ, ◌+◌, ◌-◌, ◌≤◌, Bool, true, false, List, [], ◌∷◌, ◌++◌, take, length, inl, inr, refl, sym, ap, subst, ◌∙◌, arith}
 use Rattle.std.specs.Prelude.{Some, None, ◌⊎◌, is_some, IsTrue, Result, Ok, Err, if◌then◌else◌}
 use Rattle.std.proofs.lemmas.List.{length-append, length-take-le}
-use Rattle.pseudo_time.specs.Nodes.{same_node}
-use Rattle.pseudo_time.specs.declared.down_causes.DownCause.{DownCause}
+use Rattle.vote_run.proofs.Names.{same_node, DownCause, NodeId, same_node-refl, Effect, Turn, effects_of, entries, log_of, effects_in, medium_of, Store, MemberState, MemberNumber, member, number_of, Line, Crash, Down, Gate, Media, down_cause, IsDurable, IsFallenFor, LeavesLog, Hall, CourierParts, with_entry, Stands, hall_of, Keeps, keeps-join, keeps-still, Begins, EndsAs, IsDown, IsGated, IsReopened, Turns, Wants, moment_of, MemberIsAt, MemberOwes, SatOn, Sits, Seat, Up, Fallen, Wanting}
 use Rattle.pseudo_time.specs.declared.down_causes.DownCause.TheVariants as down
-use Rattle.pseudo_time.specs.declared.nodes.NodeId.{NodeId}
-use Rattle.message_core.proofs.NodeLemmas.{same_node-refl}
-use Rattle.effect_form.specs.declared.effects.Effect.{Effect}
-use Rattle.message_form.specs.declared.turns.Turn.{Turn}
-use Rattle.version_store.specs.Entries.{Log, effects_of}
-use Rattle.version_store.specs.Storage.{effects_found, entries, log_of, log_or_none}
-use Rattle.version_store.specs.StoreWords.{effects_in, medium_of}
-use Rattle.version_store.specs.declared.stores.Store.{Store}
-use Rattle.record_votes.specs.Books.{MemberState}
-use Rattle.record_votes.specs.declared.member_numbers.MemberNumber.{MemberNumber}
-use Rattle.record_votes.specs.Polls.{member, number_of}
-use Rattle.record_votes.specs.Voting.{Line, opened}
-use Rattle.world_core.specs.declared.entries.Entry.TheVariants.{Crash, Down, Gate}
-use Rattle.run_media.specs.Media.{Media}
-use Rattle.world_core.specs.Counts.{down_cause}
-use Rattle.vote_members.specs.Closings.{IsDurable, IsFallenFor, LeavesLog, LeavesPrefix}
-use Rattle.vote_courier.specs.Walks.{Hall}
-use Rattle.vote_courier.specs.Couriers.{CourierParts, with_entry}
-use Rattle.vote_courier.specs.Stations.{Stands, hall_of}
-use Rattle.vote_courier.specs.Places.{Keeps}
-use Rattle.vote_courier.proofs.PlaceLemmas.{keeps-join, keeps-still}
-use Rattle.vote_run.specs.MemberTurns.{Begins, EndsAs, IsDown, IsGated, IsReopened, Turns, Wants, moment_of}
-use Rattle.vote_run.specs.Seats.{MemberIsAt, MemberOwes}
-use Rattle.vote_run.specs.Sittings.{SatOn, ShowsCause, Sits, SitsDown, SitsFallen, SitsUp}
-use Rattle.vote_run.specs.declared.seats.Seat.{Seat}
-use Rattle.vote_run.specs.declared.seats.Seat.TheVariants.{Up, Fallen, Wanting}
+use Rattle.version_store.specs.Entries.{Log}
+use Rattle.version_store.specs.Storage.{effects_found, log_or_none}
+use Rattle.record_votes.specs.Voting.{opened}
+use Rattle.vote_members.specs.Closings.{LeavesPrefix}
+use Rattle.vote_run.specs.Sittings.{ShowsCause, SitsDown, SitsFallen, SitsUp}
 use Rattle.vote_run.proofs.EntryLemmas.{begun-up, down-more, none-begun}
 use Rattle.vote_run.proofs.MemberLemmas.{begins-kept, crash-kept, down-kept, gates-kept, none-kept}
 

@@ -5,17 +5,10 @@ use Rattle.std.specs.List.{count_by}
 use Rattle.std.proofs.lemmas.Bool.{eqb-true}
 use Rattle.std.proofs.lemmas.Bool.Decides.{nat_tests}
 use Rattle.std.proofs.lemmas.List.Sums.{sum_by-append, sum_by-cons}
-use Rattle.pseudo_time.specs.Nodes.{broker, is_broker, repository, same_node}
-use Rattle.pseudo_time.specs.declared.nodes.NodeId.{NodeId}
-use Rattle.pseudo_time.specs.declared.nodes.NodeKind.{NodeKind}
-use Rattle.pseudo_time.specs.declared.nodes.NodeKind.TheVariants.{Repository, Broker}
-use Rattle.effect_form.specs.declared.effects.Effect.{Effect}
+use Rattle.vote_run.proofs.Names.{broker, is_broker, repository, same_node, NodeId, NodeKind, Repository, Broker, Effect, opened_log, is_within, most_of, never-false}
 use Rattle.message_core.proofs.NodeLemmas.{same_is}
 use Rattle.world_core.specs.declared.traces.Opened.{Opened}
-use Rattle.world_core.specs.Walks.{opened_log}
-use Rattle.world_core.specs.Legal.{is_within}
-use Rattle.vote_courier.specs.Legal.{JustVoters, is_node, most_of}
-use Rattle.vote_courier.proofs.PlaceLemmas.{never-false}
+use Rattle.vote_courier.specs.Legal.{JustVoters, is_node}
 use Rattle.vote_run.specs.Voters.{opened_members, opened_voters}
 
 -- how often it stands there

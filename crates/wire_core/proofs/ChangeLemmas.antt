@@ -1,27 +1,9 @@
 -- What happens to a node, and time that passes.
 use Rattle.std.proofs.Common.{◌≡◌, ℕ, ◌≤◌, Bool, true, false, List, [], ◌∷◌, length, refl, sym, ap, subst, ◌∙◌, Option, Some, IsTrue, arith}
 use Rattle.std.specs.Option.{unwrap_or}
-use Rattle.pseudo_time.specs.declared.down_causes.DownCause.{DownCause}
-use Rattle.pseudo_time.specs.declared.nodes.NodeId.{NodeId}
+use Rattle.wire_core.proofs.Names.{DownCause, NodeId, is_broker, Asked, Adds, Arrival, IsFront, State, waiting, taken, passed, was_shut, FlightParts, state_of, Take, Go, Learn, Hear, Crash, Down, Tick, Sent, Base, World, numbered, opened_log, step, start_world, walk, is_behind, fates_of, Story, IsQuiet, next_moment, posted, IsTied, IsFlown, IsSound, parts_with, HasOneMore, Origin, base_from}
 use Rattle.pseudo_time.specs.StampParts.{StampParts}
-use Rattle.pseudo_time.specs.Nodes.{is_broker}
-use Rattle.stream_port.specs.declared.fates.Asked.{Asked}
-use Rattle.stream_port.specs.Clocks.{Adds}
-use Rattle.message_core.specs.declared.letters.Arrival.{Arrival}
-use Rattle.message_core.specs.Arrivals.{IsFront}
-use Rattle.message_core.specs.Flights.{State, waiting, taken, passed, was_shut}
-use Rattle.message_core.specs.Parts.{FlightParts, state_of}
-use Rattle.world_core.specs.declared.entries.Entry.TheVariants.{Take, Go, Learn, Hear, Crash, Down, Tick}
-use Rattle.world_core.specs.declared.traces.Sent.{Sent}
-use Rattle.world_core.specs.Walks.{Base, World, numbered, opened_log, step, start_world, walk}
-use Rattle.world_core.specs.Legal.{HasGone, MayTake, MayTick, IsDecidedAs, is_behind, fates_of}
-use Rattle.wire_core.specs.declared.stories.Story.{Story}
-use Rattle.wire_core.specs.Changes.{IsQuiet}
-use Rattle.wire_core.specs.Clocked.{next_moment}
-use Rattle.wire_core.specs.Copies.{posted, IsTied}
-use Rattle.wire_core.specs.Sound.{IsFlown, IsSound, parts_with}
-use Rattle.wire_core.specs.Stories.{HasOneMore}
-use Rattle.wire_core.specs.Wires.{Origin, base_from}
+use Rattle.world_core.specs.Legal.{HasGone, MayTake, MayTick, IsDecidedAs}
 use Rattle.wire_core.proofs.CopyLemmas.{tied-take, tied-tick, tied-down}
 use Rattle.wire_core.proofs.DueLemmas.{due-front, fate-of, front-cons, numbered-to}
 use Rattle.wire_core.proofs.FitLemmas.{up-known}

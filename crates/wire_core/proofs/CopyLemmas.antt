@@ -1,26 +1,16 @@
 -- The copies in flight, entry by entry.
 use Rattle.std.proofs.Common.{◌≡◌, ℕ, ◌+◌, ◌==◌, Bool, true, false, ◌&&◌, cond, not, List, [], ◌∷◌, ◌++◌, map, take, if◌then◌else◌, refl, sym, ap, ◌∙◌, Option, Some, None, arith}
 use Rattle.std.proofs.lemmas.List.{map-append}
-use Rattle.pseudo_time.specs.declared.down_causes.DownCause.{DownCause}
-use Rattle.pseudo_time.specs.declared.nodes.NodeId.{NodeId}
-use Rattle.pseudo_time.specs.declared.nodes.NodeKind.{NodeKind}
-use Rattle.pseudo_time.specs.declared.nodes.NodeKind.TheVariants.{Repository, Broker}
-use Rattle.pseudo_time.specs.Nodes.{same_node}
-use Rattle.stream_port.specs.declared.fates.Fate.{Fate}
+use Rattle.wire_core.proofs.Names.{DownCause, NodeId, NodeKind, Repository, Broker, same_node, Fate, State, waiting, sent, taken, passed, was_shut, count, Entry, Take, Go, Learn, Hear, Gate, Crash, Down, Tick, Sent, Base, World, Flags, names, flagged, flags_after, ticks_after, step, post_of, times_taken, Marked, sent_of, tallied, IsTied, all_marked}
 use Rattle.message_core.specs.declared.letters.Letter.{Letter}
-use Rattle.message_core.specs.Flights.{State, waiting, sent_at_once, sent_later, sent, taken, going_to, passed, was_shut}
+use Rattle.message_core.specs.Flights.{sent_at_once, sent_later, going_to}
 use Rattle.message_core.specs.Flights as flights
 use Rattle.message_core.specs.Senders.{letter_of}
-use Rattle.message_core.specs.Tallies.{noted, count}
+use Rattle.message_core.specs.Tallies.{noted}
 use Rattle.message_core.proofs.Counting.{count-append}
 use Rattle.message_core.proofs.StayLemmas.{kept-if, kept-map, kept-sent, gone}
 use Rattle.message_core.proofs.TallyLemmas.{tallied_step}
-use Rattle.world_core.specs.declared.entries.Entry.{Entry}
-use Rattle.world_core.specs.declared.entries.Entry.TheVariants.{Take, Go, Learn, Hear, Gate, Crash, Down, Tick}
-use Rattle.world_core.specs.declared.traces.Sent.{Sent}
-use Rattle.world_core.specs.Walks.{Base, World, Flags, names, flagged, flags_after, taken_after, ticks_after, is_down, step}
-use Rattle.world_core.specs.Legal.{post_of, times_taken}
-use Rattle.wire_core.specs.Copies.{Marked, sent_of, tallied, IsTied, all_marked}
+use Rattle.world_core.specs.Walks.{taken_after, is_down}
 
 -- ---- who is up
 

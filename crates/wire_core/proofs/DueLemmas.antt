@@ -2,23 +2,14 @@
 use Rattle.std.proofs.Common.{◌≡◌, ℕ, zero, suc, ◌+◌, ◌-◌, ◌≤◌, ◌<◌, true, List, [], ◌∷◌, map, refl, sym, ap, ◌∙◌, Option, Some, None, is_some, slice_get, arith}
 use Rattle.std.specs.Option.{option_map, unwrap_or}
 use Rattle.std.proofs.lemmas.Option.{slice_get-map}
-use Rattle.pseudo_time.specs.declared.nodes.NodeId.{NodeId}
+use Rattle.wire_core.proofs.Names.{NodeId, Fate, Arrival, IsFront, State, waiting, AllInRange, count, Sent, Sending, World, numbered, times_taken, post_of, fates_of, IsCopyOf, TookAll, Marked, sent_of, posted, tallied, IsTied}
 use Rattle.message_form.proofs.ReadLaws.{message_bytes-apart}
-use Rattle.stream_port.specs.declared.fates.Fate.{Fate}
 use Rattle.stream_port.specs.Fates.{copies_of}
-use Rattle.message_core.specs.declared.letters.Arrival.{Arrival}
-use Rattle.message_core.specs.Arrivals.{IsFront}
-use Rattle.message_core.specs.Flights.{State, waiting}
-use Rattle.message_core.specs.Senders.{AllInRange}
-use Rattle.message_core.specs.Tallies.{IsDue, count}
+use Rattle.message_core.specs.Tallies.{IsDue}
 use Rattle.message_core.specs.Tallies as tallies
 use Rattle.message_core.proofs.SenderLemmas.{was_sent}
 use Rattle.message_core.proofs.TallyLemmas.{front-due, empty-taken}
-use Rattle.world_core.specs.declared.traces.Sent.{Sent}
-use Rattle.world_core.specs.Walks.{Sending, World, numbered}
-use Rattle.world_core.specs.Legal.{IsReleased, times_taken, post_of, fates_of}
-use Rattle.wire_core.specs.Changes.{IsCopyOf, TookAll}
-use Rattle.wire_core.specs.Copies.{Marked, sent_of, posted, tallied, IsTied}
+use Rattle.world_core.specs.Legal.{IsReleased}
 
 -- ---- numbers of lists that a map gives
 

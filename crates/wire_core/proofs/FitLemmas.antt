@@ -2,17 +2,9 @@
 use Rattle.std.proofs.Common.{◌≡◌, ℕ, ◌+◌, ◌≤◌, ◌==◌, Bool, true, false, ◌&&◌, not, List, if◌then◌else◌, refl, sym, ap, subst, ◌∙◌, Option, Some, None, is_some, arith}
 use Rattle.std.specs.Option.{option_map}
 use Rattle.std.proofs.lemmas.Bool.Decides.{nat_tests}
-use Rattle.pseudo_time.specs.declared.nodes.NodeId.{NodeId}
-use Rattle.pseudo_time.specs.declared.nodes.NodeKind.{NodeKind}
-use Rattle.pseudo_time.specs.declared.nodes.NodeKind.TheVariants.{Repository, Broker}
-use Rattle.world_core.specs.declared.entries.Entry.{Entry}
-use Rattle.world_core.specs.declared.entries.Entry.TheVariants.{Take, Go, Learn, Hear, Gate, Crash, Down, Tick}
-use Rattle.world_core.specs.Walks.{Base, World, Flags, names, flagged, flags_after, heard_after, last_after, ticks_after, step}
-use Rattle.world_core.specs.Legal.{is_behind}
-use Rattle.wire_core.specs.declared.flags.NodeFlags.{NodeFlags}
-use Rattle.wire_core.specs.declared.stories.Story.{Story}
-use Rattle.wire_core.specs.Flagged.{flags_at, flags_of, shown, heard_then, after_own, heard_last, is_late, standing_at}
-use Rattle.wire_core.specs.Stories.{Fits, HasOneMore}
+use Rattle.wire_core.proofs.Names.{NodeId, NodeKind, Repository, Broker, Entry, Take, Go, Learn, Hear, Gate, Crash, Down, Tick, Base, World, Flags, names, flagged, flags_after, last_after, ticks_after, step, is_behind, NodeFlags, Story, flags_at, flags_of, shown, after_own, is_late, standing_at, Fits, HasOneMore}
+use Rattle.world_core.specs.Walks.{heard_after}
+use Rattle.wire_core.specs.Flagged.{heard_then, heard_last}
 
 -- ---- flags
 

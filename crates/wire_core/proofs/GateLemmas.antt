@@ -2,29 +2,14 @@
 use Rattle.std.proofs.Common.{◌≡◌, ℕ, ◌+◌, ◌<◌, ◌^◌, Bool, true, false, List, [], ◌∷◌, ◌++◌, map, length, if◌then◌else◌, refl, sym, ap, subst, ◌∙◌, Option, IsTrue, length-append, append_assoc, arith}
 use Rattle.std.specs.List.{filter}
 use Rattle.std.proofs.lemmas.List.{map-append, length-map}
-use Rattle.pseudo_time.specs.declared.nodes.NodeId.{NodeId}
-use Rattle.pseudo_time.proofs.ListLemmas.{every-append}
+use Rattle.wire_core.proofs.Names.{NodeId, every-append, Out, Post, post, posts, Asked, Fate, FlightParts, state_of, AllInRange, Gate, Sent, Base, World, Sending, sendings_after, sent_by, start_world, walk, Meets, Numbered, post_of, fates_of, asked_of, Story, Marked, posted, IsTied, all_marked, IsFlown, IsSound, parts_with, HasOneMore, Origin, base_from}
 use Rattle.message_form.specs.Messages.{IsMessage}
-use Rattle.message_form.specs.declared.turns.Out.{Out}
-use Rattle.message_form.specs.Posts.{Post, post, posts}
 use Rattle.message_form.specs.Ranges.{AreOuts}
-use Rattle.stream_port.specs.declared.fates.Asked.{Asked}
-use Rattle.stream_port.specs.declared.fates.Fate.{Fate}
-use Rattle.message_core.specs.Parts.{FlightParts, state_of}
-use Rattle.message_core.specs.Senders.{AllInRange}
-use Rattle.world_core.specs.declared.entries.Entry.TheVariants.{Gate}
-use Rattle.world_core.specs.declared.traces.Sent.{Sent}
 use Rattle.world_core.specs.Nodes.{leaves}
-use Rattle.world_core.specs.Walks.{Base, World, Sending, sendings_after, leaving, sent_by, all_effects, start_world, walk}
-use Rattle.world_core.specs.Legal.{Meets, Numbered, post_of, fates_of, asked_of}
+use Rattle.world_core.specs.Walks.{leaving, all_effects}
 use Rattle.world_core.proofs.Legality.{numbered-join}
 use Rattle.world_core.proofs.Rules.{meets-grown}
-use Rattle.wire_core.specs.declared.stories.Story.{Story}
 use Rattle.wire_core.specs.Changes.{owed}
-use Rattle.wire_core.specs.Copies.{Marked, posted, IsTied, all_marked}
-use Rattle.wire_core.specs.Sound.{IsFlown, IsSound, parts_with}
-use Rattle.wire_core.specs.Stories.{HasOneMore}
-use Rattle.wire_core.specs.Wires.{Origin, base_from}
 use Rattle.wire_core.proofs.CopyLemmas.{tied-left}
 use Rattle.wire_core.proofs.FitLemmas.{up-known}
 use Rattle.wire_core.proofs.MomentLemmas.{clocked-still}

@@ -11,3 +11,4 @@ pub mod QuietLemmas
 pub mod ScriptCrosses
 pub mod SendLemmas
 pub mod SoundLemmas
+pub mod Names

@@ -2,11 +2,9 @@
 use Rattle.std.proofs.Common.{◌≡◌, ℕ, List, [], ◌∷◌, ◌++◌, refl, sym, ap, ◌∙◌, Option}
 use Rattle.std.specs.Option.{unwrap_or}
 use Rattle.std.proofs.lemmas.List.{append-nil}
-use Rattle.stream_port.specs.Clocks.{Adds, adds_joins}
-use Rattle.world_core.specs.declared.entries.Entry.{Entry}
-use Rattle.world_core.specs.declared.entries.Entry.TheVariants.{Take, Go, Learn, Hear, Gate, Crash, Down, Tick}
-use Rattle.world_core.specs.Walks.{Base, World, step, walk_from}
-use Rattle.wire_core.specs.Clocked.{IsClocked, tick_moments, moments_of, next_moment}
+use Rattle.wire_core.proofs.Names.{Adds, Entry, Take, Go, Learn, Hear, Gate, Crash, Down, Tick, Base, World, step, walk_from, IsClocked, tick_moments, next_moment}
+use Rattle.stream_port.specs.Clocks.{adds_joins}
+use Rattle.wire_core.specs.Clocked.{moments_of}
 
 pub moments-append : (es fs : List Entry) → tick_moments (es ++ fs) ≡ tick_moments es ++ tick_moments fs
 moments-append [] fs = refl

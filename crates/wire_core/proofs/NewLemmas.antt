@@ -1,31 +1,15 @@
 -- A new wire is sound.
 use Rattle.std.proofs.Common.{◌≡◌, ℕ, ◌<◌, ◌^◌, Bool, true, false, ◌||◌, ◌&&◌, ◌==◌, List, [], ◌∷◌, map, length, if◌then◌else◌, refl, sym, ap, subst, ◌∙◌, Option, Some, None, is_some, arith}
-use Rattle.pseudo_time.specs.Lists.{Every}
+use Rattle.wire_core.proofs.Names.{Every, NodeId, same_node, Asked, Adds, State, start, FlightParts, state_of, Entry, Sent, Base, World, Sending, opened_log, start_world, walk_from, walk, Meets, NodeFlags, Story, tick_moments, IsTied, new_flags, shown, names_of, IsSound, parts_with, Fits, IsOpened, Origin, base_from}
 use Rattle.std.specs.Option.{unwrap_or}
 use Rattle.std.specs.List.{list_any}
 use Rattle.std.proofs.lemmas.List.{append-nil}
-use Rattle.pseudo_time.specs.declared.nodes.NodeId.{NodeId}
-use Rattle.pseudo_time.specs.Nodes.{same_node}
-use Rattle.stream_port.specs.declared.fates.Asked.{Asked}
-use Rattle.stream_port.specs.Clocks.{Adds}
-use Rattle.message_core.specs.Flights.{State, start}
-use Rattle.message_core.specs.Parts.{FlightParts, state_of}
 use Rattle.message_core.specs.Tallies.{blank_tally}
 use Rattle.message_core.proofs.StayLemmas.{made}
 use Rattle.message_core.proofs.TallyLemmas.{tallied_start}
-use Rattle.world_core.specs.declared.entries.Entry.{Entry}
 use Rattle.world_core.specs.declared.traces.Opened.{Opened}
-use Rattle.world_core.specs.declared.traces.Sent.{Sent}
-use Rattle.world_core.specs.Walks.{Base, World, Sending, opened_log, opened_flags, start_world, walk_from, walk}
-use Rattle.world_core.specs.Legal.{Meets}
-use Rattle.wire_core.specs.declared.flags.NodeFlags.{NodeFlags}
-use Rattle.wire_core.specs.declared.stories.Story.{Story}
-use Rattle.wire_core.specs.Clocked.{tick_moments, counted}
-use Rattle.wire_core.specs.Copies.{IsTied}
-use Rattle.wire_core.specs.Flagged.{new_flags, shown, names_of}
-use Rattle.wire_core.specs.Sound.{IsSound, parts_with}
-use Rattle.wire_core.specs.Stories.{Fits, IsOpened}
-use Rattle.wire_core.specs.Wires.{Origin, base_from}
+use Rattle.world_core.specs.Walks.{opened_flags}
+use Rattle.wire_core.specs.Clocked.{counted}
 
 -- ---- which nodes were opened
 

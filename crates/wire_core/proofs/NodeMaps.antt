@@ -7,14 +7,10 @@ use Rattle.std.specs.Map.{lookup}
 use Rattle.std.specs.BTreeMap.{is_at}
 use Rattle.std.proofs.Math.Seq.{take-suc}
 use Rattle.std.proofs.lemmas.List.Folds.{list_any-append}
-use Rattle.pseudo_time.specs.declared.nodes.NodeId.{NodeId}
-use Rattle.pseudo_time.specs.Nodes.{same_node}
+use Rattle.wire_core.proofs.Names.{NodeId, same_node, found_same, Entry, names, NodeFlags, flags_at, new_flags, after_own, is_idle_at}
 use Rattle.pseudo_time.specs.contracts.nodes.NodeIdOrd.TheImpl as order
-use Rattle.message_core.proofs.NodeLemmas.{same_is, finds_same, found_same}
-use Rattle.world_core.specs.declared.entries.Entry.{Entry}
-use Rattle.world_core.specs.Walks.{names}
-use Rattle.wire_core.specs.declared.flags.NodeFlags.{NodeFlags}
-use Rattle.wire_core.specs.Flagged.{flags_at, new_flags, after_own, after_entry, is_idle_at}
+use Rattle.message_core.proofs.NodeLemmas.{same_is, finds_same}
+use Rattle.wire_core.specs.Flagged.{after_entry}
 
 -- ---- one node changes
 

@@ -2,18 +2,10 @@
 use Rattle.std.proofs.Common.{◌≡◌, ℕ, Bool, true, false, ◌&&◌, ◌||◌, not, List, [], if◌then◌else◌, refl, sym, ap, ◌∙◌, Option, Some, None, is_some, inl, inr, IsTrue}
 use Rattle.std.specs.Prelude.{◌⊎◌, ◌↔◌}
 use Rattle.std.specs.Option.{unwrap_or}
-use Rattle.pseudo_time.specs.declared.nodes.NodeId.{NodeId}
-use Rattle.pseudo_time.specs.declared.nodes.NodeKind.{NodeKind}
-use Rattle.pseudo_time.specs.Nodes.{is_broker}
-use Rattle.message_core.specs.Flights.{waiting, AllEmpty}
-use Rattle.message_core.specs.Parts.{state_of}
-use Rattle.world_core.specs.Walks.{World, Flags}
-use Rattle.world_core.specs.Legal.{HasHeard, Idle, is_behind, fates_of}
-use Rattle.wire_core.specs.declared.flags.NodeFlags.{NodeFlags}
-use Rattle.wire_core.specs.Changes.{IsQuiet, TookAll}
-use Rattle.wire_core.specs.Flagged.{flags_at, flags_of, shown, is_late, is_idle, is_idle_at}
-use Rattle.wire_core.specs.Sound.{IsSound}
-use Rattle.wire_core.specs.Wires.{WireParts, world_of}
+use Rattle.wire_core.proofs.Names.{NodeId, NodeKind, is_broker, waiting, state_of, World, Flags, Idle, is_behind, fates_of, NodeFlags, IsQuiet, TookAll, flags_at, flags_of, shown, is_late, is_idle_at, IsSound, WireParts, world_of}
+use Rattle.message_core.specs.Flights.{AllEmpty}
+use Rattle.world_core.specs.Legal.{HasHeard}
+use Rattle.wire_core.specs.Flagged.{is_idle}
 use Rattle.wire_core.proofs.DueLemmas.{took-all, took-empty}
 use Rattle.wire_core.proofs.FitLemmas.{up-found, found-behind}
 

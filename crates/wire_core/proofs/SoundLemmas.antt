@@ -1,29 +1,12 @@
 -- One entry more keeps a wire sound.
 use Rattle.std.proofs.Common.{◌≡◌, ℕ, ◌+◌, ◌≤◌, ◌<◌, ◌^◌, Bool, false, List, [], ◌∷◌, ◌++◌, map, length, refl, sym, ap, subst, ◌∙◌, Option, IsTrue, length-append, arith}
 use Rattle.std.specs.Option.{unwrap_or}
-use Rattle.pseudo_time.specs.Lists.{Every}
-use Rattle.pseudo_time.proofs.ListLemmas.{every-append}
-use Rattle.pseudo_time.specs.declared.nodes.NodeId.{NodeId}
-use Rattle.plan_form.specs.declared.plans.Plan.{Plan}
+use Rattle.wire_core.proofs.Names.{Every, every-append, NodeId, Plan, Asked, FlightParts, state_of, AllInRange, Entry, Sent, Base, World, Sending, sent_by, sendings_after, last_after, step, start_world, walk, Meets, Numbered, post_of, fates_of, asked_of, IsLegal, NodeFlags, Story, IsClocked, tick_moments, Marked, posted, IsTied, IsFlown, IsSound, parts_with, Fits, HasOneMore, Origin, WireParts, base_from, world_of, IsRunOf, trace_of}
 use Rattle.broker_core.specs.Readings.{reading}
 use Rattle.broker_core.specs.Tasks.{Scripted}
-use Rattle.stream_port.specs.declared.fates.Asked.{Asked}
-use Rattle.message_core.specs.Parts.{FlightParts, state_of}
-use Rattle.message_core.specs.Senders.{AllInRange}
-use Rattle.world_core.specs.declared.entries.Entry.{Entry}
-use Rattle.world_core.specs.declared.traces.Sent.{Sent}
-use Rattle.world_core.specs.Walks.{Base, World, Sending, sent_by, sendings_after, last_after, step, start_world, walk}
-use Rattle.world_core.specs.Legal.{Rule, Meets, AllReady, Numbered, base_of, post_of, fates_of, asked_of}
-use Rattle.world_core.specs.Readings.{IsLegal}
+use Rattle.world_core.specs.Legal.{Rule, AllReady, base_of}
 use Rattle.world_core.proofs.Lives.{walk-more}
 use Rattle.world_core.proofs.Rules.{meets-more}
-use Rattle.wire_core.specs.declared.flags.NodeFlags.{NodeFlags}
-use Rattle.wire_core.specs.declared.stories.Story.{Story}
-use Rattle.wire_core.specs.Clocked.{IsClocked, tick_moments}
-use Rattle.wire_core.specs.Copies.{Marked, posted, IsTied}
-use Rattle.wire_core.specs.Sound.{IsFlown, IsSound, parts_with}
-use Rattle.wire_core.specs.Stories.{Fits, HasOneMore}
-use Rattle.wire_core.specs.Wires.{Origin, WireParts, base_from, world_of, IsRunOf, trace_of}
 use Rattle.wire_core.proofs.CopyLemmas.{LeavesCopies, tied-left}
 use Rattle.wire_core.proofs.FitLemmas.{fits-on}
 use Rattle.wire_core.proofs.MomentLemmas.{moments-append, clocked-still}

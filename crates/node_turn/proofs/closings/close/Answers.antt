@@ -1,9 +1,6 @@
 use Rattle.std.proofs.Common.{◌∙◌, sym, ap, subst, arith, List, length}
-use Rattle.effect_form.specs.declared.effects.Effect.{Effect}
-use Rattle.node_turn.specs.Lives.{AskNobody}
-use Rattle.seat_lock.specs.Words.{knows}
+use Rattle.node_turn.proofs.Names.{Effect, AskNobody, knows, base_at, life_at}
 use Rattle.wire_lock.specs.Decisions.{decided_by}
-use Rattle.wire_lock.specs.Sights.{base_at, life_at}
 use Rattle.node_turn.proofs.LifeLemmas.{on-ok, on-err, up-stored, stored-looked}
 use Rattle.node_turn.proofs.TrailLemmas.{trail-none, trail-looked, trail-gated}
 use Rattle.node_turn.proofs.AppendLemmas.{appended-at, full-same, cause-append, after-append, stored-appended, up-gated, owed-is}

@@ -1,11 +1,7 @@
 use Rattle.std.proofs.Common.{◌≡◌, take, true}
 use Rattle.std.specs.Prelude.{IsTrue}
 use Rattle.std.specs.List.{filter}
-use Rattle.pseudo_time.specs.Nodes.{is_broker}
-use Rattle.message_form.specs.Ranges.{AreOuts}
-use Rattle.world_core.specs.Nodes.{leaves}
-use Rattle.world_core.specs.Walks.{Base, Life, all_effects}
-use Rattle.node_turn.specs.Lives.{AskNobody}
+use Rattle.node_turn.proofs.Names.{is_broker, AreOuts, leaves, Base, Life, all_effects, AskNobody}
 use Rattle.node_turn.proofs.closings.leaving.Given as goal
 
 abbrev pub invariant-loop-out : goal.invariant-loop-out

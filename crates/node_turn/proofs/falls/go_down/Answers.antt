@@ -1,10 +1,8 @@
 use Rattle.std.proofs.Common.{refl, [], arith, ◌+◌}
-use Rattle.seat_lock.specs.Words.{knows}
-use Rattle.node_turn.specs.Costs.{cost_of_cause}
+use Rattle.node_turn.proofs.Names.{knows, cost_of_cause, same_node-refl}
 use Rattle.node_turn.proofs.LifeLemmas.{on-ok, on-err, stored-looked}
 use Rattle.node_turn.proofs.TrailLemmas.{trail-looked, trail-added}
 use Rattle.node_turn.proofs.FallLemmas.{had-nothing, down-fallen}
-use Rattle.message_core.proofs.NodeLemmas.{same_node-refl}
 use Rattle.node_turn.proofs.PhaseLemmas.{passes-seen, passes-fallen}
 use Rattle.node_turn.proofs.falls.go_down.Goals as goal
 

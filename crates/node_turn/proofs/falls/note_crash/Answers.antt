@@ -1,6 +1,5 @@
 use Rattle.std.proofs.Common.{◌≡◌, ◌-◌, ℕ, subst, arith, OnOk}
-use Rattle.seat_lock.specs.Words.{knows}
-use Rattle.wire_lock.specs.Sights.{Crashes}
+use Rattle.node_turn.proofs.Names.{knows, Crashes}
 use Rattle.node_turn.proofs.FallLemmas.{looked-none}
 use Rattle.node_turn.proofs.falls.note_crash.Goals as goal
 

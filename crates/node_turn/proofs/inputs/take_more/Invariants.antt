@@ -1,8 +1,5 @@
 use Rattle.std.proofs.Common.{◌≡◌, [], true}
-use Rattle.seat_lock.specs.Words.{knows}
-use Rattle.wire_lock.specs.Sights.{IsWirePass}
-use Rattle.node_turn.specs.Lives.{IsUp, IsUnwritten}
-use Rattle.node_turn.specs.Trails.{Trail}
+use Rattle.node_turn.proofs.Names.{knows, IsWirePass, IsUp, IsUnwritten, Trail}
 use Rattle.node_turn.proofs.inputs.take_more.Given as goal
 
 abbrev pub invariant-loop : goal.invariant-loop

@@ -1,12 +1,5 @@
-use Rattle.pseudo_time.specs.Nodes.{is_broker}
-use Rattle.pseudo_time.specs.declared.nodes.NodeId.{NodeId}
+use Rattle.node_turn.proofs.Names.{is_broker, NodeId, knows, Life, all_effects, Learning, place_of, Decided, base_at, life_at, flags_at}
 use Rattle.std.proofs.Common.{◌≡◌, ◌∙◌, ap, refl, sym, subst, [], ◌∷◌, inl, inr, true}
-use Rattle.seat_lock.specs.Words.{knows}
-use Rattle.world_core.specs.Walks.{Life, all_effects}
-use Rattle.world_core.specs.Nodes.Input.{Learning}
-use Rattle.wire_core.specs.Boards.{place_of}
-use Rattle.wire_lock.specs.Decisions.{Decided}
-use Rattle.wire_lock.specs.Sights.{base_at, life_at, flags_at}
 use Rattle.repository_log.specs.Logs.{knows as is_known}
 use Rattle.node_turn.proofs.LifeLemmas.{on-ok, on-err, learned-up, up-added, after-added, cause-added, up-tested, up-stored, stored-looked, life-tested, life-looked, log-same, log-told, log-joins}
 use Rattle.node_turn.proofs.TrailLemmas.{trail-looked, trail-added, trail-tested, trail-joins}

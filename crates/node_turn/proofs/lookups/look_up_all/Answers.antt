@@ -1,9 +1,5 @@
 use Rattle.std.proofs.Common.{◌≡◌, ◌∙◌, refl, sym, ap, subst, true, false, List, length, ◌<◌, get_or}
-use Rattle.seat_lock.specs.Words.{knows}
-use Rattle.world_core.specs.Walks.{all_effects}
-use Rattle.wire_lock.specs.Sights.{life_at}
-use Rattle.message_form.specs.declared.turns.Out.{Out}
-use Rattle.node_turn.specs.Trails.{stamp_asked}
+use Rattle.node_turn.proofs.Names.{knows, all_effects, life_at, Out, stamp_asked}
 use Rattle.node_turn.proofs.LifeLemmas.{on-ok, unwritten-none, unwritten-joins}
 use Rattle.node_turn.proofs.SeekLemmas.{seeks-none, seeks-joins, sought-none, sought-next}
 use Rattle.node_turn.proofs.lookups.look_up_all.Goals as goal

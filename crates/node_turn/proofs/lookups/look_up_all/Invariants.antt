@@ -1,10 +1,6 @@
 use Rattle.std.proofs.Common.{◌≡◌, ◌-◌, ◌^◌, true, take}
 use Rattle.std.specs.Prelude.{IsTrue}
-use Rattle.seat_lock.specs.Words.{knows}
-use Rattle.world_core.specs.Walks.{all_effects}
-use Rattle.wire_lock.specs.Sights.{IsWirePass, life_at}
-use Rattle.node_turn.specs.Lives.{IsUp, IsUnwritten}
-use Rattle.node_turn.specs.Trails.{Seeks, AreSought}
+use Rattle.node_turn.proofs.Names.{knows, all_effects, IsWirePass, life_at, IsUp, IsUnwritten, Seeks, AreSought}
 use Rattle.node_turn.proofs.lookups.look_up_all.Given as goal
 
 abbrev pub invariant-loop-index : goal.invariant-loop-index

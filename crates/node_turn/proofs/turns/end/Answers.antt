@@ -1,9 +1,5 @@
 use Rattle.std.proofs.Common.{◌+◌, ◌∙◌, refl, sym, ap, subst, arith, [], Err}
-use Rattle.seat_lock.specs.Words.{knows}
-use Rattle.wire_core.specs.Changes.{owed}
-use Rattle.wire_lock.specs.Sights.{world_at}
-use Rattle.node_turn.specs.Cores.{IsIntact}
-use Rattle.node_turn.specs.Lives.{IsStruck}
+use Rattle.node_turn.proofs.Names.{knows, owed, world_at, IsIntact, IsStruck}
 use Rattle.node_turn.proofs.CostLemmas.{pays-none, pays-one}
 use Rattle.node_turn.proofs.LifeLemmas.{on-ok, if-ok, on-err, if-err}
 use Rattle.node_turn.proofs.TrailLemmas.{trail-joins, trail-cost}

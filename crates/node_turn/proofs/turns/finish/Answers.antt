@@ -1,12 +1,5 @@
 use Rattle.std.proofs.Common.{◌+◌, ◌∙◌, List, sym, ap, subst, arith, Err}
-use Rattle.seat_lock.specs.Words.{knows}
-use Rattle.medium_port.specs.Image.{Image}
-use Rattle.message_form.specs.declared.turns.Out.{Out}
-use Rattle.node_turn.specs.Cores.{IsIntact}
-use Rattle.world_core.specs.Walks.{all_effects}
-use Rattle.wire_lock.specs.Sights.{life_at}
-use Rattle.node_turn.specs.Lives.{IsAfter}
-use Rattle.node_turn.specs.Trails.{AreSought}
+use Rattle.node_turn.proofs.Names.{knows, Image, Out, IsIntact, all_effects, life_at, IsAfter, AreSought}
 use Rattle.node_turn.proofs.CostLemmas.{pays-none}
 use Rattle.node_turn.proofs.LifeLemmas.{on-ok, if-err}
 use Rattle.node_turn.proofs.PhaseLemmas.{passes-on, passes-up, passes-after}

@@ -1,6 +1,5 @@
 use Rattle.std.proofs.Common.{refl, sym, subst, arith}
-use Rattle.object_history.specs.declared.steps.HistoryFault.{HistoryFault}
-use Rattle.seat_lock.specs.Words.{knows}
+use Rattle.node_turn.proofs.Names.{HistoryFault, knows}
 use Rattle.node_turn.specs.declared.conditions.Condition.TheVariants as condition
 use Rattle.node_turn.specs.Lives.{NamesPage}
 use Rattle.node_turn.proofs.CostLemmas.{pays-none, pays-one}

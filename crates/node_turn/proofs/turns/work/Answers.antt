@@ -1,9 +1,5 @@
 use Rattle.std.proofs.Common.{◌+◌, ◌∙◌, ◌||◌, Bool, refl, sym, ap, subst, arith, Ok, Err, true, false}
-use Rattle.seat_lock.specs.Words.{knows}
-use Rattle.medium_port.specs.Image.{Image}
-use Rattle.pseudo_time.specs.Nodes.{is_broker}
-use Rattle.node_turn.specs.Cores.{IsIntact}
-use Rattle.node_turn.specs.Lives.{DraftParts, IsUp, IsAfter}
+use Rattle.node_turn.proofs.Names.{knows, Image, is_broker, IsIntact, DraftParts, IsUp, IsAfter}
 use Rattle.node_turn.proofs.CostLemmas.{pays-none}
 use Rattle.node_turn.proofs.LifeLemmas.{if-ok, if-err, either-gone}
 use Rattle.node_turn.proofs.PhaseLemmas.{passes-on, passes-up, passes-after, up-new}

@@ -1,8 +1,5 @@
 use Rattle.std.proofs.Common.{◌≡◌, reverse, take}
-use Rattle.object_history.specs.Ranges.{AreMarks}
-use Rattle.object_header.specs.Ledgers.{odd_in}
-use Rattle.object_header.specs.Odd.{kept_of}
-use Rattle.repository_log.specs.Logs.{marks}
+use Rattle.object_header.proofs.Names.{AreMarks, odd_in, kept_of, marks}
 use Rattle.object_header.proofs.keeping.keep_effects.Given as goal
 
 -- the marks of those so far are kept

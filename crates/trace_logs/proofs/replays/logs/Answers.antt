@@ -1,9 +1,7 @@
 use Rattle.std.proofs.Common.{refl, sym, subst, ◌≡◌, ◌<◌, ◌≤◌, length, take, arith}
 use Rattle.std.proofs.Math.ListN.{get_or}
 use Rattle.std.specs.Prelude.{IfOk}
-use Rattle.world_core.specs.Walks.{walk, walk_from}
-use Rattle.trace_logs.specs.Letters.{AreLetters}
-use Rattle.trace_logs.specs.Replays.{AreAt, base_for}
+use Rattle.trace_logs.proofs.Names.{walk, walk_from, AreLetters, AreAt, base_for}
 use Rattle.trace_logs.proofs.EndLemmas.{starts, walk-on, walk-end}
 use Rattle.trace_logs.proofs.replays.logs.Goals as goal
 

@@ -1,8 +1,6 @@
 use Rattle.std.proofs.Common.{ℕ, List, take}
-use Rattle.serial_model.specs.Questions.{Tree}
-use Rattle.broker_core.specs.Tasks.{Scripted}
-use Rattle.world_core.specs.Walks.{walk}
-use Rattle.trace_logs.specs.Replays.{Shows, IsFit, base_for}
+use Rattle.trace_logs.proofs.Names.{Tree, Scripted, walk, Shows, base_for}
+use Rattle.trace_logs.specs.Replays.{IsFit}
 use Rattle.trace_logs.proofs.replays.logs.Given as goal
 
 -- the walk so far

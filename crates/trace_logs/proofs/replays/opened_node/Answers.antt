@@ -1,10 +1,6 @@
 use Rattle.std.proofs.Common.{sym, ap, subst, ◌∙◌}
 use Rattle.std.specs.Prelude.{IfOk}
-use Rattle.broker_core.specs.Ledgers.{AreBrokerActs}
-use Rattle.broker_core.specs.Tasks.{Scripted}
-use Rattle.world_core.specs.Walks.{opened_life}
-use Rattle.trace_logs.specs.Cores.{own_acts}
-use Rattle.trace_logs.specs.ReplayedNodes.{Lives}
+use Rattle.trace_logs.proofs.Names.{AreBrokerActs, Scripted, opened_life, own_acts, Lives}
 use Rattle.trace_logs.proofs.ReplayedNodeLemmas.{own-acts, own-scripted}
 use Rattle.trace_logs.proofs.replays.opened_node.Goals as goal
 

@@ -1,9 +1,5 @@
 use Rattle.std.proofs.Common.{◌≡◌, take}
-use Rattle.pseudo_time.specs.Lists.{Every}
-use Rattle.broker_core.specs.Tasks.{Scripted}
-use Rattle.world_core.specs.Walks.{Base}
-use Rattle.trace_logs.specs.ReplayedNodes.{IsSound}
-use Rattle.trace_logs.specs.Replays.{AreAt}
+use Rattle.trace_logs.proofs.Names.{Every, Scripted, Base, IsSound, AreAt}
 use Rattle.trace_logs.proofs.replays.opened_nodes.Given as goal
 
 -- those so far

@@ -1,7 +1,5 @@
 use Rattle.std.proofs.Common.{◌≡◌, map}
-use Rattle.trace_report.specs.Begun.{kept, act_parts}
-use Rattle.trace_report.specs.Books.{begun_last}
-use Rattle.trace_report.specs.Reports.{logs_by}
+use Rattle.trace_report.proofs.Names.{kept, act_parts, begun_last, logs_by}
 use Rattle.trace_report.proofs.books.begun_in.Given as goal
 
 -- those of the last brokers, so many of them

@@ -1,7 +1,5 @@
 use Rattle.std.proofs.Common.{◌≡◌, length, reverse}
-use Rattle.pseudo_time.specs.Nodes.{repository}
-use Rattle.trace_report.specs.Decided.{AreEach}
-use Rattle.trace_report.specs.Reports.{logs_by}
+use Rattle.trace_report.proofs.Names.{repository, AreEach, logs_by}
 use Rattle.trace_report.proofs.decided.firsts_of.Given as goal
 
 -- of the repositories so far

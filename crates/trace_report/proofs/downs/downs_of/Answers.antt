@@ -1,7 +1,6 @@
 use Rattle.std.proofs.Common.{◌++◌, ◌∙◌, ap}
 use Rattle.std.specs.List.{flat_map}
-use Rattle.pseudo_time.specs.declared.nodes.NodeKind.TheVariants.{Repository, Broker}
-use Rattle.trace_report.specs.Downs.{fallen, shown, nodes_of_kind}
+use Rattle.trace_report.proofs.Names.{Repository, Broker, fallen, shown, nodes_of_kind}
 use Rattle.trace_report.proofs.DownLemmas.{downs-are}
 use Rattle.trace_report.proofs.downs.downs_of.Goals as goal
 

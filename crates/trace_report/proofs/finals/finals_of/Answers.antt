@@ -1,7 +1,6 @@
 use Rattle.std.proofs.Common.{◌≡◌, refl, subst, sym}
 use Rattle.std.specs.Prelude.{IfOk}
-use Rattle.trace_report.specs.Decided.{AreDecided}
-use Rattle.trace_report.specs.Reports.{logs_by, run_over}
+use Rattle.trace_report.proofs.Names.{AreDecided, logs_by, run_over}
 use Rattle.trace_report.proofs.FinalLemmas.{finals-are}
 use Rattle.trace_report.proofs.finals.finals_of.Goals as goal
 

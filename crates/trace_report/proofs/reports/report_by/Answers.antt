@@ -1,8 +1,5 @@
 use Rattle.std.proofs.Common.{◌≡◌, ap, ◌∙◌, subst}
-use Rattle.report_writer.specs.Reports.{report_text}
-use Rattle.report_writer.specs.Standings.{count_of}
-use Rattle.report_writer.specs.declared.records.ActOutcome.TheVariants.{Open}
-use Rattle.trace_report.specs.Reports.{logs_by}
+use Rattle.trace_report.proofs.Names.{report_text, count_of, Open, logs_by}
 use Rattle.trace_report.proofs.TextLemmas.{report-is}
 use Rattle.trace_report.proofs.reports.report_by.Goals as goal
 

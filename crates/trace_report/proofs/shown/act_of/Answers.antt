@@ -1,8 +1,6 @@
 use Rattle.std.proofs.Common.{ap, ◌∙◌, map}
 use Rattle.std.specs.Option.{option_map}
-use Rattle.trace_report.specs.declared.begun.BegunTry.{BegunTry}
-use Rattle.trace_report.specs.Begun.{kept_act, kept_try}
-use Rattle.trace_report.specs.Shown.{begun_at, try_told}
+use Rattle.trace_report.proofs.Names.{BegunTry, kept_act, kept_try, begun_at, try_told}
 use Rattle.trace_report.proofs.ShownLemmas.{told-of}
 use Rattle.trace_report.proofs.shown.act_of.Goals as goal
 

@@ -1,10 +1,6 @@
 use Rattle.std.proofs.Common.{◌≡◌, ap, ◌∙◌, map, subst, sym}
 use Rattle.std.specs.Prelude.{IfOk}
-use Rattle.pseudo_time.specs.Lists.{Every}
-use Rattle.value_form.specs.declared.acts.ActSpec.{ActSpec}
-use Rattle.value_form.specs.Ranges.{IsScript}
-use Rattle.trace_report.specs.Begun.{kept}
-use Rattle.trace_report.specs.Shown.{act_told, part_at}
+use Rattle.trace_report.proofs.Names.{Every, ActSpec, IsScript, kept, act_told, part_at}
 use Rattle.trace_report.proofs.OwnLemmas.{plan-scripts}
 use Rattle.trace_report.proofs.ShownLemmas.{acts-are}
 use Rattle.trace_report.proofs.shown.acts_of_plan.Goals as goal

@@ -1,5 +1,4 @@
-use Rattle.trace_report.specs.Begun.{kept}
-use Rattle.trace_report.specs.Shown.{HasActs}
+use Rattle.trace_report.proofs.Names.{kept, HasActs}
 use Rattle.trace_report.proofs.shown.by_index.Given as goal
 
 abbrev pub invariant-loop-act : goal.invariant-loop-act

@@ -1,6 +1,5 @@
 use Rattle.std.proofs.Common.{◌≡◌, map, take}
-use Rattle.trace_report.specs.Begun.{kept_try}
-use Rattle.trace_report.specs.Shown.{try_told}
+use Rattle.trace_report.proofs.Names.{kept_try, try_told}
 use Rattle.trace_report.proofs.shown.tries_of.Given as goal
 
 abbrev pub invariant-loop-attempt : goal.invariant-loop-attempt

@@ -1,9 +1,6 @@
 use Rattle.std.proofs.Common.{ap, ◌++◌, ◌∙◌, length}
 use Rattle.std.specs.List.{flat_map}
-use Rattle.report_writer.specs.Reports.{down_text}
-use Rattle.report_writer.specs.Standings.{count_of}
-use Rattle.report_writer.specs.declared.records.ActOutcome.TheVariants.{Open}
-use Rattle.trace_report.specs.Reports.{last_of, load_line, logs_by, sum_in, tries_in}
+use Rattle.trace_report.proofs.Names.{down_text, count_of, Open, last_of, load_line, logs_by, sum_in, tries_in}
 use Rattle.trace_report.proofs.TextLemmas.{load-is}
 use Rattle.trace_report.proofs.summaries.summary_by.Goals as goal
 

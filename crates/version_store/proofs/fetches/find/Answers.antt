@@ -1,9 +1,5 @@
 use Rattle.std.proofs.Common.{sym, ◌∙◌, ap, subst, arith}
-use Rattle.medium_port.specs.Image.{Image, page_of}
-use Rattle.medium_port.specs.Moment.{joins}
-use Rattle.page_gate.specs.States.{state_of}
-use Rattle.version_store.specs.Fetch.{LastTells, next_sight, sheet_on}
-use Rattle.version_store.specs.Sights.{Sees}
+use Rattle.version_store.proofs.Names.{Image, page_of, joins, state_of, LastTells, next_sight, sheet_on, Sees}
 use Rattle.version_store.proofs.FetchLemmas.{told_is, looking_next, next_told, next_tells}
 use Rattle.version_store.proofs.fetches.find.Goals as goal
 

@@ -1,7 +1,5 @@
 use Rattle.std.proofs.Common.{◌<◌, None, sym, ◌∙◌, refl}
-use Rattle.effect_form.specs.declared.effects.Place.{Place}
-use Rattle.effect_form.specs.Effects.{IsPlace}
-use Rattle.version_store.specs.Laying.{entry_at}
+use Rattle.version_store.proofs.Names.{Place, IsPlace, entry_at}
 use Rattle.version_store.proofs.LogLemmas.{heads_same, heads_push, kept_push, has_back, written_push}
 use Rattle.version_store.proofs.last_puts.note.Goals as goal
 

@@ -1,7 +1,5 @@
 use Rattle.std.proofs.Common.{◌≡◌, ◌++◌, List, length, take, Result, Ok, sym, ◌∙◌, ap, arith, length-append, length-take, ℕ}
-use Rattle.effect_form.specs.declared.effects.Effect.{Effect}
-use Rattle.medium_port.specs.Image.{Image}
-use Rattle.version_store.specs.Filling.{HasPrefix}
+use Rattle.version_store.proofs.Names.{Effect, Image, HasPrefix}
 use Rattle.version_store.specs.Storage.{storage}
 use Rattle.version_store.proofs.laws.prefix_is_found.Goals as goal
 

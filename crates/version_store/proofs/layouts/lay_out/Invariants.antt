@@ -1,9 +1,6 @@
 use Rattle.std.proofs.Common.{◌≡◌, ◌+◌, ◌≤◌, ℕ, length, drop}
 use Rattle.std.specs.Prelude.{All}
-use Rattle.version_store.specs.Entries.{Log}
-use Rattle.version_store.specs.Filling.{Filled, filling}
-use Rattle.version_store.specs.Heads.{HeadsFit, AreBelow, ArePlaces}
-use Rattle.version_store.specs.Laying.{IsBody, LaidOut, bytes_of}
+use Rattle.version_store.proofs.Names.{Log, Filled, filling, HeadsFit, AreBelow, ArePlaces, IsBody, LaidOut, bytes_of}
 use Rattle.version_store.proofs.layouts.lay_out.Given as goal
 
 abbrev pub invariant-loop-effect : goal.invariant-loop-effect

@@ -1,15 +1,7 @@
 use Rattle.std.proofs.Common.{rules, refl, ◌≡◌, ◌+◌, ◌<◌, ◌≤◌, Bool, true, false, cond, ℕ, Option, List, [], length, get_or, sym, ◌∙◌, ap, subst, arith}
 use Rattle.std.specs.Prelude.{MatchBool}
-use Rattle.medium_port.specs.Image.{Image}
-use Rattle.page_gate.specs.States.{state_of}
-use Rattle.page_gate.specs.declared.pages.PageState.{PageState}
-use Rattle.effect_form.specs.declared.effects.Effect.{Effect}
-use Rattle.effect_form.specs.Effects.{AreEffects}
+use Rattle.version_store.proofs.Names.{Image, state_of, PageState, Effect, AreEffects, HeldFit, reading_of, Held, Heads, IsFound, Content, content_of, Reading, Damaged, next}
 use Rattle.version_store.specs.declared.faults.OpenFault.TheVariants as faults
-use Rattle.version_store.specs.Found.{HeldFit, reading_of}
-use Rattle.version_store.specs.declared.page_reads.Held.{Held}
-use Rattle.version_store.specs.Heads.{Heads, IsFound}
-use Rattle.version_store.specs.Storage.{Content, content_of, Reading, Damaged, next}
 use Rattle.version_store.proofs.ScanLemmas.{scan_more, scan_damaged}
 use Rattle.version_store.proofs.OpenLemmas.{reached_more}
 use Rattle.version_store.proofs.openings.read_pages.Goals as goal

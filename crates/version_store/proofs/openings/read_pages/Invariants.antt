@@ -1,8 +1,5 @@
 use Rattle.std.proofs.Common.{◌≡◌, ◌≤◌, IsTrue, false, length}
-use Rattle.medium_port.specs.Image.{NoMore}
-use Rattle.effect_form.specs.Effects.{AreEffects}
-use Rattle.version_store.specs.Found.{HeldBelow, Reached}
-use Rattle.version_store.specs.Heads.{AreBelow, ArePlaces}
+use Rattle.version_store.proofs.Names.{NoMore, AreEffects, HeldBelow, Reached, AreBelow, ArePlaces}
 use Rattle.version_store.proofs.openings.read_pages.Given as goal
 
 abbrev pub invariant-loop-page : goal.invariant-loop-page

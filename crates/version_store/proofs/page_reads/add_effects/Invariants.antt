@@ -1,7 +1,5 @@
 use Rattle.std.proofs.Common.{◌≤◌, ◌<◌, ℕ, length}
-use Rattle.version_store.specs.Entries.{Log}
-use Rattle.effect_form.specs.Effects.{AreEffects}
-use Rattle.version_store.specs.Heads.{AreBelow, ArePlaces, IsFound}
+use Rattle.version_store.proofs.Names.{Log, AreEffects, AreBelow, ArePlaces, IsFound}
 use Rattle.version_store.proofs.ReadLemmas.{SoFar}
 use Rattle.version_store.proofs.page_reads.add_effects.Given as goal
 

@@ -1,10 +1,6 @@
 use Rattle.std.proofs.Common.{◌≡◌, ◌+◌, ◌≤◌, List, IsTrue, false, map, drop, take, true}
 use Rattle.std.specs.List.{list_all}
-use Rattle.page_gate.specs.States.{is_blank}
-use Rattle.version_store.specs.Entries.{Log}
-use Rattle.version_store.specs.Filling.{StaysClean}
-use Rattle.version_store.specs.Laying.{Laid, PagesFit, IsAtRest, body_of, bytes_of}
-use Rattle.version_store.specs.Storage.{begun, scan}
+use Rattle.version_store.proofs.Names.{is_blank, Log, StaysClean, Laid, PagesFit, IsAtRest, body_of, bytes_of, begun, scan}
 use Rattle.version_store.proofs.GrownLemmas.{Grown}
 use Rattle.version_store.proofs.writes.write_pages.Given as goal
 

@@ -1,8 +1,5 @@
 use Rattle.std.proofs.Common.{◌≡◌, List, length}
-use Rattle.record_votes.specs.Voting.{Line}
-use Rattle.vote_courier.specs.Stations.{Stands, hall_of}
-use Rattle.vote_run.specs.Fares.{Lengthens}
-use Rattle.vote_run.specs.Rounds.{is_poll, PollsGo, PollsWent}
+use Rattle.vote_run.proofs.Names.{Line, Stands, hall_of, Lengthens, is_poll, PollsGo, PollsWent}
 use Rattle.vote_run.proofs.poll_rounds.polls_go.Given as goal
 
 abbrev pub invariant-loop-i : goal.invariant-loop-i

@@ -1,10 +1,6 @@
 use Rattle.std.proofs.Common.{◌≡◌, ◌≤◌, false, List, length, IsTrue}
-use Rattle.record_votes.specs.Voting.{Line}
-use Rattle.vote_courier.specs.Stations.{hall_of}
-use Rattle.vote_run.specs.Ends.{Between, HasCome}
-use Rattle.vote_run.specs.Fares.{FareOn}
+use Rattle.vote_run.proofs.Names.{Line, hall_of, Between, HasCome, FareOn, MayAllTurn}
 use Rattle.vote_run.specs.Lasts.{LastOn}
-use Rattle.vote_run.specs.Members.{MayAllTurn}
 use Rattle.vote_run.proofs.rounds.conduct.Given as goal
 
 abbrev pub invariant-loop : goal.invariant-loop

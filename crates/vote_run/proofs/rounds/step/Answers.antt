@@ -1,8 +1,5 @@
 use Rattle.std.proofs.Common.{◌+◌, ◌∙◌, true, sym, subst}
-use Rattle.vote_run.specs.Ends.{Follows, HasCome, HasGoneRound}
-use Rattle.vote_run.specs.declared.limits.Next.TheVariants.{Over, Round, Ticked}
-use Rattle.vote_run.specs.Fares.{AllFare, FareOn}
-use Rattle.vote_run.specs.Lasts.{AllLast}
+use Rattle.vote_run.proofs.Names.{Follows, HasCome, HasGoneRound, Over, Round, Ticked, AllFare, FareOn, AllLast}
 use Rattle.vote_run.proofs.FareLemmas.{step-fares}
 use Rattle.vote_run.proofs.LastLemmas.{all-late-last}
 use Rattle.vote_run.proofs.EndLemmas.{if-ok, not-err, step-came}

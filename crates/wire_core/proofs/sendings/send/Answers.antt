@@ -1,10 +1,7 @@
 use Rattle.std.proofs.Common.{subst, sym, ap, ◌∙◌, ◌∷◌, [], ◌++◌}
 use Rattle.message_form.specs.declared.messages.Message.{Message}
 use Rattle.message_form.specs.Messages.{message_bytes}
-use Rattle.message_core.specs.Flights.{State, sent}
-use Rattle.message_core.specs.Parts.{state_of}
-use Rattle.world_core.specs.declared.traces.Sent.{Sent}
-use Rattle.wire_core.specs.Copies.{IsTied, all_marked}
+use Rattle.wire_core.proofs.Names.{State, sent, state_of, Sent, IsTied, all_marked}
 use Rattle.wire_core.proofs.CopyLemmas.{tied-send}
 use Rattle.wire_core.proofs.sendings.send.Goals as goal
 

@@ -1,8 +1,5 @@
 use Rattle.std.proofs.Common.{ℕ, ◌++◌, ◌∷◌, [], sym, ap, ◌∙◌, arith}
-use Rattle.message_form.specs.Posts.{post}
-use Rattle.stream_port.specs.declared.fates.Asked.{Asked}
-use Rattle.world_core.specs.declared.traces.Sent.{Sent}
-use Rattle.world_core.specs.Legal.{post_of, asked_of}
+use Rattle.wire_core.proofs.Names.{post, Asked, Sent, post_of, asked_of}
 use Rattle.wire_core.proofs.SendLemmas.{asked-more, posted-more, numbered-more, tied-more}
 use Rattle.wire_core.proofs.sendings.send_all.Goals as goal
 

@@ -1,10 +1,5 @@
 use Rattle.std.proofs.Common.{◌≡◌, ◌+◌, ◌++◌, List, map, length, take}
-use Rattle.message_form.specs.Posts.{posts}
-use Rattle.message_core.specs.Parts.{state_of}
-use Rattle.world_core.specs.declared.traces.Sent.{Sent}
-use Rattle.world_core.specs.Walks.{World}
-use Rattle.world_core.specs.Legal.{Numbered, post_of, asked_of}
-use Rattle.wire_core.specs.Copies.{Marked, IsTied, all_marked}
+use Rattle.wire_core.proofs.Names.{posts, state_of, Sent, World, Numbered, post_of, asked_of, Marked, IsTied, all_marked}
 use Rattle.wire_core.proofs.sendings.send_all.Given as goal
 
 abbrev pub invariant-loop-out : goal.invariant-loop-out

@@ -1,9 +1,7 @@
 use Rattle.std.proofs.Common.{◌≡◌, take}
 use Rattle.std.specs.Prelude.{Some, None, if◌then◌else◌}
 use Rattle.std.specs.List.{list_any}
-use Rattle.pseudo_time.specs.declared.nodes.NodeId.{NodeId}
-use Rattle.pseudo_time.specs.Nodes.{same_node}
-use Rattle.wire_core.specs.Flagged.{flags_at, new_flags}
+use Rattle.wire_core.proofs.Names.{NodeId, same_node, flags_at, new_flags}
 use Rattle.wire_core.proofs.stories.nodes_with.Given as goal
 
 abbrev pub invariant-loop-name : goal.invariant-loop-name

@@ -1,6 +1,5 @@
 use Rattle.std.proofs.Common.{sym, ap, subst, ◌∙◌}
-use Rattle.message_form.specs.Ranges.{AreEffects, AreOuts}
-use Rattle.broker_core.specs.Inputs.{listed}
+use Rattle.broker_core.proofs.Names.{AreEffects, AreOuts, listed}
 use Rattle.broker_core.proofs.RangeLemmas.{outs-InRange}
 use Rattle.broker_core.proofs.DoneLemmas.{hear-gives}
 use Rattle.broker_core.proofs.brokers.Broker.hear.Goals as goal

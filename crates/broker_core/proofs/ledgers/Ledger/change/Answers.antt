@@ -1,6 +1,5 @@
 use Rattle.std.proofs.Common.{sym, subst}
-use Rattle.broker_core.specs.declared.notes.Notes.{Notes}
-use Rattle.broker_core.specs.Ledgers.{AreNotes}
+use Rattle.broker_core.proofs.Names.{Notes, AreNotes}
 use Rattle.broker_core.proofs.CountLemmas.{try-are, may-above}
 use Rattle.broker_core.proofs.ledgers.Ledger.change.Goals as goal
 

@@ -2,11 +2,9 @@ use Rattle.std.proofs.Common.{rules, arith, ◌≡◌, ◌≤◌, ℕ, IsTrue, S
 use Rattle.std.specs.Prelude.{Err}
 use Rattle.version_store.specs.Fetch.{damage_after}
 use Rattle.object_history.specs.Causes.{HasHistoryCause}
-use Rattle.version_store.specs.StoreWords.{medium_of, damage_in, effects_in}
-use Rattle.object_header.specs.Spans.{passes}
-use Rattle.object_header.specs.Heads.{first_put}
+use Rattle.object_header.proofs.Names.{medium_of, damage_in, passes, first_put, marks}
+use Rattle.version_store.specs.StoreWords.{effects_in}
 use Rattle.object_header.specs.Ledgers.{stored}
-use Rattle.repository_log.specs.Logs.{marks}
 use Rattle.object_header.specs.Tables.{ledger_of, store_of}
 use Rattle.object_header.proofs.AnswerLemmas.{late-hit, late-miss}
 use Rattle.object_header.proofs.headers.HeaderTable.first.Goals as goal

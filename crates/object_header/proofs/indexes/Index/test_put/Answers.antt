@@ -1,7 +1,6 @@
 use Rattle.std.proofs.Common.{◌≡◌, sym, ap, ◌∙◌}
 use Rattle.std.proofs.lemmas.Result.{on_ok_weaker}
-use Rattle.pseudo_time.specs.Order.{lt}
-use Rattle.object_header.specs.declared.heads.Span.{Span}
+use Rattle.object_header.proofs.Names.{lt, Span}
 use Rattle.object_header.specs.declared.heads.Look.TheVariants as found
 use Rattle.object_header.proofs.PlanLemmas.{rises-look, odd-now}
 use Rattle.object_header.proofs.indexes.Index.test_put.Goals as goal

@@ -1,7 +1,5 @@
 use Rattle.std.proofs.Common.{rules, arith, ◌≡◌, ◌++◌, ◌∷◌, [], reverse, true, false, refl, sym, ap, ◌∙◌, subst}
-use Rattle.object_header.specs.Ledgers.{odd_in}
-use Rattle.object_header.specs.Odd.{kept_of}
-use Rattle.repository_log.specs.Logs.{marks}
+use Rattle.object_header.proofs.Names.{odd_in, kept_of, marks}
 use Rattle.object_header.proofs.LedgerLemmas.{late-whole}
 use Rattle.object_header.proofs.ledgers.Ledger.with_whole.Goals as goal
 

@@ -1,6 +1,5 @@
 use Rattle.std.proofs.Common.{subst, ◌∙◌, ap}
-use Rattle.object_history.specs.Views.{value_of}
-use Rattle.object_history.specs.Ranges.{AreMarks}
+use Rattle.object_history.proofs.Names.{value_of, AreMarks}
 use Rattle.object_history.proofs.LookLemmas.{value-in_range}
 use Rattle.object_history.proofs.plain.PlainHistories.answer_seen.Goals as goal
 

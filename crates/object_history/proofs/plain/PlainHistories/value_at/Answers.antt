@@ -2,8 +2,7 @@ use Rattle.std.proofs.Common.{arith, sym, ap, ◌∙◌, ◌≡◌}
 use Rattle.std.specs.Option.{option_copied}
 use Rattle.std.specs.Prelude.{unwrap_or}
 use Rattle.std.proofs.Common.{slice_index_or}
-use Rattle.value_form.specs.declared.values.Value.TheVariants.{Nothing}
-use Rattle.object_history.specs.declared.marks.Mark.{Mark}
+use Rattle.object_history.proofs.Names.{Nothing, Mark}
 use Rattle.object_history.proofs.LookLemmas.{value-at, value_found}
 use Rattle.object_history.proofs.plain.PlainHistories.value_at.Goals as goal
 

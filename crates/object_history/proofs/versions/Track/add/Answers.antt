@@ -1,6 +1,5 @@
 use Rattle.std.proofs.Common.{reverse, sym, ap, ◌∙◌, None}
-use Rattle.object_history.specs.declared.versions.Version.{Version}
-use Rattle.object_history.specs.Kept.{tops}
+use Rattle.object_history.proofs.Names.{Version, tops}
 use Rattle.object_history.proofs.RisingLemmas.{rising-on, rising-off}
 use Rattle.object_history.proofs.versions.Track.add.Goals as goal
 use Rattle.object_history.proofs.versions.Track.add.Goals.{then-self, else-self}

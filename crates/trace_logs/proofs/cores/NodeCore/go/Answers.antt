@@ -1,7 +1,6 @@
 use Rattle.std.proofs.Common.{rules, refl, subst}
 use Rattle.broker_core.specs.Turns as desks
-use Rattle.world_core.specs.Nodes.Input.{Going}
-use Rattle.trace_logs.specs.Cores.{StandsFor}
+use Rattle.trace_logs.proofs.Names.{Going, StandsFor}
 use Rattle.trace_logs.proofs.CoreLemmas.{repository-still, broker-answers}
 use Rattle.trace_logs.proofs.cores.NodeCore.go.Goals as goal
 

@@ -1,8 +1,7 @@
 use Rattle.std.proofs.Common.{rules, refl, subst}
 use Rattle.repository_core.specs.Turns as turns
 use Rattle.broker_core.specs.Turns as desks
-use Rattle.world_core.specs.Nodes.Input.{Hearing}
-use Rattle.trace_logs.specs.Cores.{StandsFor}
+use Rattle.trace_logs.proofs.Names.{Hearing, StandsFor}
 use Rattle.trace_logs.proofs.CoreLemmas.{repository-answers, broker-answers}
 use Rattle.trace_logs.proofs.cores.NodeCore.hear.Goals as goal
 

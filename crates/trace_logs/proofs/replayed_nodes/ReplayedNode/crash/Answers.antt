@@ -1,8 +1,5 @@
 use Rattle.std.proofs.Common.{refl, sym, ap, subst, ◌∙◌, ◌++◌, take}
-use Rattle.broker_core.specs.Tasks.{Scripted}
-use Rattle.world_core.specs.Nodes.{opened_mind}
-use Rattle.message_form.specs.Ranges.{AreEffects}
-use Rattle.trace_logs.specs.Cores.{StandsFor}
+use Rattle.trace_logs.proofs.Names.{Scripted, opened_mind, AreEffects, StandsFor}
 use Rattle.trace_logs.proofs.ReplayedNodeLemmas.{crashed-lives, crashed-sound, log-kept}
 use Rattle.trace_logs.proofs.replayed_nodes.ReplayedNode.crash.Goals as goal
 

@@ -1,10 +1,7 @@
 use Rattle.std.proofs.Common.{refl, ap, subst, ◌≡◌, ◌++◌, ◌∙◌}
 use Rattle.std.specs.Prelude.{OnOk}
 use Rattle.std.specs.List.{filter}
-use Rattle.message_form.specs.Posts.{posts}
-use Rattle.world_core.specs.Nodes.{leaves}
-use Rattle.world_core.specs.Walks.{all_effects, gated_life}
-use Rattle.trace_logs.specs.Letters.{all_posted}
+use Rattle.trace_logs.proofs.Names.{posts, leaves, all_effects, gated_life, all_posted}
 use Rattle.trace_logs.proofs.ReplayedNodeLemmas.{gated-lives}
 use Rattle.trace_logs.proofs.replayed_nodes.ReplayedNode.gate.Goals as goal
 

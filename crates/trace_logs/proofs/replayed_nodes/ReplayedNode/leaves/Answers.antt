@@ -1,8 +1,6 @@
 use Rattle.std.proofs.Common.{sym, ap, subst, ◌∙◌, ◌++◌, not}
 use Rattle.std.proofs.lemmas.List.{append-nil}
-use Rattle.repository_core.specs.Logs.{knows}
-use Rattle.world_core.specs.Nodes.{leaves}
-use Rattle.trace_logs.specs.Cores.{StandsFor}
+use Rattle.trace_logs.proofs.Names.{knows, leaves, StandsFor}
 use Rattle.trace_logs.proofs.replayed_nodes.ReplayedNode.leaves.Goals as goal
 
 pub returns-in-Ask : goal.returns-in-Ask

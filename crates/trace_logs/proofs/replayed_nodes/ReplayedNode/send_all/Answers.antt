@@ -1,5 +1,4 @@
-use Rattle.world_core.specs.Nodes.{leaves}
-use Rattle.trace_logs.specs.Letters.{all_posted}
+use Rattle.trace_logs.proofs.Names.{leaves, all_posted}
 use Rattle.trace_logs.proofs.ReplayedNodeLemmas.{sent-more}
 use Rattle.trace_logs.proofs.replayed_nodes.ReplayedNode.send_all.Goals as goal
 

@@ -1,10 +1,6 @@
 use Rattle.std.proofs.Common.{◌≡◌, ◌++◌, []}
 use Rattle.std.specs.List.{filter}
-use Rattle.message_form.specs.Posts.{posts}
-use Rattle.world_core.specs.Nodes.{leaves}
-use Rattle.world_core.specs.Walks.{Base, Life}
-use Rattle.trace_logs.specs.Letters.{all_posted, AreLetters}
-use Rattle.trace_logs.specs.ReplayedNodes.{Lives}
+use Rattle.trace_logs.proofs.Names.{posts, leaves, Base, Life, all_posted, AreLetters, Lives}
 use Rattle.trace_logs.proofs.replayed_nodes.ReplayedNode.send_all.Given as goal
 
 -- those so far

@@ -1,10 +1,8 @@
 use Rattle.std.proofs.Common.{refl, subst, ◌≡◌, ◌<◌, length, true}
 use Rattle.std.specs.Vec.{with_item}
 use Rattle.std.proofs.Math.ListN.{get_or}
-use Rattle.pseudo_time.specs.Nodes.{same_node}
+use Rattle.trace_logs.proofs.Names.{same_node, ReplayedNode, IsAbsent}
 use Rattle.world_core.specs.declared.entries.Entry.TheVariants as entry
-use Rattle.trace_logs.specs.declared.replayed_nodes.ReplayedNode.{ReplayedNode}
-use Rattle.trace_logs.specs.Replays.{IsAbsent}
 use Rattle.trace_logs.proofs.WalkLemmas.{absent}
 use Rattle.trace_logs.proofs.EntryLemmas.{moved-ok, gate-absent, gate-ok}
 use Rattle.trace_logs.proofs.replays.Replay.gate.Goals as goal

@@ -1,12 +1,8 @@
 use Rattle.std.proofs.Common.{refl, ap, subst, ◌≡◌, ◌<◌, ◌∙◌, length, true}
 use Rattle.std.specs.Vec.{with_item}
 use Rattle.std.proofs.Math.ListN.{get_or}
-use Rattle.pseudo_time.specs.Nodes.{same_node}
+use Rattle.trace_logs.proofs.Names.{same_node, sent_by, numbered, ReplayedNode, all_posted, IsAbsent}
 use Rattle.world_core.specs.declared.entries.Entry.TheVariants as entry
-use Rattle.world_core.specs.Walks.{sent_by, numbered}
-use Rattle.trace_logs.specs.declared.replayed_nodes.ReplayedNode.{ReplayedNode}
-use Rattle.trace_logs.specs.Letters.{all_posted}
-use Rattle.trace_logs.specs.Replays.{IsAbsent}
 use Rattle.trace_logs.proofs.WalkLemmas.{absent, still}
 use Rattle.trace_logs.proofs.EntryLemmas.{moved-ok, always, letter-in-range, took-sent, took-unsent}
 use Rattle.trace_logs.proofs.replays.Replay.take.Goals as goal

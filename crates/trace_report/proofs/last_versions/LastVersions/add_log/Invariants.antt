@@ -1,9 +1,6 @@
 use Rattle.std.proofs.Common.{List, ◌++◌, reverse, take}
-use Rattle.object_history.specs.declared.marks.Mark.{Mark}
+use Rattle.trace_report.proofs.Names.{Mark, RunLogs, AreDecided, AreLast}
 use Rattle.repository_log.specs.Logs.{marks}
-use Rattle.world_core.specs.Deeds.{RunLogs}
-use Rattle.trace_report.specs.Decided.{AreDecided}
-use Rattle.trace_report.specs.LastVersions.{AreLast}
 use Rattle.trace_report.proofs.last_versions.LastVersions.add_log.Given as goal
 
 abbrev pub invariant-loop-effect : goal.invariant-loop-effect

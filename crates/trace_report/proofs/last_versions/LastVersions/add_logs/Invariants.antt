@@ -1,10 +1,6 @@
 use Rattle.std.proofs.Common.{◌≡◌, [], reverse}
-use Rattle.pseudo_time.specs.declared.nodes.NodeId.{NodeId}
-use Rattle.world_core.specs.Deeds.{RunLogs}
-use Rattle.trace_report.specs.Decided.{AreDecided}
+use Rattle.trace_report.proofs.Names.{NodeId, RunLogs, AreDecided, AreLast, logs_by}
 use Rattle.trace_report.specs.Finals.{marks_to}
-use Rattle.trace_report.specs.LastVersions.{AreLast}
-use Rattle.trace_report.specs.Reports.{logs_by}
 use Rattle.trace_report.proofs.last_versions.LastVersions.add_logs.Given as goal
 
 -- the logs of the repositories so far

@@ -1,10 +1,5 @@
 use Rattle.std.proofs.Common.{◌≡◌, ◌+◌, ◌++◌, ◌≤◌, IsTrue, length, sym, subst, arith}
-use Rattle.medium_port.specs.Image.{IsImage}
-use Rattle.version_store.specs.Entries.{Log}
-use Rattle.version_store.specs.Filling.{filling}
-use Rattle.version_store.specs.Heads.{HeadsFit}
-use Rattle.version_store.specs.Laying.{IsAtRest, all_of, laid}
-use Rattle.version_store.specs.Storage.{log_of}
+use Rattle.version_store.proofs.Names.{IsImage, Log, filling, HeadsFit, IsAtRest, all_of, laid, log_of}
 use Rattle.version_store.proofs.BlankLemmas.{blank_count}
 use Rattle.version_store.proofs.GrownLemmas.{untouched}
 use Rattle.version_store.proofs.StoreLemmas.{log_here, settled_here, rest_here, images_left, prefix_left, pages_kept, all_added, written_run, written_rest}

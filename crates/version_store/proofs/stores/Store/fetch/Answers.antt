@@ -1,11 +1,6 @@
 use Rattle.std.proofs.Common.{◌≡◌, ℕ, Option, Some, None, length, sym, ◌∙◌, ap, subst, arith}
-use Rattle.medium_port.specs.Image.{Image, IsImage}
-use Rattle.effect_form.specs.declared.effects.Place.{Place}
-use Rattle.effect_form.specs.Effects.{Written}
-use Rattle.version_store.specs.Entries.{Entry, IsIn}
-use Rattle.version_store.specs.Fetch.{BackStands, shown_in}
+use Rattle.version_store.proofs.Names.{Image, IsImage, Place, Written, Entry, IsIn, BackStands, shown_in, log_of}
 use Rattle.version_store.specs.Sights.{found_of}
-use Rattle.version_store.specs.Storage.{log_of}
 use Rattle.version_store.proofs.PlaceLemmas.{log_sound}
 use Rattle.version_store.proofs.StandLemmas.{back-stands}
 use Rattle.version_store.proofs.stores.Store.fetch.Goals as goal

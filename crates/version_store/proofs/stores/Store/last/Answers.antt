@@ -1,12 +1,7 @@
 use Rattle.std.proofs.Common.{◌≡◌, ℕ, ◌<◌, Option, Some, None, sym, ◌∙◌, subst}
 use Rattle.std.specs.Prelude.{IfSome}
 use Rattle.std.specs.BTreeMap.{get}
-use Rattle.value_form.specs.declared.objects.ObjectId.{ObjectId}
-use Rattle.value_form.specs.Objects.{object_cmp}
-use Rattle.effect_form.specs.declared.effects.Place.{Place}
-use Rattle.version_store.specs.Entries.{Log, last_put}
-use Rattle.version_store.specs.Fetch.{IsLastPut}
-use Rattle.version_store.specs.Heads.{Heads, AreBelow}
+use Rattle.version_store.proofs.Names.{ObjectId, object_cmp, Place, Log, last_put, IsLastPut, Heads, AreBelow}
 use Rattle.version_store.proofs.StandLemmas.{last_put-stands}
 use Rattle.version_store.proofs.stores.Store.last.Goals as goal
 

@@ -1,6 +1,5 @@
 use Rattle.std.proofs.Common.{ap, ◌∙◌}
-use Rattle.message_core.proofs.NodeLemmas.{found_same}
-use Rattle.wire_core.specs.Flagged.{standing_at}
+use Rattle.wire_core.proofs.Names.{found_same, standing_at}
 use Rattle.wire_core.proofs.stories.Story.standing.Goals as goal
 
 pub returns-in-Some : goal.returns-in-Some

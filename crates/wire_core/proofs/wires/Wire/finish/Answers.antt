@@ -1,9 +1,6 @@
 use Rattle.std.proofs.Common.{◌++◌, map, IsTrue, sym, subst}
-use Rattle.plan_form.specs.declared.plans.Plan.{Plan}
-use Rattle.world_core.specs.Legal.{asked_of}
+use Rattle.wire_core.proofs.Names.{Plan, asked_of, IsLegal, WireParts, IsRunOf}
 use Rattle.world_core.specs.declared.traces.Trace.{Trace}
-use Rattle.world_core.specs.Readings.{IsLegal}
-use Rattle.wire_core.specs.Wires.{WireParts, IsRunOf}
 use Rattle.wire_core.proofs.SoundLemmas.{sound-legal}
 use Rattle.wire_core.proofs.wires.Wire.finish.Goals as goal
 

@@ -1,8 +1,6 @@
 use Rattle.std.proofs.Common.{◌≡◌, false, IsTrue, subst}
 use Rattle.std.specs.Prelude.{◌↔◌}
-use Rattle.world_core.specs.Legal.{fates_of, Idle}
-use Rattle.wire_core.specs.Changes.{IsQuiet}
-use Rattle.wire_core.specs.Wires.{WireParts, world_of}
+use Rattle.wire_core.proofs.Names.{fates_of, Idle, IsQuiet, WireParts, world_of}
 use Rattle.wire_core.proofs.QuietLemmas.{quiet-by, quiet-not, rests-by}
 use Rattle.wire_core.proofs.wires.Wire.idle.Goals as goal
 

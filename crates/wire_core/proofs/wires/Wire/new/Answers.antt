@@ -1,9 +1,6 @@
 use Rattle.std.proofs.Common.{sym, ap, subst, ◌∙◌, ◌∷◌, []}
-use Rattle.stream_port.specs.Clocks.{Adds}
-use Rattle.message_core.specs.Flights.{start}
+use Rattle.wire_core.proofs.Names.{Adds, start, names_of, IsOpened}
 use Rattle.wire_core.specs.Sound.{origin_with}
-use Rattle.wire_core.specs.Flagged.{names_of}
-use Rattle.wire_core.specs.Stories.{IsOpened}
 use Rattle.wire_core.proofs.NewLemmas.{new-sound}
 use Rattle.wire_core.proofs.wires.Wire.new.Goals as goal
 

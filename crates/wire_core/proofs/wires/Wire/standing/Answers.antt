@@ -1,7 +1,5 @@
 use Rattle.std.proofs.Common.{◌≡◌, true, ap, subst, ◌∙◌}
-use Rattle.world_core.specs.Legal.{is_behind}
-use Rattle.wire_core.specs.declared.flags.Standing.{Standing}
-use Rattle.wire_core.specs.Wires.{WireParts, world_of}
+use Rattle.wire_core.proofs.Names.{is_behind, Standing, WireParts, world_of}
 use Rattle.wire_core.proofs.FitLemmas.{up-is, gone-is, due-is, behind-is}
 use Rattle.wire_core.proofs.wires.Wire.standing.Goals as goal
 

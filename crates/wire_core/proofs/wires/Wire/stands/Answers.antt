@@ -1,8 +1,5 @@
 use Rattle.std.proofs.Common.{◌++◌, map, IsTrue, subst}
-use Rattle.plan_form.specs.declared.plans.Plan.{Plan}
-use Rattle.world_core.specs.Legal.{asked_of}
-use Rattle.world_core.specs.Readings.{IsLegal}
-use Rattle.wire_core.specs.Wires.{WireParts, IsRunOf, trace_of}
+use Rattle.wire_core.proofs.Names.{Plan, asked_of, IsLegal, WireParts, IsRunOf, trace_of}
 use Rattle.wire_core.proofs.SoundLemmas.{sound-legal}
 use Rattle.wire_core.proofs.wires.Wire.stands.Goals as goal
 

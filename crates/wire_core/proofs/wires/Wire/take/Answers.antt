@@ -1,10 +1,5 @@
 use Rattle.std.proofs.Common.{List, map, IsTrue, refl, sym, ap, subst, ◌∙◌}
-use Rattle.message_form.specs.Posts.{Post}
-use Rattle.world_core.specs.Legal.{fates_of, post_of}
-use Rattle.world_core.specs.Walks.{sent_by}
-use Rattle.wire_core.specs.declared.flags.Standing.{Standing}
-use Rattle.wire_core.specs.Changes.{IsCopyOf, TookAll}
-use Rattle.wire_core.specs.Wires.{WireParts, world_of}
+use Rattle.wire_core.proofs.Names.{Post, fates_of, post_of, sent_by, Standing, IsCopyOf, TookAll, WireParts, world_of}
 use Rattle.wire_core.proofs.ChangeLemmas.{take-more}
 use Rattle.wire_core.proofs.DueLemmas.{is-copy}
 use Rattle.wire_core.proofs.FitLemmas.{behind-is}
