@@ -1,7 +1,6 @@
 -- Lists of which the last element is changed.
 use Rattle.std.proofs.Common.{◌≡◌, List, [], ◌∷◌, ◌++◌, map, sym, ◌∙◌, ap}
-use Rattle.std.proofs.lemmas.List.{reverse-append, map-append}
-use Rattle.trace_report.proofs.Names.{Answered, BegunAct, BegunTry, ActParts, kept, kept_act, kept_try, answer_of, answers_of}
+use Rattle.trace_report.proofs.Names.{reverse-append, map-append, Answered, BegunAct, BegunTry, ActParts, kept, kept_act, kept_try, answer_of, answers_of}
 use Rattle.trace_report.specs.Begun.{TryParts, kept_tries}
 
 pub kept-more : (old new : List BegunAct) (a : BegunAct) → new ≡ old ++ a ∷ [] → kept new ≡ kept_act a ∷ kept old
