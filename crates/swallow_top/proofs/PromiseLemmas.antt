@@ -118,9 +118,6 @@ module _ {M : Type 0} (c : Call M) where
   refused-most stop.NoMemory h = omega (arith, h)
   refused-most stop.Sink h = omega (arith, h)
 
-  pub promise-none : IsUnread c → AreNone c.words → RefusedAs stop.Words c.status c.sink → ((status : ℕ) → c.status ≡ status → TouchedNothing c status) → AllKept c.shelf_before c.shelf c.media → Promise c
-  promise-none unread none refused quiet kept = record { done = inl (quiet 1 refused.0, unread, none, refused.1); kept = kept; statuses = refused-most stop.Words refused; votes = inl (quiet 1 refused.0).no_votes }
-
   pub promise-refused : (o : Options) (s : Stop) → AreWords (Run o) c.words → ReadsPlan c.input c.left c.faults_before c.faults (Err s) → RefusedAs s c.status c.sink → ((status : ℕ) → c.status ≡ status → TouchedNothing c status) → AllKept c.shelf_before c.shelf c.media → Promise c
   promise-refused o s words read refused quiet kept = record { done = refused-run o s words read refused quiet; kept = kept; statuses = refused-most s refused; votes = inl (quiet c.status refl).no_votes }
 

@@ -49,11 +49,6 @@ set-every P Q (s ∷ ss) zero t d l a f q h = (q, others-change P Q s.node ss a.
 set-every P Q (s ∷ ss) (suc i) t d l a f q h =
     (f s (same-sym (get_or ss i d).node s.node ∙ other-at s.node ss i d (omega (arith, l)) a.0) h.0, set-every P Q ss i t d (omega (arith, l)) a.1 f q h.1)
 
-pub set-all : (P : ReplayedNode → Type 0) (replayed : List ReplayedNode) (i : ℕ) (t : ReplayedNode) → P t → Every P replayed → Every P (set replayed i t)
-set-all P [] i t q h = tt
-set-all P (s ∷ ss) zero t q h = (q, h.1)
-set-all P (s ∷ ss) (suc i) t q h = (h.0, set-all P ss i t q h.1)
-
 pub nodes-set : (replayed : List ReplayedNode) (i : ℕ) (t d : ReplayedNode) → t.node ≡ (get_or replayed i d).node → nodes_of (set replayed i t) ≡ nodes_of replayed
 nodes-set replayed i t d h = map-set_same (λ (s : ReplayedNode). s.node) replayed i t d h
 

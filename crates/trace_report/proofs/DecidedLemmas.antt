@@ -23,10 +23,6 @@ firsts-step logs old new first below log n count each node at said is =
           (each-more (λ r. reverse (logs_by logs (repository r))) old first each (subst (λ l. AreFirsts (reverse l) first) (at ∙ ap (logs_by logs) (node ∙ ap repository next)) said)),
     )
 
-pub decided-all : (k : RunLogs) (logs : List Opened) (firsts : List Said) → length firsts ≡ k.repositories → ((n : NodeId) → k.logs n ≡ reverse (logs_by logs n)) → AreEach (λ r. reverse (logs_by logs (repository r))) firsts →
-    AreDecided k firsts
-decided-all k logs firsts count at each = record { count = count; each = subst (λ (f : ℕ → List Effect). AreEach f firsts) (λ i r. sym (at (repository r)) i) each }
-
 -- ---- the home's log
 
 each-at : (logs : ℕ → List Effect) (firsts : List Said) (p : ℕ) (said : Said) → AreEach logs firsts → slice_get firsts p ≡ Some said → AreFirsts (logs (suc p)) said
@@ -73,10 +69,6 @@ some-first : (n : ℕ) (f : ℕ → Bool) → some_of (suc n) f ≡ (f 1 || some
 unfolding some_of
 some-first zero f = refl
 some-first (suc n) f = ap (λ z. f (suc (suc n)) || z) (some-first n f) ∙ or-rotate (f (suc (suc n))) (f 1) (some_of n (λ r. f (suc r)))
-
-any-first : (c b : Bool) → (if c then true else b) ≡ (c || b)
-any-first true b = refl
-any-first false b = refl
 
 learned-some : (s : StampParts) (logs : ℕ → List Effect) (firsts : List Said) → AreEach logs firsts → learned_in_some firsts s ≡ some_of (length firsts) (λ r. has_learned s (logs r))
 unfolding some_of

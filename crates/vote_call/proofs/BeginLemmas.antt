@@ -17,10 +17,6 @@ use Rattle.vote_call.specs.Media.{SomeOpened, opening_of}
 use Rattle.vote_call.specs.Starts.{SeatsAll, opened_for}
 use Rattle.vote_call.proofs.StartLemmas.{AreOthers, lasts-sit, may-sit, fall-keeps, falls-longer, fares-open, lines-count, member-stays, none-below, none-walked, others-stay, own-sits, polls-at, polls-count, polls-stay, seated, voter-log, within-lines}
 
-pub both-ok : {T E A B C : Type 0} (r : Result T E) → (A → B → C) → OnOk r A → OnOk r B → OnOk r C
-both-ok (Ok x) f a b = f a b
-both-ok (Err e) f a b = tt
-
 all-below : (k n : ℕ) → k < n → nat_lt k n ≡ true
 all-below k n less = grind (arith, nat_tests, less)
 

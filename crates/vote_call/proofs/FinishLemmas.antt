@@ -506,7 +506,3 @@ ended-for w limits os c e d ps ps1 qs ms0 ms (Ok x) begun count ended fares = λ
     (let g = begun media polls asked answers h are b in
     let size : length (lines_of polls) ≡ length ps1 = lines-count polls ∙ sym (count ∙ ap length are ∙ polls-count 1 polls) in
     record { first = e; members = ms0; polls_then = ps1; begun = g; ended = λ told. ended told (lines_of polls) size (g.between told) (g.ticks told); fares = fares (medium_of media) g.fares })
-
-pub ok-if : {T E : Type 0} (r : Result T E) → is_err r ≡ false → IsOk r
-ok-if (Ok x) e = refl
-ok-if (Err x) e = never-false e

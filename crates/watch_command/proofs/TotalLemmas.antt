@@ -91,14 +91,3 @@ restored-end log list empty o = ap (moved_at o) empty ∙ sym (ap (λ z. last_to
 module _ (first : ℤ) (next : ℤ → Version → Option ℤ) (m : List Mark) (log : List Effect) where
   from-restored : (restored : List (Moved ℤ)) → AreRestored log restored → (o : ObjectId) → advanced first next o m None (moved_at o restored) ≡ advanced first next o m None (last_total log o)
   from-restored restored h o = ap (advanced first next o m None) (h o)
-
-  pub folded-each : (restored new list : List (Moved ℤ)) → AreRestored log restored → list ≡ new → ((o : ObjectId) → advanced first next o m None (moved_at o restored) ≡ Ok (moved_at o new)) →
-      (o : ObjectId) → advanced first next o m None (last_total log o) ≡ Ok (moved_at o list)
-  folded-each restored new list h e each o = sym (from-restored restored h o) ∙ each o ∙ sym (ap (λ l. Ok (moved_at o l)) e)
-
-  pub folded-refused : (restored : List (Moved ℤ)) (why : WatchFault) → AreRestored log restored → (why ≡ fault.NoMemory) ⊎ IsRefusal (λ o. advanced first next o m None (moved_at o restored)) why →
-      (why ≡ fault.NoMemory) ⊎ IsRefusal (λ o. advanced first next o m None (last_total log o)) why
-  folded-refused restored why h r = refused-as (λ o. advanced first next o m None (moved_at o restored)) (λ o. advanced first next o m None (last_total log o)) why (from-restored restored h) r
-
-pub folded-cursors : (log : List Effect) (restored : List (Moved ℤ)) (cursors : Cursors) → AreRestored log restored → AreCursors (λ o. moved_at o restored) cursors → AreCursors (last_total log) cursors
-folded-cursors log restored cursors h k o = k o ∙ ap cursor_of (h o)

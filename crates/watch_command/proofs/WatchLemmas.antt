@@ -126,9 +126,6 @@ module _ {M : Type 0} (w : Media M) (repository : ℕ) (rule : Rule) (marks : Li
       ComesTo w repository rule marks o r medium
   shut-comes o medium cause line r is h k = subst (λ z. ComesTo w repository rule marks z r medium) (sym is) (refl, fallen-line (down_watch_line repository cause) line r h k)
 
-  pub wanting-comes : (o : Opening M w) (medium : M) → o ≡ Wanting medium → ComesTo w repository rule marks o NoMemory (Some medium)
-  wanting-comes o medium is = subst (λ z. ComesTo w repository rule marks z NoMemory (Some medium)) (sym is) (refl, refl)
-
 module _ {M : Type 0} (w : Media M) (old new : ShelfSight) (repository : ℕ) (rule : Rule) where
   -- it was taken and opened
   pub totals-over : (n : NodeId) (v : ℕ) (marks : List Mark) (r : Outcome) (taken left : Option M) (o : Opening M w) → n ≡ named repository → v ≡ totals_volume rule → TakesOne w old new (volume_name n v) taken → HasOpened w taken o →

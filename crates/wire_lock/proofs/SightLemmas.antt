@@ -186,9 +186,6 @@ noted-kept s k e is = subst (λ (z : Sight). record z { story = s.story ++ e ∷
 pub looked-of : (k k' : Sight) (l : List Entry) → Owns k → k' ≡ record k { story = l } → CarriesOn owner_of k l → Looked k k'
 looked-of k k' l owns is car = subst (Looked k) (sym is) (record { before = as-before k l owns car; kept = refl })
 
-pub added-of : (k k' : Sight) (l : List Entry) (e : Entry) → Owns k → k' ≡ record k { story = l ++ e ∷ []; own = k.own ++ e ∷ [] } → CarriesOn owner_of k l → Added k k' e
-added-of k k' l e owns is car = record { found = l; before = as-before k l owns car; kept = is }
-
 pub visited-of : (told : Bool) (n : NodeId) (k k' : Sight) (l : List Entry) (e : Entry) (life : Life) (flags : Flags) → Owns k → IsOf n k → names n e ≡ true → (flags_at k n).up ≡ true
     → k' ≡ record k { story = l ++ e ∷ []; own = k.own ++ e ∷ [] } → CarriesOn owner_of k l
     → (IsTrue told → lives_on (base_at k) (walk (base_at k) l) n (life_at k n) e ≡ life) → flagged (walk (base_at k) l).last n.kind (flags_at k n) e ≡ flags → Visited told n k k' e life flags
