@@ -21,8 +21,7 @@ pub use Rattle.pseudo_time.specs.declared.nodes.NodeId.{NodeId}
 pub use Rattle.pseudo_time.specs.declared.nodes.NodeKind.{NodeKind}
 pub use Rattle.pseudo_time.specs.declared.nodes.NodeKind.TheVariants.{Broker, Repository}
 pub use Rattle.repository_log.specs.Logs.{decided_by, is_for}
-pub use Rattle.seat_lock.specs.Words.{CarriesOn}
-unfoldable pub use Rattle.seat_lock.specs.Words.{knows}
+pub use Rattle.seat_lock.specs.Words.{CarriesOn, knows}
 pub use Rattle.serial_model.specs.Questions.{Tree}
 pub use Rattle.stream_port.specs.Causes.{Rose}
 pub use Rattle.value_form.specs.declared.acts.ActSpec.{ActSpec}
