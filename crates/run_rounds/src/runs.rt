@@ -16,8 +16,8 @@ use medium_port::Medium;
 use plan_form::Plan;
 use run_media::{Opening, Refusal, are_open, first_refusal, give_back};
 use run_starts::{
-    Begun, Limits, Reason, Seated, SharedWire, WirePass, down_visits, empty_shares, open_nodes,
-    wire_for,
+    Begun, Limits, Reason, Seated, SharedWire, WirePass, down_visits, empty_shares, let_go,
+    open_nodes, wire_for,
 };
 use std::alloc::Global;
 use std::sync::Wait;
@@ -92,10 +92,7 @@ fn with_nodes<
         start,
     } = begun;
     let count = openings.len();
-    let (Ok(nodes), Ok(shares)) = (
-        Vec::with_capacity(alloc, count),
-        empty_shares(alloc, limits.workers, count),
-    ) else {
+    let Ok((nodes, shares)) = empty_shares(alloc, limits.workers, count) else {
         return stopped(wire, passes, conductor, give_back(media, openings));
     };
     let Seated {
@@ -105,6 +102,8 @@ fn with_nodes<
         is_whole,
     } = open_nodes(alloc, plan, start, openings, passes, nodes, media);
     if !is_whole {
+        nodes.destroy_empty();
+        let_go(shares);
         return stopped(wire, passes, conductor, media);
     }
     rounds(rt, wire, limits, nodes, shares, conductor, media, passes)

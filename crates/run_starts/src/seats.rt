@@ -86,6 +86,7 @@ pub fn take_apart<F: Fates, C: Clock, M: Medium>(
 {
     let mut nodes = nodes;
     let Some(node) = nodes.pop() else {
+        nodes.destroy_empty();
         return (media, passes);
     };
     let (mut media, mut passes) = take_apart(nodes, media, passes);
@@ -100,8 +101,7 @@ pub fn take_apart<F: Fates, C: Clock, M: Medium>(
 }
 
 /// What came of opening a run's nodes: all of them, or, where memory ran out, their media and their
-/// passes.
-#[derive(Drop)]
+/// passes. None of them is let go.
 pub struct Seated<F: Fates, C: Clock, M: Medium> {
     pub nodes: Vec<RunNode<F, C, M>>,
     pub media: Vec<Option<M>>,
@@ -141,6 +141,8 @@ fn seat<F: Fates, C: Clock, M: Medium>(
     ensures room { (vec_capacity result.media ≡ vec_capacity seated.media) ×
         (vec_capacity result.passes ≡ vec_capacity seated.passes) }
     ensures room_left { result.is_whole ≡ true → vec_capacity result.nodes ≡ vec_capacity seated.nodes }
+    ensures none { result.is_whole ≡ false → (seated.is_whole ≡ false → vec_len seated.nodes ≡ 0) →
+        vec_len result.nodes ≡ 0 }
 {
     let Seated {
         nodes,
@@ -213,10 +215,12 @@ pub fn open_nodes<F: Fates, C: Clock, M: Medium>(
     ensures room { (vec_capacity result.media ≡ vec_capacity media) ×
         (vec_capacity result.passes ≡ vec_capacity passes) }
     ensures room_left { result.is_whole ≡ true → vec_capacity result.nodes ≡ vec_capacity nodes }
+    ensures none { result.is_whole ≡ false → vec_len result.nodes ≡ 0 }
 {
     let mut openings = openings;
     let mut passes = passes;
     let Some(opening) = openings.pop() else {
+        openings.destroy_empty();
         return Seated {
             nodes,
             media,

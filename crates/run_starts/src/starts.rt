@@ -13,8 +13,8 @@ use run_media::{Opening, opened_nodes};
 use std::alloc::{AllocError, Global};
 use stream_port::{Clock, Fates};
 
-/// The wire of a run, with the passes of its nodes, in their order, and the conductor's.
-#[derive(Drop)]
+/// The wire of a run, with the passes of its nodes, in their order, and the conductor's. None of them is
+/// let go.
 pub struct Begun<F: Fates, C: Clock, M: Medium> {
     pub wire: SharedWire<F, C, M>,
     pub passes: Vec<WirePass<F, C, M>>,

@@ -48,6 +48,9 @@ open_nodes-nodes-requires-clause-can g c =
     let plan = c.args.plan.now in
     can-seat g.M.Medium plan os wire c.args.begun.start passes.items c.requires.begun.set_up c.requires.begun.starts c.requires.runnable.ready c.requires.sound c.requires.begun.unseen
 
+pub destroy_empty-requires : goal.destroy_empty-requires
+destroy_empty-requires g c = c.open_nodes-nodes.ensures.none c.if-not-is_whole.true
+
 pub stopped-requires-then-not-is_whole-clause-passes : goal.stopped-requires-then-not-is_whole-clause-passes
 stopped-requires-then-not-is_whole-clause-passes g c =
     let lock = c.args.begun.wire.lock in
@@ -128,16 +131,16 @@ rounds-requires-clause-pass g c κs within =
 
 pub rounds-requires-clause-dealt : goal.rounds-requires-clause-dealt
 rounds-requires-clause-dealt g c κs within =
-    let shares = c.in-Ok-Ok.shares.items in
-    subst (λ n. IsDealt n [] shares) (sym c.in-Ok-Ok.ensures'.count) c.in-Ok-Ok.ensures'.dealt
+    let shares = c.in-Ok.shares.items in
+    subst (λ n. IsDealt n [] shares) (sym c.in-Ok.ensures.count) c.in-Ok.ensures.dealt
 
 pub rounds-requires-clause-share_room : goal.rounds-requires-clause-share_room
 rounds-requires-clause-share_room g c κs within =
-    let shares = c.in-Ok-Ok.shares.items in
+    let shares = c.in-Ok.shares.items in
     let whole = c.if-not-is_whole.false in
     let o = c.open_nodes-nodes in
     let long = along-length (IsNewNode c.args.plan.now) 0 c.args.openings.items o.result.nodes.items (o.ensures.new whole) in
-    (c.len-count.result, omega (arith, long, c.len-count.ensures, c.args.openings.ok, o.result.nodes.ok), subst (λ n. HaveRoom n c.len-count.result shares) (sym c.in-Ok-Ok.ensures'.count) c.in-Ok-Ok.ensures'.room)
+    (c.len-count.result, omega (arith, long, c.len-count.ensures, c.args.openings.ok, o.result.nodes.ok), subst (λ n. HaveRoom n c.len-count.result shares) (sym c.in-Ok.ensures.count) c.in-Ok.ensures.room)
 
 pub rounds-requires-clause-empty : goal.rounds-requires-clause-empty
 rounds-requires-clause-empty g c κs within = c.open_nodes-nodes.ensures.emptied c.if-not-is_whole.false
