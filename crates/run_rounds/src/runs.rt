@@ -112,7 +112,7 @@ fn with_nodes<
 // Memory ran out before the first round.
 fn stopped<F: Fates, C: Clock, M: Medium>(
     wire: SharedWire<F, C, M>,
-    passes: Vec<WirePass<F, C, M>>,
+    mut passes: Vec<WirePass<F, C, M>>,
     conductor: WirePass<F, C, M>,
     media: Vec<Option<M>>,
 ) -> Finished<F, C, M>
@@ -122,7 +122,6 @@ fn stopped<F: Fates, C: Clock, M: Medium>(
     ensures end { result.end ≡ End.NoMemory }
     ensures media { result.media ≡ media.items }
 {
-    let mut passes = passes;
     passes.push_reserved(conductor);
     closed_run(
         wire,
@@ -162,8 +161,7 @@ fn without_nodes<F: Fates, C: Clock, M: Medium, R: Wait>(
         conductor,
         start: _,
     } = begun;
-    let (passes, reason) = down_visits(rt, &wire, plan, openings.as_slice(), passes);
-    let mut passes = passes;
+    let (mut passes, reason) = down_visits(rt, &wire, plan, openings.as_slice(), passes);
     passes.push_reserved(conductor);
     let ended = Ended {
         media: give_back(media, openings),
