@@ -40,7 +40,7 @@ abbrev pub volume_text : Option ℕ → List ℕ
 volume_text None = []
 volume_text (Some volume) = named (codes " volume ") volume
 
--- its start, and how it was settled
+-- its start, and how it was decided
 abbrev pub version_front : TimeParts → Option Bool → List ℕ
 version_front start state = codes "version " ++ (time_text start ++ (32 ∷ (state_text state ++ 32 ∷ [])))
 

@@ -29,7 +29,7 @@ abbrev pub with_version : Version → List Version → List Version
 with_version v [] = v ∷ []
 with_version v (w ∷ ws) = if lt v.start w.start then v ∷ w ∷ ws else w ∷ with_version v ws
 
--- by how stamps were settled, and which volumes have these marks
+-- by how stamps were decided, and which volumes have these marks
 abbrev pub told_line : (StampParts → Option Bool) → List (List Mark) → List ℕ → Version → List ℕ
 told_line settled archive volumes v = version_line v.start (settled v.start.stamp) v.value (holding_volume archive volumes v.object v.start)
 

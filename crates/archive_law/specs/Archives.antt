@@ -67,8 +67,8 @@ WasDecided cs s c = (d : Decision) × Has (effect.Decide s d) (log_after cs (rep
 
 -- ---- an archive
 
--- These marks have each version that ever stood in the repository's durable logs, each object and start once, and no other. How they settle an
--- attempt its home decided, and they settle those that the repository's last log does.
+-- These marks have each version that ever stood in the repository's durable logs, each object and start once, and no other. A decision that they have of
+-- an attempt is its home's, and they have one of each attempt of which the repository's last log has one.
 pub record IsArchive (cs : List Earlier) (r : ℕ) (m : List Mark) : Type 0 where
   pub all : (o : ObjectId) (x : TimeParts) (v : Value) → EverStood cs r (effect.Put o x v) → Has (mark.Put o x v) m
   pub none : (o : ObjectId) (x : TimeParts) (v : Value) → Has (mark.Put o x v) m → EverStood cs r (effect.Put o x v)

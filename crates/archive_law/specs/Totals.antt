@@ -66,7 +66,7 @@ module _ {T : Type 0} (first : T) (next : T → Version → Option T) (r : ℕ) 
   abbrev pub CountEach : List (Event T) → Type 0
   CountEach es = (o : ObjectId) (w : Moved T) → totals_of es o ≡ Some w → CountsAll first next (calls_of es) r o w
 
-  -- what a watch now makes of each is of all settled versions
+  -- what a watch now makes of each is of all stable versions
   abbrev pub CountSettled : List (Event T) → Type 0
   CountSettled es = (o : ObjectId) (u : Option (Moved T)) → advanced first next o (archive_then r es) None (totals_of es o) ≡ Ok u →
       moved_over first next o None (map (version_of o) (settled_versions (archive_then r es) o)) ≡ Ok u

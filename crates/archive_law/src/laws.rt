@@ -20,7 +20,7 @@ ghost use Rattle.archive_law.specs.Totals.{AreWatches, CountEach, CountSettled, 
 use commit_watch::WatchRule;
 
 /// The joined marks of a repository's complete volumes have every version that ever stood in a durable log of
-/// it, each object and start once, and no other; and how they settle an attempt was decided at its home.
+/// it, each object and start once, and no other; and a decision that they have of an attempt is that of its home.
 ///
 /// So an audit lists just the versions of the object that ever stood, each once and in rising order, and tells
 /// of each the last volume that has it.
@@ -44,7 +44,7 @@ pub fn law_of_asof()
 
 /// Each total that watches left is what the rule makes of all committed versions of the object that ever
 /// stood, up to its cursor, each once and in rising order: also where a watch was stopped, and whatever was
-/// retired before it or between. A watch that isn't stopped counts all settled versions of its time.
+/// retired before it or between. A watch that isn't stopped counts all stable versions of its time.
 pub fn law_of_totals<R: WatchRule>()
     ensures totals { (r : ℕ) (es : List (Event R.Total)) → IsPast (calls_of es) →
         AreWatches R.first R.next r es → CountEach R.first R.next r es }

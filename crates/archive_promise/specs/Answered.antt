@@ -71,7 +71,7 @@ TellsWholeAudit o logs text = (cs : List Earlier) → WereLeft cs o.repository l
 
 -- ---- what came of a question
 
--- what is told is that, over whatever past
+-- what is reported is that, over whatever past
 abbrev pub IsLawful : Question → List (List Effect) → Outcome → Type 0
 IsLawful (AsOf r at) logs (Told text) = TellsPlainMap r at.stamp logs text
 IsLawful (Audit o) logs (Told text) = TellsWholeAudit o logs text
@@ -79,7 +79,7 @@ IsLawful q logs (Refused line) = Unit {0}
 IsLawful q logs (Fallen line) = Unit {0}
 IsLawful q logs NoMemory = Unit {0}
 
--- a question for the map asks for it as of the first pseudotime of a stamp
+-- a question for the map is for it as of the first pseudotime of a stamp
 abbrev pub IsOfStamp : Question → Type 0
 IsOfStamp (AsOf r at) = at ≡ first_of at.stamp
 IsOfStamp (Audit o) = Unit {0}

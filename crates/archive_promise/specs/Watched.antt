@@ -21,7 +21,7 @@ pub record TotalsWereLeft (es : List (Event ℤ)) (rule : Rule) (r : ℕ) (logs 
   pub watches : AreWatches (pos 0) (next_of rule) r es
   pub totals : (o : ObjectId) → last_total log o ≡ totals_of es o
 
--- The text lists in rising order the totals of the objects with a settled version: what the rule makes of all of these. Each is of all committed
+-- The text lists in rising order the totals of the objects with a stable version: what the rule makes of all of these. Each is of all committed
 -- versions of its object that ever stood, up to its cursor.
 pub record TellsTotals (es : List (Event ℤ)) (rule : Rule) (r : ℕ) (text : List ℕ) : Type 0 where
   pub list : List (Moved ℤ)

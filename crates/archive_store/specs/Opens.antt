@@ -1,4 +1,4 @@
--- The undecided version below a pseudotime that is told first. Marks stand newest first.
+-- The undecided version below a pseudotime that is reported first. Marks stand newest first.
 use Rattle.std.specs.Prelude.{Bool, List, [], ◌∷◌, Option, Some, None, ◌&&◌, not, if◌then◌else◌}
 use Rattle.std.specs.Ordering.{is_lt}
 use Rattle.pseudo_time.specs.StampParts.{StampParts}
@@ -16,7 +16,7 @@ abbrev pub lesser : Start → Option Start → Start
 lesser s None = s
 lesser s (Some t) = if is_lt (start_cmp t s) then t else s
 
--- below t, and not settled so
+-- below t, and not decided so
 abbrev pub is_unsettled : (StampParts → Option Bool) → TimeParts → TimeParts → Bool
 is_unsettled settled t x = lt x t && not (is_settled (settled x.stamp))
 

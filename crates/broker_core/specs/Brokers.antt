@@ -14,7 +14,7 @@ use Rattle.broker_core.specs.Owed.{done}
 use Rattle.broker_core.specs.Turns.{Desk, Input, desk_at, desk_turn, note, hears, say, settle_up, fuel}
 pub use Rattle.broker_core.specs.Parts.{BrokerParts, opened_broker, book_of}
 
--- the turn has the effects and the messages of the desk, and the broker goes on from there
+-- the turn has the effects and the messages of the desk, and the broker resumes from there
 pub record Gives (desk : Desk) (turn : Turn) (old new : BrokerParts) : Type 0 where
   pub effects : turn.effects ≡ reverse desk.added
   pub outs : turn.outs ≡ desk.outs

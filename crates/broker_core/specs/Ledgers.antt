@@ -73,7 +73,7 @@ pub record IsLedger (number : ℕ) (acts : List ActSpec) (n : Notes) (answers : 
 
 -- ---- the effects that are added
 
--- there is a try, and its script asks for this answer
+-- there is a try, and its script waits for this answer
 pub record IsAskedFor (acts : List ActSpec) (n : Notes) (answers : List Given) (g : Given) : Type 0 where
   pub tried : n.tries ≢ 0
   pub last : n.last ≢ None

@@ -19,7 +19,7 @@ pub enum Given {
     Stored,
 }
 
-// Gives the run the value that it asks for.
+// Gives the run the value that it waits for.
 fn give_value(alloc: Global, run: &mut Run, value: &Value) -> Result<(), AllocError>
     requires { IsAnswerTo (stop (denote (block run.old.script)) run.old.answers) (meaning.Got value.now) }
     ensures script { run.new.script ≡ run.old.script }

@@ -199,7 +199,7 @@ fn while_deciding(index: u32, last: &Last, phase: &Phase, heard: &Heard, message
     }
 }
 
-// Whether the script is finished, where the message is a decision that asks for it.
+// Whether the script is finished, where the message is a decision that requires it.
 fn is_finished_for(ledger: &mut Ledger, message: &Message) -> Result<bool, AllocError>
     requires { ledger.old.notes.tries ≢ 0 }
     ensures same { ledger.new ≡ ledger.old }

@@ -1,4 +1,4 @@
-//! What the laboratory is told and what it loses.
+//! The words of the laboratory and what it loses.
 
 use crate::faults::CaseFault;
 use laboratory::{LabFates, LabFault, lab_words};
@@ -13,7 +13,7 @@ pub fn barred<'a>(alloc: Global, text: &'a str) -> Result<Vec<&'a str>, AllocErr
     text.split('|').collect(alloc)
 }
 
-/// Says what the laboratory is told by these words.
+/// Says what these words have the laboratory do.
 pub fn tell_words(alloc: Global, words: &[&str], said: &mut String) -> Result<(), CaseFault> {
     match lab_words(alloc, words) {
         Ok(lab) => {

@@ -1,4 +1,4 @@
--- What a rule makes of an object's settled versions. A list of marks stands newest first.
+-- What a rule makes of an object's stable versions. A list of marks stands newest first.
 use Rattle.std.specs.Prelude.{Bool, true, false, List, [], ◌∷◌, map, filter, Option, Some, None, Result, Ok, Err, ◌&&◌}
 use Rattle.pseudo_time.specs.TimeParts.{TimeParts}
 use Rattle.pseudo_time.specs.Order.{lt}

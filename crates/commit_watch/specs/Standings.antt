@@ -46,14 +46,14 @@ abbrev pub earlier : TimeParts → Option TimeParts → TimeParts
 earlier x None = x
 earlier x (Some u) = if lt u x then u else x
 
--- what is asked: how stamps were settled, the floor, the end, and how far each object was folded
+-- what is asked: how stamps were decided, the floor, the end, and how far each object was folded
 pub record Terms : Type 0 where
   pub settled : StampParts → Option Bool
   pub floor : Option TimeParts
   pub below : Option TimeParts
   pub cursor : ObjectId → Option TimeParts
 
--- a version to be folded, where it is settled for good
+-- a version to be folded, where it is stable
 abbrev pub is_wanted : Option TimeParts → Option TimeParts → TimeParts → Bool
 is_wanted cursor below x = is_past cursor x && is_below below x
 
@@ -88,7 +88,7 @@ abbrev pub is_stopped : Option TimeParts → TimeParts → Bool
 is_stopped None x = false
 is_stopped (Some u) x = not (lt x u)
 
--- the versions that are settled for good
+-- the stable versions
 abbrev pub settled_in : StandingParts → List Version
 settled_in s = filter (λ v. not (is_stopped s.undecided v.start)) s.versions
 

@@ -9,7 +9,7 @@ use Rattle.commit_watch.specs.declared.versions.Version.{Version}
 use Rattle.commit_watch.specs.declared.moved.Moved.{Moved}
 use Rattle.commit_watch.specs.Folds.{version_of, moved_over}
 
--- the settled versions of the object up to the cursor, each once, in rising start
+-- the stable versions of the object up to the cursor, each once, in rising start
 abbrev pub folded_so_far : List Mark → ObjectId → TimeParts → List Version
 folded_so_far m o cursor = map (version_of o) (filter (λ q. not (lt cursor q.start)) (settled_versions m o))
 

@@ -37,7 +37,7 @@ fn next_total<R: WatchRule, F: Callback<R>>(
     call.next(&first, version)
 }
 
-// What became of the object by its settled versions. None where it has none.
+// What became of the object by its stable versions. None where it has none.
 fn fold<R: WatchRule, F: Callback<R>>(
     alloc: Global,
     call: &F,

@@ -1,4 +1,4 @@
-//! Watches: totals over the settled versions of each object, kept by a stored callback.
+//! Watches: totals over the stable versions of each object, kept by a stored callback.
 #![tactic(auto)]
 
 mod callbacks;

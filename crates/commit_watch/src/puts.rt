@@ -6,9 +6,9 @@ use value_form::ObjectId;
 pub struct Put {
     pub object: ObjectId,
     pub start: PseudoTime,
-    /// Whether its stamp was committed, where it was settled.
+    /// Whether its stamp was committed, where it was decided.
     pub settled: Option<bool>,
-    /// It is to be folded, where it is settled for good.
+    /// It is to be folded, where it is stable.
     pub is_wanted: bool,
     /// It stands where others may have been given up before they were folded.
     pub is_lost: bool,

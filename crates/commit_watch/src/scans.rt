@@ -19,7 +19,7 @@ use std::alloc::{AllocError, Global};
 use std::collections::BTreeMap;
 use value_form::{ObjectId, Value};
 
-// Reads how a stamp was settled. The first time counts.
+// Reads how a stamp was decided. The first time counts.
 #[tactic(auto, unfolding(object_history::specs::History::settle_of))]
 fn read_settle(settles: &mut Settles, mark: &Mark) -> Result<(), AllocError>
     ensures { (m : List Mark) → ((p : StampParts) → finite.get settles.old p ≡ settle_of m p) →
@@ -38,7 +38,7 @@ fn read_settle(settles: &mut Settles, mark: &Mark) -> Result<(), AllocError>
     }
 }
 
-/// How the stamps among these marks were settled.
+/// How the stamps among these marks were decided.
 pub fn settles_of(alloc: Global, marks: &[Mark]) -> Result<Settles, AllocError>
     ensures { IfOk result (λ s. (p : StampParts) → finite.get s p ≡ settle_of (reverse marks.now) p) }
 {

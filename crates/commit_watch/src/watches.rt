@@ -101,7 +101,7 @@ fn put_all<T: Drop>(moved: &mut Vec<Moved<T>>, changes: VecDeque<Moved<T>>)
     }
 }
 
-/// Totals over the settled versions of each object, by a rule that a stored callback follows.
+/// Totals over the stable versions of each object, by a rule that a stored callback follows.
 /// Contracts see the list of the objects that moved, each once, in rising order.
 #[derive(Drop)]
 pub struct Watches<R: WatchRule, F: Callback<R> + Drop> {
@@ -162,7 +162,7 @@ impl<R: WatchRule, F: Callback<R> + Drop> Watches<R, F> {
         Ok(())
     }
 
-    /// Folds, for each object of the marks, its settled versions above its cursor and below the end,
+    /// Folds, for each object of the marks, its stable versions above its cursor and below the end,
     /// in rising order. The marks stand oldest first. After a refusal all is as before; it tells of
     /// the least object that is refused.
     pub fn advance(&mut self, marks: &[Mark], below: Option<PseudoTime>) -> Result<(), WatchFault>

@@ -4,3 +4,4 @@ pub mod OnceLemmas
 pub mod RowLemmas
 pub mod StartLemmas
 pub mod VolumeLemmas
+pub mod Names

@@ -1,23 +1,8 @@
 -- The rows that the code makes of what it keeps are those of the marks.
 use Rattle.std.proofs.Common.{◌≡◌, ℕ, Bool, true, false, List, [], ◌∷◌, ◌++◌, map, reverse, refl, sym, ◌∙◌, ap, Option, Some, None, if◌then◌else◌, ◌&&◌, not}
-use Rattle.std.specs.List.{filter}
-use Rattle.std.specs.BTreeSet.{BTreeSet, contains}
-use Rattle.std.proofs.lemmas.List.{reverse-append}
-use Rattle.pseudo_time.specs.TimeParts.{TimeParts, time_cmp}
-use Rattle.value_form.specs.declared.objects.ObjectId.{ObjectId}
-use Rattle.value_form.specs.declared.values.Value.{Value}
-use Rattle.object_history.specs.declared.marks.Mark.{Mark}
-use Rattle.object_history.specs.History.{Seen, top, floor_of, latest, stretched}
+use Rattle.folder_look.proofs.Names.{filter, BTreeSet, contains, reverse-append, TimeParts, time_cmp, ObjectId, Value, Mark, Seen, floor_of, falling, versions, Choice, ObjectRow, VersionRow, Version, has_start, row_of, is_shown, rows_with, starts_at, told_of, Holds, told_row, is_told_in}
+use Rattle.object_history.specs.History.{top, latest, stretched}
 use Rattle.object_history.specs.Kept.{Settled}
-use Rattle.report_writer.specs.Histories.{falling, versions}
-use Rattle.folder_look.specs.declared.choices.Choice.{Choice}
-use Rattle.folder_look.specs.declared.looks.ObjectRow.{ObjectRow}
-use Rattle.folder_look.specs.declared.looks.VersionRow.{VersionRow}
-use Rattle.report_writer.specs.declared.versions.Version.{Version}
-use Rattle.folder_look.specs.Choices.{has_start}
-use Rattle.folder_look.specs.Rows.{row_of, is_shown, rows_with, starts_at}
-use Rattle.report_writer.specs.Tellings.{told_of, Holds}
-use Rattle.folder_look.specs.Told.{told_row, is_told_in}
 
 map-append : (f : Seen → Version) (xs ys : List Seen) → map f (xs ++ ys) ≡ map f xs ++ map f ys
 map-append f [] ys = refl

@@ -2,22 +2,14 @@
 use Rattle.std.proofs.Common.{◌≡◌, ℕ, ◌+◌, Bool, true, false, List, [], ◌∷◌, ◌++◌, map, take, refl, sym, ◌∙◌, ap, subst, ◌||◌, Result, Ok, Err, OnOk, ◌<◌, length, get_or}
 use Rattle.std.specs.Prelude.{IfOk}
 use Rattle.std.specs.BTreeMap.{is_at}
-use Rattle.std.specs.BTreeSet.{BTreeSet, contains, insert_key}
+use Rattle.folder_look.proofs.Names.{BTreeSet, contains, same_time, TimeParts, time_cmp, ObjectId, Mark, Seen, falling, told_of, Version, starts_at}
+use Rattle.std.specs.BTreeSet.{insert_key}
 use Rattle.std.specs.List.{list_any}
 use Rattle.std.specs.Ordering.{match_ordering}
 use Rattle.std.specs.declared.cmp.Ordering.{Ordering}
 use Rattle.std.specs.declared.cmp.Ordering.TheVariants.{Less, Equal, Greater}
 use Rattle.std.proofs.lemmas.List.Folds.{list_any-append}
-use Rattle.pseudo_time.specs.Order.{same_time}
-use Rattle.pseudo_time.specs.TimeParts.{TimeParts, time_cmp}
 use Rattle.pseudo_time.proofs.OrderLemmas.{time_cmp-exact}
-use Rattle.value_form.specs.declared.objects.ObjectId.{ObjectId}
-use Rattle.object_history.specs.declared.marks.Mark.{Mark}
-use Rattle.object_history.specs.History.{Seen}
-use Rattle.report_writer.specs.Histories.{falling}
-use Rattle.report_writer.specs.Tellings.{told_of}
-use Rattle.report_writer.specs.declared.versions.Version.{Version}
-use Rattle.folder_look.specs.Rows.{starts_at}
 use Rattle.folder_look.proofs.Appends.{take-one}
 
 or-again : (a b : Bool) → (a || b) ≡ (a || (a || b))

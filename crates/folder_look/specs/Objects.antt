@@ -1,4 +1,4 @@
--- The objects of a folder, and the logs that each is told by. Logs stand oldest first, media in the order of their volumes.
+-- The objects of a folder, and the logs that each is read from. Logs stand oldest first, media in the order of their volumes.
 use Rattle.std.specs.Prelude.{ℕ, ◌-◌, Bool, true, false, List, [], ◌∷◌, length, take, ◌==◌, ◌&&◌, if◌then◌else◌}
 use Rattle.std.specs.List.{filter}
 use Rattle.std.specs.BTreeSet.{insert_key}

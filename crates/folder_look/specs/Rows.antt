@@ -17,7 +17,7 @@ use Rattle.folder_look.specs.Choices.{has_start}
 
 -- ---- a volume
 
--- a version from its start to how far it was read, how its stamp was settled, and which older volume alone has it
+-- a version from its start to how far it was read, how its stamp was decided, and which older volume alone has it
 abbrev pub row_of : Option ℕ → ObjectId → List Mark → Seen → VersionRow
 row_of older o m q = record { start = q.start; end = reach m o (Some q); state = settle_of m q.start.stamp; value = q.value; older = older }
 

@@ -83,7 +83,7 @@ fn strip_of<M: Medium>(alloc: Global, medium: &mut M) -> Result<Strip, StripFaul
     Ok(strip)
 }
 
-/// What a medium holds: how its pages stand, and its log. A damaged one is told with its page.
+/// What a medium holds: how its pages stand, and its log. A damaged one is reported with its page.
 pub fn look_at<M: Medium>(
     alloc: Global,
     kind: NodeKind,

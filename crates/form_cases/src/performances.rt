@@ -95,7 +95,7 @@ fn at_once(alloc: Global, text: &[u8], held: &[(ObjectId, i64)]) -> Result<Strin
     told(alloc, transcript.as_slice(), ending, after)
 }
 
-// Answers the next request by the objects. How the script ended, where it asks for nothing more.
+// Answers the next request by the objects. How the script ended, where it requests nothing more.
 fn answered(
     alloc: Global,
     run: &mut Run,

@@ -143,7 +143,7 @@ fn tell(
     }
 }
 
-/// Carries out the lines of a text. Each is told, and behind it what came of it.
+/// Carries out the lines of a text. Each is printed, and behind it what came of it.
 pub fn carry_all(alloc: Global, text: &str, said: &mut String) -> Result<(), AllocError> {
     let mut reading = Reading::new(alloc);
     for line in text.lines() {

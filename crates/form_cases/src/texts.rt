@@ -8,7 +8,7 @@ use script_form::{ParseFault, print_row, read_row};
 use std::alloc::Global;
 use token_form::{LineFault, Token, tokens_of};
 
-/// A text of at least so many lines is told by how many they are.
+/// Of a text of at least so many lines it is said how many they are.
 const MANY: usize = 100;
 
 // The fault of a line that isn't a list of tokens.

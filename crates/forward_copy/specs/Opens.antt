@@ -34,7 +34,7 @@ abbrev pub lesser : Version → Option Version → Version
 lesser v None = v
 lesser v (Some w) = if is_lt (version_cmp w v) then w else v
 
--- the first, with this version of an attempt that was settled so
+-- the first, with this version of an attempt that was decided so
 abbrev pub when_open : Option Bool → Version → Option Version → Option Version
 when_open None v first = Some (lesser v first)
 when_open (Some c) v first = first

@@ -1,4 +1,4 @@
--- What the code keeps of how attempts were settled. Logs stand newest first.
+-- What the code keeps of how attempts were decided. Logs stand newest first.
 use Rattle.std.specs.Prelude.{◌≡◌, Bool, List, Option, Some, None, if◌then◌else◌}
 use Rattle.std.specs.FinMap as finite
 use Rattle.pseudo_time.specs.StampParts.{StampParts}
@@ -9,7 +9,7 @@ use Rattle.object_history.specs.History.{or_else}
 use Rattle.object_history.specs.Kept.{Settled}
 use Rattle.repository_log.specs.Logs.{is_commit, known}
 
--- how an attempt was settled, once this was decided: the first decision counts
+-- how an attempt was decided, once it was: the first decision counts
 abbrev pub with_decision : Option (StampParts × Decision) → StampParts → Option Bool → Option Bool
 with_decision None s before = before
 with_decision (Some e) s before = if same_stamp e.0 s then or_else before (is_commit e.1) else before

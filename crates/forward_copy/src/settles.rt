@@ -20,7 +20,7 @@ fn settle(settles: &mut Settles, effect: &Effect) -> Result<(), AllocError>
     settles.put(decided.0, is_commit(decided.1))
 }
 
-/// How the log's attempts were settled. The log stands oldest first.
+/// How the log's attempts were decided. The log stands oldest first.
 pub fn settles_of(alloc: Global, log: &[Effect]) -> Result<Settles, AllocError>
     ensures { IfOk result (AreKnown (reverse log.now)) }
 {

@@ -83,7 +83,7 @@ fn said_of_write(step: WriteStep) -> Said {
     }
 }
 
-// Settles a stamp that isn't settled yet, whatever the histories tell.
+// Settles a stamp that isn't decided yet, whatever the histories tell.
 fn settle_first<H: Histories>(
     histories: &mut H,
     stamp: Stamp,

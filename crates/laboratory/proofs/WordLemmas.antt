@@ -35,13 +35,6 @@ module _ (E : Type 0) (G : List ℕ → Result ℕ E → Type 0) (f : Found) (na
         high = subst (λ k. k ≤ most) (sym same) got.3;
       }
 
-  -- and some is read
-  pub number_some : ReadsOne G (without_minus h.text) None → ⊥
-  number_some read =
-      let got = signed_reads E G 32 least most h.text None read parses fits h.passed in
-      let bad : None ≡ Some got.0 = got.1 in
-      cc
-
 -- ---- the command's answer
 
 -- the command is one whose matches and faults are known

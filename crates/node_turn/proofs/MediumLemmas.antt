@@ -61,10 +61,6 @@ none-new old new was is same now settled c left = subst was (sym (settled.only c
 abbrev pub HasDamage : (Image → Type 0) → NodeId → Base → ℕ → Type 0
 HasDamage images n b page = (image : Image) × images image × IsDamageOf b n image page
 
--- a page that no log has there
-pub damage-told : (images : Image → Type 0) (n : NodeId) (b : Base) (page : ℕ) → (image : Image) × images image × (storage image ≡ Err page) → HasDamage images n b page
-damage-told images n b page d = (d.0, d.1, inl d.2)
-
 -- ---- appends
 
 -- what an append leaves of the medium
@@ -143,29 +139,6 @@ module _ {K M : Type 0} {w : Media M} {m : Meanings K M} (old new : K) (medium :
           → IfErr r (λ f. (number : ℕ) → f ≡ adding.Full number → IsFull w m (m.parts old).medium effects number)
       fills (Ok x) h = tt
       fills (Err f) h = λ number e. record { all = (h number e).0; blank = (h number e).1 }
-
-  -- the medium was opened, and its log found
-  pub reopened-all : (log : List Effect) (count : ℕ) → count ≡ length log → (m.parts new).able ≡ true → m.owes new [] → w.faults medium ≤ w.faults (m.parts new).medium
-      → (IsTrue w.tells → w.may_leave medium (w.reads (m.parts new).medium)) → (IsTrue w.tells → storage (w.reads (m.parts new).medium) ≡ Ok log) → (IsTrue w.tells → Only (w.reads (m.parts new).medium) (w.may_leave (m.parts new).medium))
-      → (IsTrue w.tells → NoMore (w.may_leave medium) (w.may_leave (m.parts new).medium)) → (IsTrue w.tells → LeavesOnly w.stages medium (m.parts new).medium (w.may_leave medium)) → (IsTrue w.tells → (b : Base) → m.fits b old → m.lives b new (opened_life b.start log))
-      → IsReopened w m old new (Ok count)
-  reopened-all log count size able owed later was found only images moments has = record {
-    same = record { node = node; run = run; later = subst (λ x. w.faults x ≤ w.faults (m.parts new).medium) (sym is) later };
-    able = (able, owed);
-    found = λ t. record {
-      image = w.reads (m.parts new).medium;
-      left = subst (λ x. w.may_leave x (w.reads (m.parts new).medium)) (sym is) (was t);
-      log = log;
-      is = found t;
-      size = sym size;
-      only = λ c left. ap storage (only t c left) ∙ found t;
-      has = has t;
-    };
-    images = λ t. subst (λ x. NoMore (w.may_leave x) (w.may_leave (m.parts new).medium)) (sym is) (images t);
-    at_moments = λ t. subst (λ x. LeavesOnly w.stages x (m.parts new).medium (w.may_leave x)) (sym is) (moments t);
-    cause = λ e. absurd (cc e);
-    damaged = λ t b f page e. absurd (cc e);
-  }
 
   -- a fault
   pub reopened-none : (f : OpenFault) → w.faults medium ≤ w.faults (m.parts new).medium → (IsTrue w.tells → NoMore (w.may_leave medium) (w.may_leave (m.parts new).medium)) → (IsTrue w.tells → LeavesOnly w.stages medium (m.parts new).medium (w.may_leave medium)) → (f ≡ opening.Medium → Rose (w.faults medium) (w.faults (m.parts new).medium))

@@ -11,14 +11,6 @@ use Rattle.world_core.specs.Walks.{crashed_life, with_given}
 pub kept-prefix : (l : Life) (c : Image) → HasPrefix l.gated l.fresh c → IsKept l c
 kept-prefix l c has = record { kept = has.kept; few = has.few; is = has.is }
 
--- what is given adds open effects, none of which is there
-pub kept-given : (l : Life) (g : Given) (c : Image) → IsKept l c → IsKept (with_given l g) c
-kept-given l g c k = record {
-  kept = k.kept;
-  few = omega (arith, k.few, length-append l.fresh g.effects);
-  is = k.is ∙ ap (λ (es : List Effect). Ok (l.gated ++ es)) (sym (take-append-le k.kept l.fresh g.effects k.few));
-}
-
 -- all open effects are there, before a gate and behind it
 pub kept-whole : (l : Life) (c : Image) → storage c ≡ Ok (all_effects l) → IsKept l c
 kept-whole l c is = record { kept = length l.fresh; few = omega arith; is = is ∙ ap (λ (es : List Effect). Ok (l.gated ++ es)) (sym (take_all (length l.fresh) l.fresh (omega arith))) }

@@ -1,4 +1,4 @@
--- What a table knows of its histories beside the store: their marks, how stamps are settled, and the headers.
+-- What a table knows of its histories beside the store: their marks, how stamps are decided, and the headers.
 use Rattle.std.specs.Prelude.{◌≡◌, ℕ, Bool, true, false, List, [], ◌∷◌, ◌++◌, Option, Some, None, reverse, if◌then◌else◌}
 use Rattle.std.specs.FinMap as finite
 use Rattle.pseudo_time.specs.StampParts.{StampParts}

@@ -23,7 +23,7 @@ use pseudo_time::{PseudoTime, Stamp};
 use std::alloc::{AllocError, Global};
 use value_form::{ObjectId, Value};
 
-/// How stamps are settled, and the headers of the objects.
+/// How stamps are decided, and the headers of the objects.
 #[derive(Drop)]
 pub struct Index {
     pub settles: Settles,
@@ -125,7 +125,7 @@ impl Index {
             IsIndexed (mark.Floor at ∷ m) self.now.settles self.now.heads }
     {}
 
-    /// How the attempt was settled.
+    /// How the attempt was decided.
     pub fn settled(&self, stamp: Stamp) -> Option<bool>
         ensures { (m : List Mark) → IsIndexed m self.now.settles self.now.heads → result ≡ settle_of m stamp }
     {

@@ -58,7 +58,7 @@ fn keep_mark(
     Ok(())
 }
 
-/// Keeps copies of the marks of odd objects, of how stamps are settled, and of the floors.
+/// Keeps copies of the marks of odd objects, of how stamps are decided, and of the floors.
 pub fn keep_marks(
     alloc: Global,
     heads: &Heads,

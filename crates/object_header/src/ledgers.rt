@@ -34,7 +34,7 @@ use std::slice::from_ref;
 use value_form::{ObjectId, Value};
 
 /// What a table knows of its histories beside the store. Contracts see the log that stands in the
-/// store, the marks that don't yet, how stamps are settled, and the headers.
+/// store, the marks that don't yet, how stamps are decided, and the headers.
 #[derive(Drop)]
 pub struct Ledger {
     alloc: Global,
@@ -124,14 +124,14 @@ impl Ledger {
         })
     }
 
-    /// How the attempt was settled.
+    /// How the attempt was decided.
     pub fn settled(&self, stamp: Stamp) -> Option<bool>
         ensures { result ≡ settle_of (content self.now) stamp }
     {
         self.index.settled(stamp)
     }
 
-    /// How stamps are settled.
+    /// How stamps are decided.
     pub fn settles(&self) -> &Settles
         ensures { result.now ≡ self.now.settles }
     {

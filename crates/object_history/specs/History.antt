@@ -19,13 +19,13 @@ at_put rule (Stretch o x) below = below
 at_put rule (Settle s c) below = below
 at_put rule (Floor z) below = below
 
--- ---- settled stamps
+-- ---- decided stamps
 
 abbrev pub or_else : {A : Type 0} → Option A → A → Option A
 or_else None c = Some c
 or_else (Some d) c = Some d
 
--- how a stamp was settled: its first Settle counts
+-- how a stamp was decided: its first Settle counts
 unfoldable pub settle_of : List Mark → StampParts → Option Bool
 settle_of [] s = None
 settle_of (Put o x v ∷ m) s = settle_of m s
@@ -45,7 +45,7 @@ abbrev pub is_committed : Option Bool → Bool
 is_committed None = false
 is_committed (Some c) = c
 
--- a put with this start isn't dead: its stamp wasn't settled as aborted
+-- a put with this start isn't dead: its stamp wasn't decided as aborted
 abbrev pub alive : List Mark → TimeParts → Bool
 alive m x = is_alive (settle_of m x.stamp)
 

@@ -18,7 +18,7 @@ use Rattle.object_history.specs.History.{Seen, at_put, floor_of, settle_of, is_a
 
 -- ---- what is kept
 
--- the settled stamps
+-- the decided stamps
 abbrev pub Settled : Type 0
 Settled = finite.FinMap stamp_cmp Bool
 

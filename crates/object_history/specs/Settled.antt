@@ -1,4 +1,4 @@
--- The settled versions of an object that nothing can change any more.
+-- The stable versions of an object: nothing can change them any more.
 use Rattle.std.specs.Prelude.{◌≡◌, Bool, List, [], ◌∷◌, None, ◌&&◌, not, if◌then◌else◌}
 use Rattle.pseudo_time.specs.TimeParts.{TimeParts}
 use Rattle.pseudo_time.specs.Order.{lt}

@@ -81,7 +81,7 @@ IsOnFloor m t = (e : TimeParts) → floor_of m ≡ Some e → lt t e ≡ false
 abbrev pub Viewed : List Mark → ObjectId → TimeParts → Value → Type 0
 Viewed m o t v = (value_of (views m o t) ≡ v) × Firm m t (views m o t) × Shut m o t (views m o t)
 
--- the mark fits the marks below it: an accepted write of an attempt that isn't settled, or a first Settle, or any Stretch
+-- the mark fits the marks below it: an accepted write of an attempt that isn't decided, or a first Settle, or any Stretch
 abbrev pub Fits : List Mark → Mark → Type 0
 Fits m (Put o x v) = (settle_of m x.stamp ≡ None) × (write_step m o x v ≡ write.Put)
 Fits m (Stretch o x) = Unit {0}

@@ -85,7 +85,7 @@ pub trait Histories: Drop {
         ensures cause { HasHistoryCause (faults self.old) (faults self.new) (damage self.old) (damage self.new) result }
         ensures below { below self.new ≡ below self.old };
 
-    /// How the attempt was settled. None where it wasn't.
+    /// How the attempt was decided. None where it wasn't.
     fn settled(&self, stamp: Stamp) -> Option<bool>
         ensures { result ≡ settle_of (content self.now) stamp };
 }

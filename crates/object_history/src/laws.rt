@@ -15,7 +15,7 @@ ghost use Rattle.object_history.specs.Answers.{read_step, after_read, write_step
 ghost use Rattle.object_history.specs.Views.{views, Starts, IsVersion, Distinct, Covers, IsOnFloor, Viewed, Fits, Grown};
 ghost use Rattle.object_history.specs.Settled.{settled_versions, Adds};
 
-/// What is settled stays settled, and as it was.
+/// What is decided stays decided, and as it was.
 pub fn settled_stays()
     ensures { (m : List Mark) (f : Mark) (s : StampParts) (c : Bool) → settle_of m s ≡ Some c →
         settle_of (f ∷ m) s ≡ Some c }
@@ -90,7 +90,7 @@ pub fn write_answers()
         (lt x t ≡ false) × ((w : Value) × Has (mark.Put o x w) m) }
 {}
 
-/// Each call of histories leaves the settled versions of an object a prefix of the new ones.
+/// Each call of histories leaves the stable versions of an object a prefix of the new ones.
 pub fn settled_versions_only_grow()
     ensures { (m : List Mark) (f : Mark) (o : ObjectId) → Adds m f →
         (extra : List Seen) × (settled_versions (f ∷ m) o ≡ settled_versions m o ++ extra) }

@@ -12,7 +12,7 @@ use std::collections::BTreeMap;
 use std::marker::Model;
 use value_form::ObjectId;
 
-/// How stamps were settled: a finite map to whether they were committed.
+/// How stamps were decided: a finite map to whether they were committed.
 #[derive(Drop)]
 pub struct Settles {
     entries: BTreeMap<Stamp, bool>,
@@ -33,7 +33,7 @@ impl Model for Settles {
 }
 
 impl Settles {
-    /// No stamp is settled.
+    /// No stamp is decided.
     pub fn new(alloc: Global) -> Settles
         ensures { result ≡ finite.empty }
     {
@@ -42,7 +42,7 @@ impl Settles {
         }
     }
 
-    /// How the stamp was settled.
+    /// How the stamp was decided.
     pub fn get(&self, stamp: Stamp) -> Option<bool>
         ensures { result ≡ finite.get self.now stamp }
     {

@@ -20,7 +20,7 @@ ghost use Rattle.object_retirement.specs.Stood.{all_stood};
 ghost use Rattle.object_retirement.specs.Forward.{forwarded};
 ghost use Rattle.repository_log.specs.Logs.{marks, record_of};
 
-/// A retirement leaves attempts settled as they were, versions of an object with different starts, and
+/// A retirement leaves attempts decided as they were, versions of an object with different starts, and
 /// the mark as the floor; and what a reader at or above the mark viewed it views still.
 pub fn retirement_keeps_views()
     ensures settled { (m : List Mark) (at : TimeParts) (s : StampParts) → settle_of (retired m at) s ≡ settle_of m s }

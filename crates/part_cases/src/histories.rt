@@ -24,7 +24,7 @@ fn told<T: Debug + Drop>(
     }
 }
 
-// Settles an attempt that isn't settled yet.
+// Settles an attempt that isn't decided yet.
 fn settle_first<H: Histories>(
     histories: &mut H,
     stamp: Stamp,
@@ -39,7 +39,7 @@ fn settle_first<H: Histories>(
     }
 }
 
-// Of a settling nothing is told but its fault.
+// Of a settling nothing is printed but its fault.
 fn settle<H: Histories>(
     alloc: Global,
     histories: &mut H,

@@ -53,7 +53,7 @@ pub fn medium(alloc: Global, pages: u32, stops: Vec<Stop>) -> Result<Sound, Case
     Ok(Sound { medium })
 }
 
-// What is told of a call that failed.
+// What is printed of a call that failed.
 fn failed(alloc: Global, medium: MemoryMedium) -> Result<(Storage, String), CaseFault> {
     Ok((Storage::Failed(medium), format!(in alloc; "  medium\n")?))
 }

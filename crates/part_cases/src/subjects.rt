@@ -52,7 +52,7 @@ fn carry_one<S: Subject>(
     }
 }
 
-/// Carries out the lines of a text. Each is told, and behind it what came of it.
+/// Carries out the lines of a text. Each is printed, and behind it what came of it.
 pub fn carry_all<S: Subject>(
     alloc: Global,
     text: &str,

@@ -61,7 +61,7 @@ fn is_beginning(words: &[&str]) -> bool {
 }
 
 impl Tables {
-    // What a line that begins anew goes on from.
+    // What a line that begins anew resumes from.
     fn begun(self, alloc: Global) -> Storage {
         match self {
             Tables::Storage(storage) => storage,

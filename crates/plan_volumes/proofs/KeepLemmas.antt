@@ -1,22 +1,8 @@
 -- The volumes of all nodes are handed back.
 use Rattle.std.proofs.Common.{◌≡◌, ◌+◌, ℕ, zero, suc, List, [], ◌∷◌, ◌++◌, length, length-append, map, append_assoc, append-nil, get_or, slice_set, Option, Some, None, refl, ap, sym, subst, ◌∙◌, arith}
-use Rattle.std.proofs.lemmas.List.{length-map, map-append}
-use Rattle.std.specs.List.{AllZip}
-use Rattle.pseudo_time.specs.declared.nodes.NodeId.{NodeId}
-use Rattle.medium_port.specs.declared.shelves.MediumName.{MediumName}
-use Rattle.plan_form.specs.declared.plans.Plan.{Plan}
-use Rattle.run_volumes.specs.Opening.{Opening}
-use Rattle.run_volumes.specs.Opening.TheVariants.{Open, Shut, Wanting}
-use Rattle.run_volumes.specs.Media.{IsBack, Media}
-use Rattle.run_volumes.specs.Openings.{HasOpened, medium_in}
-use Rattle.run_volumes.specs.Places.{node_at}
-use Rattle.run_volumes.specs.Kept.{kept_as, kept_under}
-use Rattle.run_volumes.specs.Shelves.{first_names, volume_name}
-use Rattle.run_volumes.specs.declared.kept.Kept.{Kept}
-use Rattle.run_volumes.proofs.ShelfLemmas.{keep-joined, names-long}
-use Rattle.plan_volumes.specs.Volumes.{AreNodes, NodeVolumes, all_left, all_taken, left_of, names_from, work_taken, working}
-use Rattle.plan_volumes.specs.Asides.{IsAside}
-use Rattle.plan_volumes.specs.declared.asides.Aside.{Aside}
+use Rattle.plan_volumes.proofs.Names.{length-map, map-append, AllZip, NodeId, MediumName, Plan, Opening, Open, Shut, Wanting, Media, HasOpened, medium_in, node_at, kept_as, kept_under, first_names, volume_name, Kept, names-long, AreNodes, NodeVolumes, all_left, all_taken, left_of, names_from, work_taken, working, IsAside, Aside}
+use Rattle.run_volumes.specs.Media.{IsBack}
+use Rattle.run_volumes.proofs.ShelfLemmas.{keep-joined}
 use Rattle.plan_volumes.proofs.ApartLemmas.{names-more, set-long, zip-long}
 
 -- ---- lists that end with one more

@@ -5,3 +5,4 @@ pub use Rattle.run_volumes.proofs.BlankImageLemmas
 pub use Rattle.run_volumes.proofs.OrderLemmas
 pub use Rattle.run_volumes.proofs.ShelfLemmas
 pub use Rattle.run_volumes.proofs.StandLemmas
+pub mod Names

@@ -1,21 +1,10 @@
 -- The volumes of one node among those of all.
 use Rattle.std.proofs.Common.{◌≡◌, ◌<◌, ◌+◌, ◌==◌, inl, inr, ℕ, zero, suc, Bool, true, false, List, [], ◌∷◌, ◌++◌, length, map, slice_get, slice_set, Option, Some, refl, ap, sym, subst, ◌∙◌, arith}
-use Rattle.std.proofs.lemmas.List.{length-map}
-use Rattle.std.specs.List.{AllZip}
+use Rattle.plan_volumes.proofs.Names.{length-map, AllZip, Has, NodeId, MediumName, Plan, Media, HasOpened, medium_in, node_at, kept_under, ShelfSight, first_names, volume_name, Kept, names-long, AreNodes, IsNodes, NodeVolumes, all_left, all_taken, left_of, names_from, working}
 use Rattle.std.proofs.lemmas.Bool.Decides.{nat_tests}
 use Rattle.std.proofs.lemmas.Option.{slice_get_within}
-use Rattle.pseudo_time.specs.Lists.{Has}
-use Rattle.pseudo_time.specs.declared.nodes.NodeId.{NodeId}
-use Rattle.medium_port.specs.declared.shelves.MediumName.{MediumName}
-use Rattle.plan_form.specs.declared.plans.Plan.{Plan}
-use Rattle.run_volumes.specs.Media.{Media}
-use Rattle.run_volumes.specs.Openings.{HasOpened, medium_in}
-use Rattle.run_volumes.specs.Places.{node_at}
-use Rattle.run_volumes.specs.Kept.{kept_under}
-use Rattle.run_volumes.specs.Shelves.{IsGiven, ShelfSight, first_names, volume_name}
-use Rattle.run_volumes.specs.declared.kept.Kept.{Kept}
-use Rattle.run_volumes.proofs.ShelfLemmas.{kept-has, names-long}
-use Rattle.plan_volumes.specs.Volumes.{AreNodes, IsNodes, NodeVolumes, all_left, all_taken, left_of, names_from, working}
+use Rattle.run_volumes.specs.Shelves.{IsGiven}
+use Rattle.run_volumes.proofs.ShelfLemmas.{kept-has}
 use Rattle.plan_volumes.proofs.ApartLemmas.{set-long, zip-long}
 use Rattle.plan_volumes.proofs.KeepLemmas.{kept-append}
 

@@ -1,4 +1,4 @@
--- A member's rules: what it gives by its log, for what it is told.
+-- A member's rules: what it gives by its log, for what reaches it.
 use Rattle.std.specs.Prelude.{ℕ, ◌+◌, List, [], ◌∷◌, map, reverse, Option, Some, None, if◌then◌else◌}
 use Rattle.pseudo_time.specs.StampParts.{StampParts}
 use Rattle.pseudo_time.specs.declared.decisions.Decision.{Decision}
@@ -82,6 +82,6 @@ on_message log moment from m = if is_broker from.kind then row log moment from m
 abbrev pub decides : List (StampParts × Decision) → List Effect
 decides es = map (λ e. effect.Decide e.0 e.1) es
 
--- a moment is heard: each record that is due expires, in stamp order, and nobody is told
+-- a moment is heard: each record that is due expires, in stamp order, and nobody is informed
 unfoldable pub on_moment : List Effect → ℕ → Given
 on_moment log moment = record { effects = decides (expiries moment (book log)); outs = [] }

@@ -73,7 +73,7 @@ impl Telling {
         }
     }
 
-    // A stamp is settled. The first time counts.
+    // A stamp is decided. The first time counts.
     fn settle(&mut self, stamp: Stamp, committed: bool) -> Result<(), AllocError>
         ensures object { OnOk result (self.new.object ≡ self.old.object) }
         ensures tells { (m : List Mark) → Tells m self.old →

@@ -5,7 +5,7 @@ use object_history::Settles;
 use pseudo_time::PseudoTime;
 use value_form::Value;
 
-/// A version of the object whose history is told.
+/// A version of the object whose history is written.
 #[derive(Drop)]
 pub struct Version {
     pub start: PseudoTime,

@@ -12,7 +12,7 @@ use Rattle.repository_core.specs.declared.waits.HeldRead.{HeldRead}
 use Rattle.repository_core.specs.declared.waits.Asker.{Asker}
 
 -- What a repository remembers beside its log, and loses in a crash. `held` are the reads that wait for a decision, by
--- their pseudotimes, in rising order; `askers` are the repositories that are to be told of a decision, in the order of
+-- their pseudotimes, in rising order; `askers` are the repositories that are to be informed of a decision, in the order of
 -- their numbers; `moment` is the last moment that it heard, or the run's start.
 pub record Mind : Type 0 where
   pub held : List (TimeParts × HeldRead)

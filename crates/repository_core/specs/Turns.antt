@@ -1,4 +1,4 @@
--- A repository's turn: what it gives for what it is told.
+-- A repository's turn: what it gives for what reaches it.
 use Rattle.std.specs.Prelude.{ℕ, Bool, List, [], reverse}
 use Rattle.pseudo_time.specs.StampParts.{StampParts}
 use Rattle.pseudo_time.specs.declared.nodes.NodeId.{NodeId}
@@ -9,7 +9,7 @@ use Rattle.repository_core.specs.Hands.{Mind, Hand}
 use Rattle.repository_core.specs.Rows.{on_message, on_learn}
 use Rattle.repository_core.specs.Hearing.{on_moment}
 
--- what a repository is told: a message with its sender, a decision that it learns otherwise, or a moment
+-- what reaches a repository: a message with its sender, a decision that it learns otherwise, or a moment
 pub data Input : Type 0 where
   Taking : NodeId → Message → Input
   Learning : StampParts → Bool → Input

@@ -102,7 +102,7 @@ impl<H: Histories> Books<H> {
         Ok(stands)
     }
 
-    // The histories settle an attempt.
+    // The histories learn how an attempt was decided.
     fn settle(&mut self, stamp: Stamp, committed: bool) -> Result<(), HistoryFault>
         requires unsettled { settle_of (H.content self.old.histories) stamp ≡ None }
         requires since { AreSince H.content H.below H.faults H.damage self.old }
@@ -117,7 +117,7 @@ impl<H: Histories> Books<H> {
         Ok(())
     }
 
-    /// How an attempt was settled, if it is known.
+    /// How an attempt was decided, if it is known.
     pub fn known(&self, stamp: Stamp) -> Option<bool>
         ensures settled { result ≡ settle_of (H.content self.now.histories) stamp }
         ensures known { (pending : List (StampParts × Decision)) (log : List Effect) →
@@ -145,7 +145,7 @@ impl<H: Histories> Books<H> {
         Some(learned(committed))
     }
 
-    /// Begins a record where there is none; if the attempt was settled before, it is decided so.
+    /// Begins a record where there is none; if the attempt was decided before, it is decided so.
     pub fn begin(&mut self, stamp: Stamp, deadline: u64) -> Result<BeginStep, AllocError>
         ensures step { (log : List Effect) → AgreeWith H.content log self.old →
             IfOk result (λ s. s ≡ begin_step (record_of log stamp)) }
@@ -163,7 +163,7 @@ impl<H: Histories> Books<H> {
         Ok(step)
     }
 
-    // A record that just began is decided, if its attempt was settled before.
+    // A record that just began is decided, if its attempt was decided before.
     fn restore(&mut self, stamp: Stamp, early: Option<Decision>)
         ensures records { self.new.records ≡ restored early self.old.records stamp }
         ensures rest { (self.new.histories ≡ self.old.histories) × (self.new.first.value ≡ self.old.first.value) ×

@@ -204,7 +204,7 @@ impl Draft {
         Ok(asking)
     }
 
-    /// None asks for the attempt any more.
+    /// None waits for the attempt any more.
     pub fn forget_asking(&mut self, stamp: Stamp)
         ensures { self.new ≡ record self.old { askers = filter (λ a. not (same_stamp a.stamp stamp)) self.old.askers } }
     {

@@ -198,7 +198,7 @@ impl Draft {
         self.note(Effect::Decide { stamp, decision })
     }
 
-    /// A record expires: it is decided, and each asker is told that the attempt was aborted. Its broker
+    /// A record expires: it is decided, and each asker is informed that the attempt was aborted. Its broker
     /// isn't answered.
     pub fn expire(&mut self, stamp: Stamp, decision: Decision) -> Result<(), AllocError>
         ensures { OnOk result (self.new ≡ rows.tell_askers stamp false
@@ -208,7 +208,7 @@ impl Draft {
         self.tell_askers(stamp, false)
     }
 
-    /// The decision of a record is told to its broker.
+    /// The decision of a record is sent to its broker.
     pub fn decided(
         &mut self,
         from: NodeId,
@@ -229,7 +229,7 @@ impl Draft {
         self.note(Effect::Learn { stamp, committed })
     }
 
-    /// A repository is told of a decision.
+    /// A repository is informed of a decision.
     pub fn tell(&mut self, to: NodeId, stamp: Stamp, committed: bool) -> Result<(), AllocError>
         ensures { OnOk result (self.new ≡ hands.send to (message.Tell stamp committed) self.old) }
     {

@@ -168,7 +168,7 @@ impl<H: Histories> Repository<H> {
         (rest, histories)
     }
 
-    /// How the attempt was settled. None where no Decide or Learn of it is in the log.
+    /// How the attempt was decided. None where no Decide or Learn of it is in the log.
     pub fn known(&self, stamp: Stamp) -> Option<bool>
         requires able { self.now.is_failed ≡ false }
         ensures { result ≡ known (reverse self.now.log) stamp }

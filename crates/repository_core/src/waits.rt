@@ -11,7 +11,7 @@ pub struct HeldRead {
     pub waits: Stamp,
 }
 
-/// A repository that is to be told how an attempt is decided. Askers are ordered by the repository's
+/// A repository that is to be informed how an attempt is decided. Askers are ordered by the repository's
 /// number, then the stamp.
 #[derive(Clone, Copy, Debug, PartialEq, Eq, PartialOrd, Ord)]
 pub struct Asker {

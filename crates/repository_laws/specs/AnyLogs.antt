@@ -16,7 +16,7 @@ use Rattle.repository_core.specs.Hands.{Hand, now}
 use Rattle.pseudo_time.specs.Nodes.{broker}
 use Rattle.repository_laws.specs.Facts.{Once, WriteSent, WasReadLater, HeldHolds}
 
--- a request that repository r refuses was sent to it by the broker of its attempt, who is told; and over its log, as it once was, that is the answer
+-- a request that repository r refuses was sent to it by the broker of its attempt, who is informed; and over its log, as it once was, that is the answer
 abbrev pub Refuses : List Post → ℕ → List Effect → NodeId → Message → Type 0
 Refuses ever r log to (message.LaterRead t e) = (o : ObjectId) × (to ≡ broker t.stamp.broker) × (lt t e ≡ true) × WasReadLater ever r log o t e
 Refuses ever r log to (message.LaterVersion t x) = (o : ObjectId) × (v : Value) × WriteSent ever r t o v × (to ≡ broker t.stamp.broker) × (lt x t ≡ false) × Once (λ k. write_step (marks k) o t v ≡ write.LaterVersion x) log

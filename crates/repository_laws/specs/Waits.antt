@@ -61,7 +61,7 @@ pub record KeepsReads (asked : TimeParts → ObjectId × NodeId) (old new : Hand
 abbrev pub tell_of : Asker → Bool → Out
 tell_of a c = record { to = repository a.repository; message = message.Tell a.stamp c }
 
--- who is to be told waits for an attempt of this home that isn't decided
+-- who is to be informed waits for an attempt of this home that isn't decided
 abbrev pub AreOpen : Hand → Type 0
 AreOpen h = (a : Asker) → Has a h.askers → (a.stamp.home ≡ h.number) × ((d : Decision) → Has (effect.Decide a.stamp d) (now h) → ⊥)
 

@@ -87,7 +87,7 @@ marks (f ∷ l) = option_to_list (mark_of f) ++ marks l
 abbrev pub HasMarks : List Mark → List Effect → Type 0
 HasMarks content log = content ≡ marks (reverse log)
 
--- how the attempt was settled, if it is known: the first Decide or Learn counts
+-- how the attempt was decided, if it is known: the first Decide or Learn counts
 abbrev pub known : List Effect → StampParts → Option Bool
 known l s = settle_of (marks l) s
 

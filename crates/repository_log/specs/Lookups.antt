@@ -28,7 +28,7 @@ pub record BooksShow (pending : List (StampParts × Decision)) (log : List Effec
   pub recorded : (s : StampParts) → finite.get records s ≡ pending_or (listed_at pending s) (record_of log s)
   pub remembered : (s : StampParts) → first_begin log s ≡ None → decision_of log s ≡ early_or (listed_at early s) (known log s)
 
--- a record that just began is decided, if its attempt was settled before
+-- a record that just began is decided, if its attempt was decided before
 abbrev pub restored : Option Decision → States → StampParts → States
 restored None records s = records
 restored (Some d) records s = settled records s d

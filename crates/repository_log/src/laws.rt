@@ -7,7 +7,7 @@ ghost use Rattle.repository_log.specs.Logs.{marks, known, knows};
 
 /// A law: the marks of two logs, one after the other, are those of the one and then those of the
 /// other, also from the other end; those of effects in range are in range; and histories with the
-/// marks of a log know how an attempt was settled just where the log does.
+/// marks of a log know how an attempt was decided just where the log does.
 pub fn marks_of_parts()
     ensures append { (l m : List Effect) → marks (l ++ m) ≡ marks l ++ marks m }
     ensures reversed { (l : List Effect) → marks (reverse l) ≡ reverse (marks l) }

@@ -110,12 +110,6 @@ module _ {M : Type 0} {g : _} where
       let e : suc k + length xs ≡ k + length (y ∷ xs) = omega arith in
       ap (λ l. record { node = node_at plan k; effects = log_in y } ∷ l) (opened-more plan (suc k) xs x ∙ ap (λ (i : ℕ). opened_from plan (suc k) xs ++ record { node = node_at plan i; effects = log_in x } ∷ []) e)
 
-  pub log-none : (plan : Plan) (k : ℕ) (os : List (Opening M g)) (n : NodeId) → NotFrom plan k n → opened_log (opened_from plan k os) n ≡ None
-  log-none plan k [] n none = refl
-  log-none plan k (o ∷ os) n none =
-      ap (λ (t : Bool). if t then Some (log_in o) else opened_log (opened_from plan (suc k) os) n) (not-same (node_at plan k) n (none k (omega arith)))
-      ∙ log-none plan (suc k) os n (not-next plan k n none)
-
   -- the log of the node in a place
   pub log-at : (plan : Plan) (k : ℕ) (os : List (Opening M g)) (i : ℕ) (o : Opening M g) → slice_get os i ≡ Some o → opened_log (opened_from plan k os) (node_at plan (k + i)) ≡ Some (log_in o)
   log-at plan k [] i o got = absurd cc

@@ -1,6 +1,6 @@
 use value_form::{FailKind, ObjectId, Value};
 
-/// What a run asks for, or how the script ended. A line is that of the statement.
+/// What a run requests, or how the script ended. A line is that of the statement.
 #[derive(Debug, Drop, PartialEq, Eq)]
 pub enum Next {
     /// What the object holds is asked for.

@@ -76,7 +76,7 @@ pub fn law_of_asking()
 {}
 
 /// Where the numbers, texts, objects and lines of a script are in their ranges, and so is what it
-/// reads, what it asks for can be stored and sent: its objects and values have bytes, and it ends at
+/// reads, what it requests can be stored and sent: its objects and values have bytes, and it ends at
 /// a line that an outcome can say.
 pub fn law_of_requests()
     ensures requests { (script : Block) → BlockInRange script → AsksInRange (denote script) }

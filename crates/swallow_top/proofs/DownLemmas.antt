@@ -1,11 +1,9 @@
 -- A node that is down has the life at the end that it had when it went down.
 use Rattle.std.proofs.Common.{◌≡◌, ◌∙◌, ◌++◌, ◌&&◌, Bool, true, false, List, [], ◌∷◌, cond, refl, ap, sym, append_assoc, if◌then◌else◌}
-use Rattle.std.proofs.lemmas.List.{append-nil}
-use Rattle.std.proofs.lemmas.List.Elements.{filter-append}
-use Rattle.swallow_top.proofs.Names.{NodeId, DownCause, same_node-refl, Entry, Down, Base, names, own, start_world, walk, Meets}
+use Rattle.swallow_top.proofs.Names.{append-nil, filter-append, NodeId, DownCause, same_node-refl, Entry, Down, Base, names, own, start_world, walk, Meets}
+use Rattle.world_core.specs.Walks.{World, lives_on, step, walk_from}
 use Rattle.pseudo_time.specs.Nodes.{same_node}
 use Rattle.stream_port.specs.declared.fates.Fate.{Fate}
-use Rattle.world_core.specs.Walks.{World, lives_on, step, walk_from}
 use Rattle.world_core.proofs.Lives.{same-life, walk-append}
 use Rattle.world_core.proofs.Others.{Silent}
 use Rattle.run_rounds.proofs.FlagLemmas.{fell, stays-down, stays-known, up-named}

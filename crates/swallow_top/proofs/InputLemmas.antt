@@ -1,14 +1,9 @@
 -- What was read of an input says what the input is.
 use Rattle.std.proofs.Common.{ℕ, ◌≤◌, ◌<◌, ◌≡◌, ◌⊎◌, inl, inr, List, ◌++◌, length, None, Some, Ok, Err, sym, ap, ◌∙◌, subst, arith, append-nil}
-use Rattle.std.specs.Prelude.{Option, Result}
-use Rattle.std.specs.Io.KnownBytes.{Consumes, IsAtEnd}
-use Rattle.std.proofs.lemmas.List.{length-append}
+use Rattle.swallow_top.proofs.Names.{Option, Result, Vec, Consumes, IsAtEnd, length-append, IsPlanFault, Plan, IsPlan, Stop, OfInput, IsReadAs, ReadsPlan, AreReadAs, ReadsPolls, IsInputFault, IsInput, PollLine, Global}
 use Rattle.plan_form.specs.declared.plan_faults.PlanKind.{PlanKind}
 use Rattle.plan_form.specs.declared.plan_faults.PlanKind.TheVariants as kind
-use Rattle.swallow_top.proofs.Names.{IsPlanFault, Plan, IsPlan, Stop, OfInput, IsReadAs, ReadsPlan, AreReadAs, ReadsPolls, IsInputFault, IsInput, PollLine}
 use Rattle.swallow_top.specs.declared.stops.Stop.TheVariants as stop
-use Rattle.std.specs.Prelude.{Vec}
-use Rattle.std.specs.declared.alloc.Global.{Global}
 
 -- all of the input was read
 pub of_whole : (left new : Option (List ℕ)) (bytes : List ℕ) (P : List ℕ → Type 0) → Consumes left new bytes → IsAtEnd new → P bytes → OfInput left P

@@ -46,6 +46,15 @@ pub use Rattle.run_rounds.specs.Media.{Became, inner, medium_at}
 pub use Rattle.run_rounds.specs.Reports.{open_acts}
 pub use Rattle.run_rounds.specs.Runs.{Account, Ran}
 pub use Rattle.run_rounds.specs.Stories.{no_trace}
+pub use Rattle.std.proofs.lemmas.Bool.{eqb-true}
+pub use Rattle.std.proofs.lemmas.Bool.Decides.{nat_tests}
+pub use Rattle.std.proofs.lemmas.List.{append-nil, length-append, length-map, reverse-append}
+pub use Rattle.std.proofs.lemmas.List.Elements.{filter-append}
+pub use Rattle.std.proofs.lemmas.Slice.Zip.{AllZip-long}
+pub use Rattle.std.specs.Io.KnownBytes.{Appends, Consumes, IsAtEnd}
+pub use Rattle.std.specs.List.{AllZip}
+pub use Rattle.std.specs.Prelude.{IfOk, Option, Result, Vec}
+pub use Rattle.std.specs.declared.alloc.Global.{Global}
 pub use Rattle.stream_port.specs.Causes.{Rose, RoseBy, rise_of_fewer}
 pub use Rattle.swallow_top.specs.Contract.{CameOf, HasNoRun, RefusedAs, RunsPlan}
 pub use Rattle.swallow_top.specs.Finished.{AllBegun}

@@ -1,7 +1,8 @@
 -- How it is told what came of a question to an archive or of a watch, and what is handed back of it.
 use Rattle.std.proofs.Common.{◌≡◌, ◌⊎◌, ◌≤◌, inl, inr, ℕ, List, length, map, ap, sym, subst, ◌∙◌, arith}
-use Rattle.std.proofs.lemmas.Slice.Zip.{AllZip-long}
-use Rattle.swallow_top.proofs.Names.{Opening, Media, HasOpened, medium_in, Kept, AllKept, kept_under, ShelfSight, first_names, logs_of, all-kept, back-all, Rule, AskedNothing, IsOfStamp, TellsAnswer, TellsWatch, Sinking, Ends}
+use Rattle.swallow_top.proofs.Names.{AllZip-long, Opening, Media, HasOpened, medium_in, Kept, AllKept, kept_under, ShelfSight, first_names, logs_of, all-kept, back-all, Rule, AskedNothing, IsOfStamp, TellsAnswer, TellsWatch, Sinking, Ends}
+use Rattle.archive_promise.specs.Answered.{IsLawful}
+use Rattle.swallow_top.specs.Outcomes.{TellsOutcome}
 use Rattle.archive_promise.specs.Outcome.{Outcome}
 use Rattle.archive_promise.specs.Outcome.TheVariants.{Told, Refused, Fallen, NoMemory}
 use Rattle.archive_promise.specs.Question.{Question}
@@ -9,10 +10,8 @@ use Rattle.archive_promise.specs.Question.TheVariants.{AsOf, Audit}
 use Rattle.archive_promise.specs.Answers.{Answers, AnswersOver, TookNothing, asked_of}
 use Rattle.archive_promise.specs.Watches.{StopsBefore, WatchesOver}
 use Rattle.archive_promise.proofs.KeptLemmas.{watch-kept}
-use Rattle.archive_promise.specs.Answered.{IsLawful}
 use Rattle.archive_promise.proofs.AnsweredLemmas.{is-lawful}
 use Rattle.archive_promise.proofs.WatchedLemmas.{counts-on}
-use Rattle.swallow_top.specs.Outcomes.{TellsOutcome}
 
 module _ {M : Type 0} (w : Media M) (old new : ShelfSight) (kept : List (Kept M)) (s : Sinking) (status : ℕ) where
   asked-nothing : (r : Outcome) → TookNothing w old new kept r → TellsOutcome r status s → AskedNothing w old new kept status

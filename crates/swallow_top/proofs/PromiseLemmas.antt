@@ -1,27 +1,24 @@
 -- What the parts of a call say, said in the words of its promise.
 use Rattle.std.proofs.Common.{◌≡◌, ◌⊎◌, ◌≤◌, ◌==◌, inl, inr, ℕ, Bool, true, false, IsTrue, List, [], ◌∷◌, length, Option, Result, Some, None, Ok, Err, refl, ap, sym, subst, ◌∙◌, arith, if◌then◌else◌}
-use Rattle.std.specs.Io.KnownBytes.{IsAtEnd}
+use Rattle.swallow_top.proofs.Names.{IsAtEnd, Every, Has, Plan, IsPlanFault, IsPlan, IsOfLanguage, Trace, open_acts, ObjectId, no_trace, Options, AreWords, Media, some_down, Account, AllKept, Kept, Wanted, Stop, CameOf, HasNoRun, RefusedAs, RunsPlan, AskedNothing, TellsHistory, TellsVolumes, OfInput, ReadsPlan, ShelfSight, Retired, Rule, TellsAnswer, TellsWatch, TellsRetired, TellsRetirement, mark_at, status_of, Sinking, Ends, EndsIfAny, VoteEnd, Told, IsInputFault, IsInput, IsPoll, PollLine, HavePolled, ReadsPolls, TellsVotes, limits_of, tellers_of, votes_status, Vec, Global}
 use Rattle.std.specs.Option.{unwrap_or}
-use Rattle.swallow_top.proofs.Names.{Every, Has, Plan, IsPlanFault, IsPlan, IsOfLanguage, Trace, open_acts, ObjectId, no_trace, Options, AreWords, Media, some_down, Account, AllKept, Kept, Wanted, Stop, CameOf, HasNoRun, RefusedAs, RunsPlan, AskedNothing, TellsHistory, TellsVolumes, OfInput, ReadsPlan, ShelfSight, Retired, Rule, TellsAnswer, TellsWatch, TellsRetired, TellsRetirement, mark_at, status_of, Sinking, Ends, EndsIfAny, VoteEnd, Told, IsInputFault, IsInput, IsPoll, PollLine, HavePolled, ReadsPolls, TellsVotes, limits_of, tellers_of, votes_status}
+use Rattle.command_words.specs.Words.{AreGiven, AreNone, AreOptions, IsWith}
+use Rattle.swallow_top.specs.Contract.{IsNoPlan}
+use Rattle.swallow_top.specs.Tellings.{status_with}
+use Rattle.swallow_top.specs.Votes.{AreNoPolls}
 use Rattle.plan_form.specs.Making.{made_plan}
 use Rattle.plan_form.proofs.PlanTextLemmas.{plan_is_whole}
 use Rattle.command_words.specs.declared.commands.Command.{Command}
 use Rattle.command_words.specs.declared.commands.Command.TheVariants.{Run, Load, History, Retire, Votes, Watch, AsOf, Audit}
 use Rattle.command_words.specs.declared.options.Given.{Given}
-use Rattle.command_words.specs.Words.{AreGiven, AreNone, AreOptions, IsWith}
 use Rattle.swallow_top.specs.declared.reports.Wanted.TheVariants.{Report, Summary}
 use Rattle.swallow_top.specs.declared.stops.Stop.TheVariants as stop
-use Rattle.swallow_top.specs.Contract.{IsNoPlan}
 use Rattle.swallow_top.specs.Promise.{Call, HasNoWords, TouchedNothing, IsUnread, Promise, WasDone}
 use Rattle.retire_command.specs.declared.outcomes.Retired.TheVariants.{Done, Refused, Fallen, NoMemory}
 use Rattle.archive_promise.specs.Question.TheVariants as question
-use Rattle.swallow_top.specs.Tellings.{status_with}
-use Rattle.std.specs.Prelude.{Vec}
-use Rattle.std.specs.declared.alloc.Global.{Global}
 use Rattle.votes_command.specs.Tellings.{some_down as voters_down}
 use Rattle.votes_command.specs.VoteEnd.TheVariants as voted
 use Rattle.votes_command.specs.Statuses.{all_held}
-use Rattle.swallow_top.specs.Votes.{AreNoPolls}
 use Rattle.swallow_top.proofs.VoteLemmas.{votes-kept}
 use Rattle.swallow_top.proofs.HistoryLemmas.{history-kept}
 use Rattle.swallow_top.proofs.InputLemmas.{of_input-all, of_input-with}
@@ -120,9 +117,6 @@ module _ {M : Type 0} (c : Call M) where
   refused-most stop.Source h = let e = h.0 in omega (arith, e)
   refused-most stop.NoMemory h = omega (arith, h)
   refused-most stop.Sink h = omega (arith, h)
-
-  pub promise-none : IsUnread c → AreNone c.words → RefusedAs stop.Words c.status c.sink → ((status : ℕ) → c.status ≡ status → TouchedNothing c status) → AllKept c.shelf_before c.shelf c.media → Promise c
-  promise-none unread none refused quiet kept = record { done = inl (quiet 1 refused.0, unread, none, refused.1); kept = kept; statuses = refused-most stop.Words refused; votes = inl (quiet 1 refused.0).no_votes }
 
   pub promise-refused : (o : Options) (s : Stop) → AreWords (Run o) c.words → ReadsPlan c.input c.left c.faults_before c.faults (Err s) → RefusedAs s c.status c.sink → ((status : ℕ) → c.status ≡ status → TouchedNothing c status) → AllKept c.shelf_before c.shelf c.media → Promise c
   promise-refused o s words read refused quiet kept = record { done = refused-run o s words read refused quiet; kept = kept; statuses = refused-most s refused; votes = inl (quiet c.status refl).no_votes }

@@ -1,9 +1,8 @@
 -- How a retirement is told, and what is handed back of it.
 use Rattle.std.proofs.Common.{◌≡◌, ◌⊎◌, inl, inr, ℕ, List, length, ap, sym, subst, ◌∙◌}
-use Rattle.std.proofs.lemmas.Slice.Zip.{AllZip-long}
+use Rattle.swallow_top.proofs.Names.{AllZip-long, IsBack, Media, Kept, AllKept, kept_under, ShelfSight, first_names, all-kept, Retired, AskedNothing, TellsRetired, TellsRetirement, mark_at, Sinking}
 use Rattle.pseudo_time.specs.Nodes.{repository as named}
 use Rattle.pseudo_time.specs.TimeParts.{TimeParts}
-use Rattle.swallow_top.proofs.Names.{IsBack, Media, Kept, AllKept, kept_under, ShelfSight, first_names, all-kept, Retired, AskedNothing, TellsRetired, TellsRetirement, mark_at, Sinking}
 use Rattle.retire_command.specs.Retires.{RetiresOver, TookNothing}
 use Rattle.retire_command.proofs.RetireLemmas.{comes-back}
 

@@ -1,21 +1,19 @@
 -- From how a run ended to what comes of its plan.
 use Rattle.std.proofs.Common.{◌≡◌, ◌⊎◌, inl, inr, ℕ, Bool, true, false, IsTrue, List, length, map, Option, refl, ap, sym, subst, ◌∙◌}
-use Rattle.std.specs.List.{AllZip}
-use Rattle.std.proofs.lemmas.Slice.Zip.{AllZip-long}
+use Rattle.swallow_top.proofs.Names.{AllZip, AllZip-long, Plan, IsOfLanguage, Trace, IsLegal, no_trace, Options, Media, AreBack, IsBack, IsLeftAlone, Ran, IsKeptWhole, Tellers, account_of, AllKept, ShelfSight, Kept, HasVolumes, NodeVolumes, work_taken, Wanted, CameOf, RunsPlan, status_of, Sinking}
 use Rattle.stream_port.specs.declared.fates.Asked.{Asked}
-use Rattle.swallow_top.proofs.Names.{Plan, IsOfLanguage, Trace, IsLegal, no_trace, Options, Media, AreBack, IsBack, IsLeftAlone, Ran, IsKeptWhole, Tellers, account_of, AllKept, ShelfSight, Kept, HasVolumes, NodeVolumes, work_taken, Wanted, CameOf, RunsPlan, status_of, Sinking}
+use Rattle.run_rounds.specs.Runs.{RanUntold, HasRanges}
+use Rattle.run_rounds.specs.Finishes.{EndsAs}
+use Rattle.plan_volumes.specs.Volumes.{HadMemory}
+use Rattle.swallow_top.specs.Contract.{Completes, RanOver, WantedMemory}
+use Rattle.swallow_top.specs.Tellings.{OfRun, TellsEnd}
 use Rattle.world_core.specs.Legal.{JustNodes}
 use Rattle.run_rounds.specs.declared.ends.End.{End}
 use Rattle.run_rounds.specs.declared.ends.End.TheVariants as end
-use Rattle.run_rounds.specs.Runs.{RanUntold, HasRanges}
-use Rattle.run_rounds.specs.Finishes.{EndsAs}
 use Rattle.complete_law.specs.Serials.{HoldsFinals, IsSerialOver}
 use Rattle.complete_law.specs.Acknowledged.{KeepsAnswers, SpendsRightly}
 use Rattle.complete_law.specs.Reasons.{AddedHaveReasons, HaveReasons}
 use Rattle.run_rounds.specs.Places.{PlacesHavePasts}
-use Rattle.plan_volumes.specs.Volumes.{HadMemory}
-use Rattle.swallow_top.specs.Contract.{Completes, RanOver, WantedMemory}
-use Rattle.swallow_top.specs.Tellings.{OfRun, TellsEnd}
 use Rattle.swallow_top.proofs.CompleteLemmas.{complete-status, run-complete, unrefused}
 use Rattle.swallow_top.proofs.ShelfLemmas.{all-kept, alone-whole, none-lost}
 

@@ -1,8 +1,7 @@
 -- Texts that are written, and what writing them asks.
 use Rattle.std.proofs.Common.{◌≡◌, ◌<◌, ◌≤◌, ◌^◌, ℕ, List, [], ◌∷◌, inl, inr, Ok, Err, subst, arith}
-use Rattle.std.specs.Prelude.{Option, Result, OnOk, OnErr, IfOk}
-use Rattle.std.specs.Io.KnownBytes.{Appends}
-use Rattle.swallow_top.proofs.Names.{Every, Rose, Entry, Take, Crash, Down, Tick, Stop, AppendsFront, Ends, EndsIfAny, GotLine, Sinking, sinking}
+use Rattle.swallow_top.proofs.Names.{Option, Result, IfOk, Appends, Every, Rose, Entry, Take, Crash, Down, Tick, Stop, AppendsFront, Ends, EndsIfAny, GotLine, Sinking, sinking}
+use Rattle.std.specs.Prelude.{OnOk, OnErr}
 use Rattle.world_core.specs.declared.entries.Entry.TheVariants.{Go, Learn, Hear, Gate}
 use Rattle.run_rounds.specs.Clocked.{tick_moments}
 use Rattle.run_rounds.specs.Replays.{IsMoment}

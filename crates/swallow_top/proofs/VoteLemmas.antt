@@ -1,11 +1,11 @@
 -- What votes over the shelf's media come to is what is promised of them.
 use Rattle.std.proofs.Common.{◌≡◌, ◌⊎◌, ◌≤◌, inl, inr, ℕ, IsTrue, List, [], length, map, refl, sym, ap, subst, ◌∙◌, arith}
-use Rattle.std.proofs.lemmas.List.{length-map}
-use Rattle.swallow_top.proofs.Names.{Rose, Trace, AreBack, Media, Account, no_trace, AllKept, ShelfSight, Kept, all-kept, Options, VoteEnd, Told, PollLine, HasNoRun, AskedNothing, HavePolled, TellsVotes, limits_of, tellers_of, votes_status, EndsIfAny, Sinking}
+use Rattle.swallow_top.proofs.Names.{length-map, Rose, Trace, AreBack, Media, Account, no_trace, AllKept, ShelfSight, Kept, all-kept, Options, VoteEnd, Told, PollLine, HasNoRun, AskedNothing, HavePolled, TellsVotes, limits_of, tellers_of, votes_status, EndsIfAny, Sinking}
+use Rattle.votes_command.specs.VoteEnd.TheVariants.{NoMemory}
+use Rattle.swallow_top.specs.Votes.{AreFew}
 use Rattle.world_core.specs.Counts.{tick_count}
 use Rattle.votes_command.specs.Ends.{EndsAs}
 use Rattle.votes_command.specs.MemberMedia.{MemberMedia}
-use Rattle.votes_command.specs.VoteEnd.TheVariants.{NoMemory}
 use Rattle.votes_command.specs.Clauses.{AllHold, Tellers}
 use Rattle.votes_command.specs.Polls.{lines_of}
 use Rattle.votes_command.specs.Statuses.{status_with}
@@ -15,7 +15,6 @@ use Rattle.votes_command.specs.PollStanding.{PollStanding}
 use Rattle.votes_command.specs.Limits.{Limits}
 use Rattle.votes_command.specs.Members.{in_order, member_names}
 use Rattle.votes_command.specs.Votes.{AreSmooth, TookNothing, VotesOver}
-use Rattle.swallow_top.specs.Votes.{AreFew}
 
 module _ {M : Type 0} (w : Media M) (old new : ShelfSight) where
   -- there is one standing for each poll

@@ -29,7 +29,7 @@ module _ {M : Type 0} (w : Media M) (old new : ShelfSight) where
     pub lawful : IsLawful question (logs_of over.openings) outcome
     pub told : TellsOutcome outcome status s
 
-  -- The repository's volumes were taken and opened, and that of its totals, unless one of the others stopped it before. This came of the watch, and so it was told. Over whatever past left the volumes and the totals, those that are ready are lawful. Nothing was written to any but the volume of totals.
+  -- The repository's volumes were taken and opened, and that of its totals, unless one of the others stopped it before. This came of the watch, and so it was reported. Over whatever past left the volumes and the totals, those that are ready are lawful. Nothing was written to any but the volume of totals.
   pub record TellsWatch (repository : ℕ) (rule : Rule) (kept : List (Kept M)) (s : Sinking) (status : ℕ) : Type 0 where
     pub outcome : Outcome
     pub over : StopsBefore w old new repository rule kept outcome ⊎ WatchesOver w old new repository rule kept outcome

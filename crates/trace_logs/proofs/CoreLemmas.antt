@@ -1,8 +1,8 @@
 -- The turns of cores are those of the rules.
 use Rattle.std.proofs.Common.{◌≡◌, ℕ, ◌++◌, List, [], Result, Ok, Err}
-use Rattle.std.specs.Prelude.{IfOk, OnOk}
+use Rattle.trace_logs.proofs.Names.{IfOk, OnOk, NodeId, Effect, Tree, Scripted, gives, with_desk, Base}
 use Rattle.std.specs.declared.alloc.AllocError.{AllocError}
-use Rattle.trace_logs.proofs.Names.{NodeId, Effect, Tree, Scripted, gives, with_desk, Base}
+use Rattle.world_core.specs.Nodes.{Mind, Given, Input, repository_gives, broker_gives, with_hands, desk_after, nothing_given}
 use Rattle.message_form.specs.declared.turns.Turn.{Turn}
 use Rattle.object_history.specs.declared.marks.Mark.{Mark}
 use Rattle.object_history.specs.declared.steps.HistoryFault.{HistoryFault}
@@ -12,7 +12,6 @@ use Rattle.repository_core.specs.Turns as turns
 use Rattle.broker_core.specs.Brokers.{Gives, turn_of}
 use Rattle.broker_core.specs.Parts.{BrokerParts}
 use Rattle.broker_core.specs.Turns as desks
-use Rattle.world_core.specs.Nodes.{Mind, Given, Input, repository_gives, broker_gives, with_hands, desk_after, nothing_given}
 use Rattle.trace_logs.specs.declared.cores.NodeCore.TheVariants as core
 use Rattle.world_core.specs.Cores.{IsRepository, IsBroker, RepositoryGave, BrokerGave}
 use Rattle.world_core.proofs.CoreTurns.{repository-still as still-repository, broker-still as still-broker, repository-answers as answers-of-repository, broker-answers as answers-of-broker}

@@ -2,17 +2,16 @@
 use Rattle.std.proofs.lemmas.Bool.Decides.{nat_tests}
 use Rattle.std.proofs.Common.{◌≡◌, ◌<◌, ℕ, zero, suc, Bool, true, false, ◌==◌, ◌&&◌, List, [], ◌∷◌, ◌++◌, map, refl, sym, ap, subst, ◌∙◌, inl, Option, Some, None, is_some, if◌then◌else◌, arith}
 use Rattle.std.specs.Prelude.{nat_le}
-use Rattle.std.specs.List.{filter}
+use Rattle.trace_logs.proofs.Names.{filter, NodeId, NodeKind, Repository, Broker, block-made, Effect, Message, Post, posts, denote, book, keep, Entry, Take, Go, Gate, leaves, Going, Taking, Flags, Life, World, Sending, gated_life, numbered, opened_log, sent_by, start_world, step, after_input, took, walk, walk_from, all_effects, JustNodes, Legal, Meets, post_of}
 use Rattle.pseudo_time.specs.declared.decisions.Decision.TheVariants as decision
-use Rattle.trace_logs.proofs.Names.{NodeId, NodeKind, Repository, Broker, block-made, Effect, Message, Post, posts, denote, book, keep, Entry, Take, Go, Gate, leaves, Going, Taking, Flags, Life, World, Sending, gated_life, numbered, opened_log, sent_by, start_world, step, after_input, took, walk, walk_from, all_effects, JustNodes, Legal, Meets, post_of}
-use Rattle.effect_form.specs.declared.effects.Effect.TheVariants as effect
-use Rattle.effect_form.specs.declared.outcomes.Outcome.TheVariants as outcome
-use Rattle.message_form.specs.declared.messages.Message.TheVariants as message
-use Rattle.message_core.specs.Tallies.{count}
 use Rattle.broker_core.specs.Fits.{other_plan}
 use Rattle.world_core.specs.Nodes.{is_ready}
 use Rattle.world_core.specs.Walks.{with_due}
 use Rattle.world_core.specs.Legal.{AllReady, Rule, fates_of, in_plan, is_within}
+use Rattle.effect_form.specs.declared.effects.Effect.TheVariants as effect
+use Rattle.effect_form.specs.declared.outcomes.Outcome.TheVariants as outcome
+use Rattle.message_form.specs.declared.messages.Message.TheVariants as message
+use Rattle.message_core.specs.Tallies.{count}
 use Rattle.trace_logs.proofs.OpenedLemmas.{once-two}
 use Rattle.trace_logs.proofs.WorkedTraces.{home, desk, stamp, blank, prompt}
 use Rattle.trace_logs.proofs.WorkedTurns.{object, ten, part, act, plan, script, base, entries, at, sent, trace, asked, home_log, desk_log, to_desk, to_home, keeps, works, went, began, begins, going, taking, go-given, begin-given, begun-given, write-given, stored-given, read-given, value-given, commit-given, decided-given}

@@ -22,6 +22,13 @@ unfoldable pub use Rattle.repository_core.specs.Logs.{decision_of, first_begin, 
 unfoldable pub use Rattle.repository_core.specs.Rows.{on_begin, on_close, on_message, release, tell_askers}
 pub use Rattle.script_form.specs.RowTexts.{script_text}
 pub use Rattle.serial_model.specs.Questions.{Tree, denote}
+pub use Rattle.std.proofs.Math.ListN.{get_or, set}
+pub use Rattle.std.proofs.lemmas.List.{append-nil, map-append, take_more}
+pub use Rattle.std.proofs.lemmas.List.Sums.{sum_by-cons}
+pub use Rattle.std.specs.List.{count_by, filter}
+pub use Rattle.std.specs.Option.{option_map}
+pub use Rattle.std.specs.Prelude.{IfOk, OnOk, is_some}
+pub use Rattle.std.specs.Vec.{with_item}
 pub use Rattle.stream_port.specs.declared.fates.Asked.{Asked}
 pub use Rattle.stream_port.specs.declared.fates.Fate.{Fate}
 pub use Rattle.trace_logs.specs.Cores.{StandsFor, own_acts}

@@ -1,12 +1,8 @@
 -- Seats in a list, each of another node.
 use Rattle.std.proofs.Common.{◌≡◌, ◌≤◌, ◌<◌, ◌+◌, ℕ, zero, suc, Bool, true, false, List, [], ◌∷◌, ◌++◌, length, map, refl, sym, ap, subst, ◌∙◌, Some, if◌then◌else◌, cond, arith}
-use Rattle.std.proofs.Math.ListN.{get_or, set}
+use Rattle.trace_logs.proofs.Names.{get_or, set, count_by, sum_by-cons, is_some, Every, NodeId, same_node, same_is, same_node-refl, Opened, Base, opened_log, opened_life, ReplayedNode, Lives, IsOnce, IsAbsent, Apart, AreAt, nodes_of, is_among}
 use Rattle.std.proofs.Math.Seq.{map-set_same}
-use Rattle.std.specs.List.{count_by}
-use Rattle.std.proofs.lemmas.List.Sums.{sum_by-cons}
 use Rattle.std.specs.Option.{unwrap_or}
-use Rattle.std.specs.Prelude.{is_some}
-use Rattle.trace_logs.proofs.Names.{Every, NodeId, same_node, same_is, same_node-refl, Opened, Base, opened_log, opened_life, ReplayedNode, Lives, IsOnce, IsAbsent, Apart, AreAt, nodes_of, is_among}
 
 -- ---- names
 
@@ -52,11 +48,6 @@ set-every P Q [] i t d l a f q h = absurd (omega (arith, l))
 set-every P Q (s ∷ ss) zero t d l a f q h = (q, others-change P Q s.node ss a.0 f h.1)
 set-every P Q (s ∷ ss) (suc i) t d l a f q h =
     (f s (same-sym (get_or ss i d).node s.node ∙ other-at s.node ss i d (omega (arith, l)) a.0) h.0, set-every P Q ss i t d (omega (arith, l)) a.1 f q h.1)
-
-pub set-all : (P : ReplayedNode → Type 0) (replayed : List ReplayedNode) (i : ℕ) (t : ReplayedNode) → P t → Every P replayed → Every P (set replayed i t)
-set-all P [] i t q h = tt
-set-all P (s ∷ ss) zero t q h = (q, h.1)
-set-all P (s ∷ ss) (suc i) t q h = (h.0, set-all P ss i t q h.1)
 
 pub nodes-set : (replayed : List ReplayedNode) (i : ℕ) (t d : ReplayedNode) → t.node ≡ (get_or replayed i d).node → nodes_of (set replayed i t) ≡ nodes_of replayed
 nodes-set replayed i t d h = map-set_same (λ (s : ReplayedNode). s.node) replayed i t d h

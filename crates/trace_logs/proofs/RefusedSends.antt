@@ -3,10 +3,10 @@ use Rattle.std.proofs.Common.{◌≡◌, ◌<◌, ◌+◌, ℕ, Bool, true, fals
 use Rattle.std.proofs.lemmas.Bool.{true≢false}
 use Rattle.std.proofs.lemmas.List.{length-append}
 use Rattle.trace_logs.proofs.Names.{Every, Post, Asked, Sent, Trace, Legal, post_of}
+use Rattle.world_core.specs.Legal.{asked_of}
 use Rattle.pseudo_time.specs.declared.decisions.Decision.TheVariants as decision
 use Rattle.message_form.specs.declared.messages.Message.TheVariants as message
 use Rattle.pseudo_time.specs.Nodes.{kind_number}
-use Rattle.world_core.specs.Legal.{asked_of}
 use Rattle.message_form.specs.Messages.{tag_of}
 use Rattle.trace_logs.proofs.WorkedTraces.{home, desk, stamp, blank, prompt}
 use Rattle.trace_logs.proofs.WorkedTurns.{object, ten, plan, script, entries, at, request, answer, question, sent, asked, trace}

@@ -1,16 +1,15 @@
 -- How the life of a node goes on, and what the code keeps of it.
 use Rattle.std.proofs.Common.{◌≡◌, ◌≤◌, ℕ, Bool, arith, ◌==◌, ◌++◌, List, [], ◌∷◌, take, drop, sym, ap, subst, ◌∙◌, append_assoc}
-use Rattle.std.specs.List.{filter}
-use Rattle.std.proofs.lemmas.List.{append-nil, take-append-drop, map-append}
+use Rattle.trace_logs.proofs.Names.{filter, append-nil, map-append, NodeId, NodeKind, Repository, Broker, Effect, Out, Post, posts, Tree, denote, block, script_text, ActSpec, AreEffects, AreBrokerActs, Scripted, opened_mind, Base, Life, all_effects, gated_life, ReplayedNode, StandsFor, own_acts, Lives, IsSound}
+use Rattle.std.proofs.lemmas.List.{take-append-drop}
 use Rattle.std.proofs.lemmas.List.Elements.{filter-append}
-use Rattle.trace_logs.proofs.Names.{NodeId, NodeKind, Repository, Broker, Effect, Out, Post, posts, Tree, denote, block, script_text, ActSpec, AreEffects, AreBrokerActs, Scripted, opened_mind, Base, Life, all_effects, gated_life, ReplayedNode, StandsFor, own_acts, Lives, IsSound}
-use Rattle.pseudo_time.proofs.ListLemmas.{every-left}
 use Rattle.message_form.specs.Posts.{post}
 use Rattle.message_form.specs.Ranges.{IsEffect, AreOuts}
-use Rattle.repository_core.proofs.HeldLemmas.{every-filter}
 use Rattle.world_core.specs.Walks.{crashed_life}
-use Rattle.world_core.proofs.PlanRangeLemmas.{own-acts as broker-acts}
 use Rattle.trace_logs.specs.Cores.{IsAble, kind_of, acts_for}
+use Rattle.pseudo_time.proofs.ListLemmas.{every-left}
+use Rattle.repository_core.proofs.HeldLemmas.{every-filter}
+use Rattle.world_core.proofs.PlanRangeLemmas.{own-acts as broker-acts}
 
 -- ---- ranges
 

@@ -5,26 +5,26 @@ use Rattle.std.specs.Fmt.{digits}
 use Rattle.pseudo_time.specs.TimeParts.{TimeParts}
 use Rattle.trace_logs.proofs.Names.{same_stamp, same_time, ActSpec, block-made, Effect, Message, Out, Asked, script_text, Tree, denote, Plan, first_begin, decision_of, on_message, on_begin, on_close, release, tell_askers, book, keep, settle_up, Entry, Take, Go, Gate, Sent, Trace, gives, with_desk, Going, Taking, Base, Life, after_input, all_effects}
 use Rattle.pseudo_time.specs.Order.{lt}
+use Rattle.value_form.specs.MirrorLaws.{made_all}
+use Rattle.repository_core.specs.Rows.{on_read, on_write}
+use Rattle.world_core.specs.Walks.{with_given}
 use Rattle.pseudo_time.specs.declared.decisions.Decision.TheVariants as decision
 use Rattle.value_form.specs.declared.objects.ObjectId.{ObjectId}
 use Rattle.value_form.specs.declared.scripts.Stmt.{Stmt}
 use Rattle.value_form.specs.declared.values.Value.{Value}
 use Rattle.value_form.specs.declared.values.Value.TheVariants as value
 use Rattle.value_form.specs.Mirror.{Number, Name, Fixed, Write, Read, Print, Block, End, Then}
-use Rattle.value_form.specs.MirrorLaws.{made_all}
 use Rattle.effect_form.specs.declared.effects.Effect.TheVariants as effect
 use Rattle.effect_form.specs.declared.outcomes.Outcome.TheVariants as outcome
 use Rattle.message_form.specs.declared.messages.Message.TheVariants as message
 use Rattle.object_history.specs.Answers.{some_put, has_put}
 use Rattle.object_history.specs.History.{settle_of, version_count, pick, scan, stretched, floor_of}
 use Rattle.object_history.specs.Objects.{same_object, same_value}
-use Rattle.repository_core.specs.Rows.{on_read, on_write}
 use Rattle.repository_core.specs.Turns as turns
 use Rattle.broker_core.specs.declared.heards.Heard.{Heard}
 use Rattle.broker_core.specs.Stages.{nothing_heard}
 use Rattle.broker_core.specs.Tasks.{Task, task_of, task_with}
 use Rattle.broker_core.specs.Turns as desks
-use Rattle.world_core.specs.Walks.{with_given}
 use Rattle.trace_logs.proofs.WorkedTraces.{home, desk, stamp, blank, prompt}
 
 -- ---- the plan

@@ -32,7 +32,7 @@ abbrev pub StandsFor : Base → NodeId → List Effect → Mind → NodeCore →
 StandsFor b n log mind (core.Repository r) = IsRepository n log mind r
 StandsFor b n log mind (core.Broker p) = IsBroker b n log mind p
 
--- the turn is what the rules give, and the core goes on from there
+-- the turn is what the rules give, and the core continues from there
 pub record Gave (b : Base) (n : NodeId) (log : List Effect) (g : Given) (t : Turn) (new : NodeCore) : Type 0 where
   pub effects : t.effects ≡ g.effects
   pub outs : t.outs ≡ g.outs

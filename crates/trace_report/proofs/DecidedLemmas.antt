@@ -1,12 +1,10 @@
 -- Which attempts are committed, by what the log of each repository says first.
 use Rattle.std.proofs.Common.{◌≡◌, ℕ, zero, suc, ◌+◌, ◌≤◌, ◌<◌, Bool, true, false, List, [], ◌∷◌, ◌++◌, length, reverse, refl, sym, ◌∙◌, ap, subst, Option, Some, None, ◌&&◌, ◌||◌, if◌then◌else◌, arith}
 use Rattle.std.specs.Prelude.{nat_le}
-use Rattle.std.specs.List.{slice_get}
+use Rattle.trace_report.proofs.Names.{slice_get, cond-true, cond-false, NodeId, repository, StampParts, Effect, RunLogs, committed, has_commit, has_learned, Opened, AreDecided, AreEach, learned_in_some, said_at, Said, AreFirsts, is_decided, is_learned, logs_by}
 use Rattle.std.specs.FinMap as finite
 use Rattle.std.proofs.lemmas.Grind.{common_steps}
 use Rattle.std.proofs.lemmas.List.{length-append}
-use Rattle.std.proofs.lemmas.Bool.{cond-true, cond-false}
-use Rattle.trace_report.proofs.Names.{NodeId, repository, StampParts, Effect, RunLogs, committed, has_commit, has_learned, Opened, AreDecided, AreEach, learned_in_some, said_at, Said, AreFirsts, is_decided, is_learned, logs_by}
 use Rattle.world_core.specs.Deeds.{in_run, log_of, some_of}
 use Rattle.trace_report.proofs.FirstLemmas.{commit-is, learned-is}
 
@@ -24,10 +22,6 @@ firsts-step logs old new first below log n count each node at said is =
       subst (AreEach (λ r. reverse (logs_by logs (repository r)))) (sym is)
           (each-more (λ r. reverse (logs_by logs (repository r))) old first each (subst (λ l. AreFirsts (reverse l) first) (at ∙ ap (logs_by logs) (node ∙ ap repository next)) said)),
     )
-
-pub decided-all : (k : RunLogs) (logs : List Opened) (firsts : List Said) → length firsts ≡ k.repositories → ((n : NodeId) → k.logs n ≡ reverse (logs_by logs n)) → AreEach (λ r. reverse (logs_by logs (repository r))) firsts →
-    AreDecided k firsts
-decided-all k logs firsts count at each = record { count = count; each = subst (λ (f : ℕ → List Effect). AreEach f firsts) (λ i r. sym (at (repository r)) i) each }
 
 -- ---- the home's log
 
@@ -75,10 +69,6 @@ some-first : (n : ℕ) (f : ℕ → Bool) → some_of (suc n) f ≡ (f 1 || some
 unfolding some_of
 some-first zero f = refl
 some-first (suc n) f = ap (λ z. f (suc (suc n)) || z) (some-first n f) ∙ or-rotate (f (suc (suc n))) (f 1) (some_of n (λ r. f (suc r)))
-
-any-first : (c b : Bool) → (if c then true else b) ≡ (c || b)
-any-first true b = refl
-any-first false b = refl
 
 learned-some : (s : StampParts) (logs : ℕ → List Effect) (firsts : List Said) → AreEach logs firsts → learned_in_some firsts s ≡ some_of (length firsts) (λ r. has_learned s (logs r))
 unfolding some_of

@@ -1,12 +1,11 @@
 -- Nodes that are down, by the entries and by what the code gathers of them.
 use Rattle.std.proofs.Common.{◌≡◌, Some, if◌then◌else◌, List, [], ◌∷◌, ◌++◌, refl, sym, ◌∙◌, ap}
-use Rattle.std.specs.List.{flat_map}
+use Rattle.trace_report.proofs.Names.{flat_map, NodeId, same_node, Repository, Broker, Entry, Down, Tick, Trace, Plan, downs_shown, fallen, shown, nodes_of_kind}
 use Rattle.std.proofs.lemmas.Grind.{flat_map-append}
-use Rattle.trace_report.proofs.Names.{NodeId, same_node, Repository, Broker, Entry, Down, Tick, Trace, Plan, downs_shown, fallen, shown, nodes_of_kind}
-use Rattle.report_writer.specs.declared.records.Down.{Down as Fallen}
-use Rattle.world_core.specs.Counts.{down_cause}
 use Rattle.trace_report.specs.Reports.{down_shown, nodes_of}
 use Rattle.trace_report.specs.Downs.{cause_of}
+use Rattle.report_writer.specs.declared.records.Down.{Down as Fallen}
+use Rattle.world_core.specs.Counts.{down_cause}
 
 cause-is : (n : NodeId) (es : List Entry) → cause_of (fallen es) n ≡ down_cause n es
 cause-is n [] = refl

@@ -29,6 +29,14 @@ pub use Rattle.report_writer.specs.declared.records.TryReport.{TryReport}
 unfoldable pub use Rattle.repository_log.specs.Logs.{knows}
 pub use Rattle.script_meaning.specs.Meaning.{Answer, Got, Stored}
 pub use Rattle.serial_model.specs.Questions.{Tree, denote, talked}
+pub use Rattle.std.proofs.lemmas.Bool.{cond-false, cond-true, eqb-true, false≢true, true≢false}
+pub use Rattle.std.proofs.lemmas.Cmp.{eq_by_cmp_equiv}
+pub use Rattle.std.proofs.lemmas.List.{map-append, reverse-append}
+pub use Rattle.std.specs.BTreeMap.{is_at}
+pub use Rattle.std.specs.List.{flat_map, slice_get}
+pub use Rattle.std.specs.Option.{is_some, option_map, unwrap_or}
+pub use Rattle.std.specs.Ordering.{is_eq}
+pub use Rattle.std.specs.Prelude.{IfOk, ◌-◌}
 pub use Rattle.trace_logs.specs.Replays.{logs_in}
 pub use Rattle.trace_report.specs.Acts.{acts_shown, begun_acts}
 pub use Rattle.trace_report.specs.Begun.{ActParts, act_parts, kept, kept_act, kept_try, try_parts}
@@ -38,7 +46,7 @@ pub use Rattle.trace_report.specs.Downs.{fallen, nodes_of_kind, shown}
 pub use Rattle.trace_report.specs.Finals.{last_put}
 pub use Rattle.trace_report.specs.Firsts.{AreFirsts, Said, is_decided, is_learned}
 pub use Rattle.trace_report.specs.LastVersions.{AreLast, final_last}
-pub use Rattle.trace_report.specs.Reports.{downs_shown, last_of, load_line, load_text_by, logs_by, run_over, sum_in, tries_in, wire_shown}
+pub use Rattle.trace_report.specs.Reports.{downs_shown, last_of, load_line, load_text_by, logs_by, open_by, run_over, sum_in, tries_in, wire_shown}
 pub use Rattle.trace_report.specs.Shown.{HasActs, act_told, begun_at, part_at, try_told}
 pub use Rattle.trace_report.specs.Transcripts.{answer_of, answers_of}
 pub use Rattle.trace_report.specs.declared.answers.Answered.{Answered}

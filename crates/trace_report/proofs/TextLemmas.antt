@@ -1,13 +1,11 @@
 -- The report and the summary, part by part.
 use Rattle.std.proofs.Common.{◌≡◌, ℕ, List, [], ◌++◌, append_assoc, length, ◌∙◌, ap, Option, Some}
-use Rattle.std.specs.Prelude.{◌-◌}
-use Rattle.std.specs.List.{flat_map}
-use Rattle.trace_report.proofs.Names.{NodeId, Value, Effect, Plan, Trace, ActReport, Open, down_text, count_of, acts_shown, downs_shown, last_of, load_line, load_text_by, sum_in, tries_in, wire_shown}
+use Rattle.trace_report.proofs.Names.{◌-◌, flat_map, NodeId, Value, Effect, Plan, Trace, ActReport, Open, down_text, count_of, acts_shown, downs_shown, last_of, load_line, load_text_by, sum_in, tries_in, wire_shown}
+use Rattle.trace_report.specs.Reports.{acts_line, finals_shown, report_by, sum_text}
 use Rattle.report_writer.specs.declared.records.Down.{Down}
 use Rattle.report_writer.specs.declared.records.Final.{Final}
 use Rattle.report_writer.specs.declared.records.Report.{Report}
 use Rattle.report_writer.specs.declared.records.Wire.{Wire}
-use Rattle.trace_report.specs.Reports.{acts_line, finals_shown, report_by, sum_text}
 
 module _ (plan : Plan) (logs : NodeId → List Effect) (t : Trace) (acts : List ActReport) (downs : List Down) (acts-are : acts ≡ acts_shown plan logs) (downs-are : downs ≡ downs_shown plan t) where
   pub report-is : (finals : List Final) (wire : Wire) → finals ≡ finals_shown plan logs → wire ≡ wire_shown t →

@@ -3,14 +3,14 @@ use Rattle.std.proofs.Common.{◌≡◌, ℕ, List, [], ◌∷◌, ◌++◌, ref
 use Rattle.std.specs.Prelude.{codes, pos}
 use Rattle.std.specs.Fmt.{digits}
 use Rattle.trace_report.proofs.Names.{StampParts, TimeParts, lt, same_stamp, NodeId, Repository, Broker, ObjectId, Nothing, Effect, pick, scan, version_count, same_object, value_of, knows, Plan, book, keep, reading, committed, has_commit, Down, Tick, Trace, TryReport, ActReport, report_text, acts_shown, last_put, downs_shown, run_over, wire_shown}
+use Rattle.value_form.specs.declared.values.Value.TheVariants.{Number}
+use Rattle.world_core.specs.declared.entries.Entry.TheVariants.{Crash}
 use Rattle.pseudo_time.specs.declared.decisions.Decision.TheVariants as decision
 use Rattle.pseudo_time.specs.declared.nodes.NodeKind.{NodeKind}
 use Rattle.pseudo_time.specs.declared.down_causes.DownCause.TheVariants as cause
-use Rattle.value_form.specs.declared.values.Value.TheVariants.{Number}
 use Rattle.effect_form.specs.declared.effects.Effect.TheVariants as effect
 use Rattle.effect_form.specs.declared.outcomes.Outcome.TheVariants as ended
 use Rattle.message_form.specs.declared.messages.Message.TheVariants as message
-use Rattle.world_core.specs.declared.entries.Entry.TheVariants.{Crash}
 use Rattle.world_core.specs.declared.traces.Sent.{Sent}
 use Rattle.trace_logs.proofs.WorkedTraces.{home, desk, stamp, lone_act, prompt}
 use Rattle.report_writer.specs.declared.records.TryOutcome.TheVariants as outcome

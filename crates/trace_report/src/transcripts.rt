@@ -32,7 +32,7 @@ fn asks_write(next: &Next) -> bool
     }
 }
 
-// Gives the run the value that it asks for. False where it asks for none.
+// Gives the run the value that it waits for. False where it waits for none.
 fn give_value(alloc: Global, run: &mut Run, value: &Value) -> Result<bool, AllocError>
     ensures script { OnOk result (run.new.script ≡ run.old.script) }
     ensures gave { IfOk result (λ gave. Gave gave run.old run.new (Got value.now)) }
@@ -59,7 +59,7 @@ fn give_stored(alloc: Global, run: &mut Run) -> Result<bool, AllocError>
     Ok(true)
 }
 
-// Gives the run an answer. False where it asks for none of this kind.
+// Gives the run an answer. False where it waits for none of this kind.
 fn give(alloc: Global, run: &mut Run, answer: &Answered) -> Result<bool, AllocError>
     ensures script { OnOk result (run.new.script ≡ run.old.script) }
     ensures gave { IfOk result (λ gave. Gave gave run.old run.new (answer_of answer.now)) }

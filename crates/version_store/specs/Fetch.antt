@@ -92,7 +92,7 @@ abbrev pub sight_of : Place → Option (List ℕ) → PageState → Sight
 sight_of place None state = first_sight place (sheet_on state)
 sight_of place (Some pieces) state = next_sight pieces place (sheet_on state)
 
--- so it is told; and pieces tell that there is none where no page is behind them, of so many
+-- so it is answered; and pieces tell that there is none where no page is behind them, of so many
 abbrev pub Tells : ℕ → ℕ → Option Written → Sight → Type 0
 Tells pages page found (Told told) = told ≡ found
 Tells pages page found (Due pieces) = (found ≡ None) × (page + 1 ≡ pages)

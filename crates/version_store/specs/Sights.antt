@@ -23,7 +23,7 @@ abbrev pub found_of : Result Written ℕ → Option Written
 found_of (Ok found) = Some found
 found_of (Err page) = None
 
--- the page on which that was told
+-- the page that told that
 abbrev pub told_of : Result Written ℕ → ℕ → Type 0
 told_of (Ok found) page = Unit {0}
 told_of (Err at) page = at ≡ page

@@ -154,7 +154,7 @@ fn look_next(
     }
 }
 
-// What was told, or the page that told that there is none.
+// What was found, or the page that told that there is none.
 fn answer(told: Option<(Effect, Option<Place>)>, page: u32) -> Result<(Effect, Option<Place>), u32>
     ensures found { found_of result ≡ told }
     ensures page { told_of result page }

@@ -80,7 +80,7 @@ impl<M: Medium> Store<M> {
         ensures was { IsTrue M.tells → IfOk result (λ r. M.may_leave medium (M.reads (medium_of r.0))) }
         ensures only { IsTrue M.tells → IfOk result (λ r. Only (M.reads medium) (M.may_leave (medium_of r.0))) }
 
-        // The first damaged page is told; over every medium it was read last and isn't blank.
+        // The first damaged page is reported; over every medium it was read last and isn't blank.
         ensures damaged { IsTrue M.tells → IfErr result (λ e. (page : ℕ) → e.1 ≡ OpenFault.Damaged page →
             storage (M.reads medium) ≡ Err page) }
         ensures shown { IfErr result (λ e. (page : ℕ) → e.1 ≡ OpenFault.Damaged page →

@@ -1,56 +1,21 @@
 -- A run of votes has begun: the members sit or are down, and the polls have gone.
 use Rattle.std.proofs.Common.{◌≡◌, ℕ, suc, ◌+◌, ◌<◌, ◌≤◌, ◌^◌, Bool, true, false, List, [], ◌++◌, length, map, refl, sym, ap, subst, ◌∙◌, arith}
-use Rattle.std.specs.Prelude.{Option, Some, None, Ok, Err, Result, not, nat_lt, IsTrue, OnOk}
-use Rattle.std.specs.Option.{unwrap_or}
-use Rattle.std.proofs.lemmas.Bool.Decides.{nat_tests}
-use Rattle.std.proofs.lemmas.List.{append-nil}
-use Rattle.std.proofs.lemmas.Option.{same_Some, slice_get_within}
-use Rattle.pseudo_time.specs.Nodes.{broker, same_node}
-use Rattle.pseudo_time.specs.declared.down_causes.DownCause.{DownCause}
-use Rattle.pseudo_time.specs.declared.nodes.NodeId.{NodeId}
-use Rattle.stream_port.specs.declared.fates.Asked.{Asked}
-use Rattle.version_store.specs.Storage.{storage}
-use Rattle.record_votes.specs.Polls.{PollState, member, number_of}
-use Rattle.record_votes.specs.Voting.{Line, new_poll, opened}
-use Rattle.record_votes.specs.declared.member_numbers.MemberNumber.{MemberNumber}
-use Rattle.record_votes.specs.declared.member_numbers.MemberNumber.TheVariants.{First, Second, Third}
-use Rattle.world_core.specs.declared.entries.Entry.{Entry}
+use Rattle.vote_call.proofs.Names.{Option, Some, None, Ok, Err, Result, not, nat_lt, IsTrue, OnOk, unwrap_or, nat_tests, append-nil, same_Some, slice_get_within, broker, same_node, DownCause, NodeId, Asked, storage, PollState, member, number_of, Line, new_poll, MemberNumber, First, Second, Third, Entry, opened_log, tick_moments, Opening, Media, HasOpened, IsWanting, log_in, PollLine, Hall, line_at, log_at, start_hall, WasNotOpened, base_of, CourierParts, Keeps, Tells, Stands, hall_of, trace_of, never-false, Fares, Lengthens, some_wants, wants, PollsGo, MemberIsAt, Sits, Members, Seat, out-stays, HaveOpened, medium_of, lines_of, polls_from, BeginsOver, BegunFor, Fall, Falls, HasBegun, LastFor, seat_for, MemberMedia, Openings}
+use Rattle.record_votes.specs.Voting.{opened}
 use Rattle.world_core.specs.Legal.{asked_of}
-use Rattle.world_core.specs.Walks.{opened_log}
-use Rattle.vote_run.specs.Clocked.{tick_moments}
-use Rattle.vote_run.specs.Opening.{Opening}
 use Rattle.vote_run.specs.Opening.TheVariants as opening
-use Rattle.vote_run.specs.Media.{Media}
-use Rattle.vote_run.specs.Openings.{HasOpened, IsWanting, log_in}
-use Rattle.vote_form.specs.declared.poll_lines.PollLine.{PollLine}
-use Rattle.vote_run.specs.Walks.{Hall, line_at, log_at, start_hall}
-use Rattle.vote_run.specs.Legal.{JustVoters, WasNotOpened, base_of, is_node}
-use Rattle.vote_run.specs.Couriers.{CourierParts}
-use Rattle.vote_run.specs.Places.{Keeps, PollIsAt, PollIsNew, Tells}
-use Rattle.vote_run.specs.Stations.{Stands, hall_of, trace_of}
-use Rattle.vote_run.proofs.PlaceLemmas.{and-false, never-false}
+use Rattle.vote_run.specs.Legal.{JustVoters, is_node}
+use Rattle.vote_run.specs.Places.{PollIsAt, PollIsNew}
+use Rattle.vote_run.proofs.PlaceLemmas.{and-false}
 use Rattle.vote_run.proofs.StationLemmas.{begins}
-use Rattle.vote_run.specs.Fares.{Fares, Lengthens}
-use Rattle.vote_run.specs.Members.{MayAllTurn, some_wants, wants}
-use Rattle.vote_run.specs.Rounds.{PollsGo, PollsWent, is_poll}
-use Rattle.vote_run.specs.Seats.{MemberIsAt}
-use Rattle.vote_run.specs.Sittings.{Sits}
-use Rattle.vote_run.specs.declared.members.Members.{Members}
-use Rattle.vote_run.specs.declared.seats.Seat.{Seat}
-use Rattle.vote_run.proofs.EntryLemmas.{out-stays}
+use Rattle.vote_run.specs.Members.{MayAllTurn}
+use Rattle.vote_run.specs.Rounds.{PollsWent, is_poll}
 use Rattle.vote_run.proofs.FareLemmas.{fares-along}
 use Rattle.vote_run.proofs.MembersLemmas.{or-parts, sits-stay}
 use Rattle.vote_run.proofs.VoterLemmas.{just-voters}
-use Rattle.vote_call.specs.Media.{HaveOpened, SomeOpened, medium_of, opening_of}
-use Rattle.vote_call.specs.Polls.{lines_of, polls_from}
-use Rattle.vote_call.specs.Starts.{BeginsOver, BegunFor, Fall, Falls, HasBegun, LastFor, SeatsAll, opened_for, seat_for}
-use Rattle.vote_call.specs.declared.member_media.MemberMedia.{MemberMedia}
-use Rattle.vote_call.specs.declared.openings.Openings.{Openings}
+use Rattle.vote_call.specs.Media.{SomeOpened, opening_of}
+use Rattle.vote_call.specs.Starts.{SeatsAll, opened_for}
 use Rattle.vote_call.proofs.StartLemmas.{AreOthers, lasts-sit, may-sit, fall-keeps, falls-longer, fares-open, lines-count, member-stays, none-below, none-walked, others-stay, own-sits, polls-at, polls-count, polls-stay, seated, voter-log, within-lines}
-
-pub both-ok : {T E A B C : Type 0} (r : Result T E) → (A → B → C) → OnOk r A → OnOk r B → OnOk r C
-both-ok (Ok x) f a b = f a b
-both-ok (Err e) f a b = tt
 
 all-below : (k n : ℕ) → k < n → nat_lt k n ≡ true
 all-below k n less = grind (arith, nat_tests, less)

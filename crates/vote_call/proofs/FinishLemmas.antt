@@ -1,76 +1,49 @@
 -- What a run of votes comes to, once it is over.
 use Rattle.std.proofs.Common.{◌≡◌, ℕ, zero, suc, ◌+◌, ◌<◌, ◌≤◌, ◌^◌, Bool, true, false, List, [], ◌∷◌, ◌++◌, length, map, take, inl, inr, refl, sym, ap, subst, ◌∙◌, arith}
-use Rattle.std.specs.Prelude.{Option, Some, None, Ok, Err, Result, ◌⊎◌, cond, IsOk, OnOk, is_err, is_some, max, slice_get, IsTrue}
-use Rattle.std.specs.Option.{unwrap_or}
+use Rattle.vote_call.proofs.Names.{Option, Some, None, Ok, Err, Result, ◌⊎◌, cond, OnOk, slice_get, IsTrue, unwrap_or, append-nil, same_Some, slice_get_within, DownCause, NodeId, RoseBy, Asked, StaysClean, storage, PollState, member, Line, MemberNumber, First, Second, Third, Entry, Down, own, tick_moments, Media, HasOpened, IsAsItWas, Opening, down_cause, costs, PollLine, Base, Hall, log_at, start_hall, walk_from, WasNotOpened, base_of, CourierParts, Tells, hall_of, trace_of, never-false, Fares, ShutAs, KeepsWhole, Lasts, Sits, SitsUp, Members, Seat, Up, Fallen, Wanting, out-stays, Grows, clean-same, grows-same, AreKept, HaveOpened, medium_of, lines_of, polls_from, BeginsOver, BegunFor, HasBegun, LastFor, Openings, MemberMedia}
+use Rattle.std.specs.Prelude.{IsOk, is_err, is_some, max}
 use Rattle.std.specs.List.{count_by, list_all}
 use Rattle.std.proofs.lemmas.Bool.{and_parts}
-use Rattle.std.proofs.lemmas.List.{append-nil}
 use Rattle.std.proofs.lemmas.List.Sums.{sum_by-cons}
-use Rattle.std.proofs.lemmas.Option.{same_Some, slice_get_within}
 use Rattle.pseudo_time.specs.Lists.{Every}
-use Rattle.pseudo_time.specs.declared.down_causes.DownCause.{DownCause}
 use Rattle.pseudo_time.specs.declared.down_causes.DownCause.TheVariants as down
-use Rattle.pseudo_time.specs.declared.nodes.NodeId.{NodeId}
-use Rattle.stream_port.specs.Causes.{Rose, RoseBy}
-use Rattle.stream_port.specs.declared.fates.Asked.{Asked}
+use Rattle.stream_port.specs.Causes.{Rose}
 use Rattle.stream_port.specs.declared.fates.Fate.{Fate}
 use Rattle.page_gate.specs.States.{is_blank}
-use Rattle.version_store.specs.Filling.{StaysClean, filling}
-use Rattle.version_store.specs.Storage.{storage}
+use Rattle.version_store.specs.Filling.{filling}
 use Rattle.version_store.specs.StoreWords as words
 use Rattle.version_store.specs.declared.stores.Store.{Store}
 use Rattle.record_votes.specs.Books.{MemberState}
-use Rattle.record_votes.specs.Polls.{PollState, held, member}
-use Rattle.record_votes.specs.Voting.{Line, Member}
-use Rattle.record_votes.specs.declared.member_numbers.MemberNumber.{MemberNumber}
-use Rattle.record_votes.specs.declared.member_numbers.MemberNumber.TheVariants.{First, Second, Third}
-use Rattle.world_core.specs.declared.entries.Entry.{Entry}
-use Rattle.world_core.specs.declared.entries.Entry.TheVariants.{Take, Go, Learn, Hear, Gate, Crash, Down, Tick}
+use Rattle.record_votes.specs.Polls.{held}
+use Rattle.record_votes.specs.Voting.{Member}
+use Rattle.world_core.specs.declared.entries.Entry.TheVariants.{Take, Go, Learn, Hear, Gate, Crash, Tick}
 use Rattle.world_core.specs.declared.traces.Trace.{Trace}
 use Rattle.world_core.specs.Legal.{fates_of}
-use Rattle.world_core.specs.Walks.{own}
-use Rattle.vote_run.specs.Clocked.{tick_moments}
-use Rattle.vote_run.specs.Media.{IsUntouched, Media}
-use Rattle.vote_run.specs.Openings.{HasOpened, IsAsItWas, IsShutFor}
+use Rattle.vote_run.specs.Media.{IsUntouched}
+use Rattle.vote_run.specs.Openings.{IsShutFor}
 use Rattle.vote_run.specs.Openings as openings
-use Rattle.vote_run.specs.Opening.{Opening}
 use Rattle.vote_run.specs.Opening.TheVariants as opening
-use Rattle.world_core.specs.Counts.{down_cause, is_tick, tick_count}
-use Rattle.vote_run.specs.Costs.{costs}
-use Rattle.vote_form.specs.declared.poll_lines.PollLine.{PollLine}
+use Rattle.world_core.specs.Counts.{is_tick, tick_count}
 use Rattle.vote_report.specs.declared.standings.PollStanding.{PollStanding}
-use Rattle.vote_run.specs.Walks.{Base, Hall, log_at, start_hall, step, walk_from}
-use Rattle.vote_run.specs.Legal.{Legal, Meets, WasNotOpened, base_of}
-use Rattle.vote_run.specs.Couriers.{CourierParts}
-use Rattle.vote_run.specs.Places.{Tells}
-use Rattle.vote_run.specs.Stations.{hall_of, trace_of}
-use Rattle.vote_run.proofs.PlaceLemmas.{never-false}
+use Rattle.vote_run.specs.Walks.{step}
+use Rattle.vote_run.specs.Legal.{Legal, Meets}
 use Rattle.vote_promise.specs.Clauses.{AllHold, AreCounted, AreDownFor, HasEnded, HasRunOut, HaveVoted, IsTold, KeepsLog, RestoresLogs, gated_log, open_effects}
 use Rattle.vote_promise.proofs.ClauseLemmas.{caused, stand}
 use Rattle.vote_run.specs.Ends.{IsOver, all_held}
 use Rattle.vote_run.specs.Ends as ends
-use Rattle.vote_run.specs.Fares.{AllFare, FareOn, Fares, FellLater, ShutAs}
-use Rattle.vote_run.specs.Lasts.{AllLast, HasLonger, KeepsWhole, Lasts, LosesNothing, medium_in}
+use Rattle.vote_run.specs.Fares.{AllFare, FareOn, FellLater}
+use Rattle.vote_run.specs.Lasts.{AllLast, HasLonger, LosesNothing, medium_in}
 use Rattle.vote_run.specs.Rounds.{PollsAre}
-use Rattle.vote_run.specs.Sittings.{ShowsCause, Sits, SitsDown, SitsFallen, SitsUp}
+use Rattle.vote_run.specs.Sittings.{ShowsCause, SitsDown, SitsFallen}
 use Rattle.vote_run.specs.declared.limits.Limits.{Limits}
-use Rattle.vote_run.specs.declared.members.Members.{Members}
-use Rattle.vote_run.specs.declared.seats.Seat.{Seat}
-use Rattle.vote_run.specs.declared.seats.Seat.TheVariants.{Up, Fallen, Wanting}
-use Rattle.vote_run.proofs.EntryLemmas.{out-down, out-stays, was-opened}
-use Rattle.vote_run.specs.Closings.{Grows}
+use Rattle.vote_run.proofs.EntryLemmas.{out-down, was-opened}
 use Rattle.vote_promise.proofs.CompleteLemmas.{completes}
-use Rattle.vote_run.proofs.FareLemmas.{clean-same, grows-same}
-use Rattle.vote_call.specs.Media.{AreKept, HaveOpened, given_back, handed_back, medium_of}
-use Rattle.vote_call.specs.Media.{IsKept as IsKeptBack}
+use Rattle.vote_call.specs.Media.{given_back, handed_back, IsKept as IsKeptBack}
 use Rattle.vote_call.specs.Ends.{EndedFor, EndsAs, IsOver as HasBeenOver, RunsAs, Tells as TellsEnd, tellers}
-use Rattle.vote_call.specs.Polls.{lines_of, polls_from, standing_from, standings_of}
-use Rattle.vote_call.specs.Starts.{BeginsOver, BegunFor, HasBegun, LastFor}
-use Rattle.vote_call.specs.declared.openings.Openings.{Openings}
+use Rattle.vote_call.specs.Polls.{standing_from, standings_of}
 use Rattle.vote_call.specs.declared.voting.VoteEnd.{VoteEnd}
 use Rattle.vote_call.specs.declared.voting.VoteEnd.TheVariants.{Told, NoMemory}
 use Rattle.vote_call.proofs.StartLemmas.{lines-count, polls-count}
-use Rattle.vote_call.specs.declared.member_media.MemberMedia.{MemberMedia}
 
 -- what holds of Ok
 ok-then : {T E P : Type 0} (r : Result T E) → IsOk r → OnOk r P → P
@@ -533,7 +506,3 @@ ended-for w limits os c e d ps ps1 qs ms0 ms (Ok x) begun count ended fares = λ
     (let g = begun media polls asked answers h are b in
     let size : length (lines_of polls) ≡ length ps1 = lines-count polls ∙ sym (count ∙ ap length are ∙ polls-count 1 polls) in
     record { first = e; members = ms0; polls_then = ps1; begun = g; ended = λ told. ended told (lines_of polls) size (g.between told) (g.ticks told); fares = fares (medium_of media) g.fares })
-
-pub ok-if : {T E : Type 0} (r : Result T E) → is_err r ≡ false → IsOk r
-ok-if (Ok x) e = refl
-ok-if (Err x) e = never-false e

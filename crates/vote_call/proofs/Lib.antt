@@ -1,3 +1,4 @@
 pub mod BeginLemmas
 pub mod FinishLemmas
 pub mod StartLemmas
+pub mod Names

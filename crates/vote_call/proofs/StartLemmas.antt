@@ -1,59 +1,29 @@
 -- How a run of votes begins: who can't be opened is down, and the others sit.
 use Rattle.std.proofs.Common.{◌≡◌, ℕ, zero, suc, ◌+◌, ◌<◌, Bool, true, false, List, [], ◌∷◌, ◌++◌, length, inl, inr, refl, sym, ap, subst, ◌∙◌, arith}
-use Rattle.std.specs.Prelude.{Option, Some, None, cond, ◌⊎◌, not, nat_lt, slice_get, if◌then◌else◌, IsTrue}
-use Rattle.std.specs.Option.{unwrap_or}
-use Rattle.std.proofs.lemmas.Bool.Decides.{nat_tests}
-use Rattle.std.proofs.lemmas.List.{append-nil}
-use Rattle.std.proofs.lemmas.Option.{same_Some}
-use Rattle.pseudo_time.specs.Nodes.{broker, same_node}
-use Rattle.pseudo_time.specs.declared.down_causes.DownCause.{DownCause}
-use Rattle.pseudo_time.specs.declared.nodes.NodeId.{NodeId}
-use Rattle.stream_port.specs.Causes.{RoseBy}
+use Rattle.vote_call.proofs.Names.{Option, Some, None, cond, ◌⊎◌, not, nat_lt, slice_get, IsTrue, unwrap_or, nat_tests, append-nil, same_Some, broker, same_node, DownCause, NodeId, RoseBy, StaysClean, PollState, member, number_of, Line, new_poll, MemberNumber, First, Second, Third, Entry, Down, opened_log, own, Opening, Media, HasOpened, IsAsItWas, IsWanting, log_in, down_cause, PollLine, Grows, costs, Base, Hall, line_at, start_hall, walk_from, base_of, CourierParts, Keeps, Stands, hall_of, trace_of, never-false, Fares, Lengthens, ShutAs, KeepsWhole, Lasts, wants, PollsGo, MemberIsAt, Sits, SitsUp, opened_voters, Seat, Up, Fallen, Wanting, clean-same, grows-same, lines_of, polls_from, Falls, seat_for}
+use Rattle.std.specs.Prelude.{if◌then◌else◌}
 use Rattle.medium_port.specs.Image.{page_of}
 use Rattle.effect_form.specs.declared.effects.Effect.{Effect}
 use Rattle.message_core.proofs.NodeLemmas.{same_node-refl}
-use Rattle.version_store.specs.Filling.{KeepsPages, StaysClean}
+use Rattle.version_store.specs.Filling.{KeepsPages}
 use Rattle.version_store.specs.StoreWords as words
-use Rattle.record_votes.specs.Polls.{PollState, member, number_of}
-use Rattle.record_votes.specs.Voting.{Line, new_poll}
-use Rattle.record_votes.specs.declared.member_numbers.MemberNumber.{MemberNumber}
-use Rattle.record_votes.specs.declared.member_numbers.MemberNumber.TheVariants.{First, Second, Third}
-use Rattle.world_core.specs.declared.entries.Entry.{Entry}
-use Rattle.world_core.specs.declared.entries.Entry.TheVariants.{Down}
 use Rattle.world_core.specs.declared.traces.Opened.{Opened}
 use Rattle.world_core.specs.Legal.{is_within}
-use Rattle.world_core.specs.Walks.{Flags, is_down, opened_log, own}
-use Rattle.vote_run.specs.Opening.{Opening}
+use Rattle.world_core.specs.Walks.{Flags, is_down}
 use Rattle.vote_run.specs.Opening.TheVariants as opening
-use Rattle.vote_run.specs.Media.{Media}
-use Rattle.vote_run.specs.Openings.{HasOpened, IsAsItWas, IsWanting, log_in}
-use Rattle.world_core.specs.Counts.{down_cause}
-use Rattle.vote_form.specs.declared.poll_lines.PollLine.{PollLine}
 use Rattle.vote_run.specs.Closings.{LeavesLog}
-use Rattle.vote_run.specs.Costs.{costs}
-use Rattle.vote_run.specs.Walks.{Base, Hall, line_at, start_hall, walk, walk_from}
-use Rattle.vote_run.specs.Legal.{IsOfDowns, base_of}
-use Rattle.vote_run.specs.Couriers.{CourierParts, with_entry}
-use Rattle.vote_run.specs.Places.{Keeps, OnlyChanges}
-use Rattle.vote_run.specs.Stations.{Stands, hall_of, trace_of}
-use Rattle.vote_run.proofs.PlaceLemmas.{down-called, flags-on, keeps, keeps-still, leads, never-false}
+use Rattle.vote_run.specs.Walks.{walk}
+use Rattle.vote_run.specs.Legal.{IsOfDowns}
+use Rattle.vote_run.specs.Couriers.{with_entry}
+use Rattle.vote_run.specs.Places.{OnlyChanges}
+use Rattle.vote_run.proofs.PlaceLemmas.{down-called, flags-on, keeps, keeps-still, leads}
 use Rattle.vote_run.proofs.StationLemmas.{downs-legal}
-use Rattle.vote_run.specs.Fares.{Fares, FaresWell, HasPaid, Lengthens, NeverOpened, ShutAs}
-use Rattle.vote_run.specs.Lasts.{KeepsWhole, Lasts}
+use Rattle.vote_run.specs.Fares.{FaresWell, HasPaid, NeverOpened}
 use Rattle.vote_run.specs.MemberTurns.{MayTurn}
-use Rattle.vote_run.specs.Members.{wants}
-use Rattle.vote_run.specs.Rounds.{PollsGo}
-use Rattle.vote_run.specs.Seats.{MemberIsAt}
-use Rattle.vote_run.specs.Sittings.{Sits, SitsUp}
-use Rattle.vote_run.specs.Voters.{opened_voters}
-use Rattle.vote_run.specs.declared.seats.Seat.{Seat}
-use Rattle.vote_run.specs.declared.seats.Seat.TheVariants.{Up, Fallen, Wanting}
 use Rattle.vote_run.proofs.EntryLemmas.{down-more, none-own, own-still}
-use Rattle.vote_run.specs.Closings.{Grows}
-use Rattle.vote_run.proofs.FareLemmas.{clean-same, grows-same}
 use Rattle.vote_run.proofs.PollLemmas.{new-stays, ready-stays}
-use Rattle.vote_call.specs.Polls.{line_of, lines_of, polls_from}
-use Rattle.vote_call.specs.Starts.{Falls, SeatsAs, seat_for}
+use Rattle.vote_call.specs.Polls.{line_of}
+use Rattle.vote_call.specs.Starts.{SeatsAs}
 
 -- ---- what was opened
 

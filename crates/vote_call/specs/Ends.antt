@@ -30,13 +30,13 @@ pub record Stand {M : Type 0} (w : Media M) (polls : List PollLine) (t : Trace) 
   pub stamps : map (λ (s : PollStanding). s.stamp) standings ≡ map (λ (l : PollLine). l.stamp) polls
   pub held : IsTrue w.tells → standings ≡ standing_from (hall_after (lines_of polls) t) 1 polls
 
--- The trace is told, and how the polls stand at its end; or memory ran out.
+-- The trace is reported, and how the polls stand at its end; or memory ran out.
 abbrev pub EndsAs : {M : Type 0} → Media M → Limits → List PollLine → Tellers → (media left : MemberMedia M) → VoteEnd → Type 0
 EndsAs w limits polls told media left (Told t standings) =
     HaveVoted w limits.ticks limits.messages (lines_of polls) told (medium_of media) (medium_of left) t × Stand w polls t standings
 EndsAs w limits polls told media left NoMemory = Unit {0}
 
--- what is told of a run that ended so, with this trace and these polls
+-- what is reported of a run that ended so, with this trace and these polls
 abbrev pub Tells : {E : Type 0} → List PollLine → List PollState → Trace → Result Unit E → VoteEnd → Type 0
 Tells polls ps trace ended (Told t standings) = IsOk ended × (t ≡ trace) × (standings ≡ standings_of polls ps)
 Tells polls ps trace ended NoMemory = Unit {0}

@@ -1,4 +1,4 @@
--- What is told of votes.
+-- What is reported of votes.
 use Rattle.std.specs.Prelude.{ℕ, Bool, List, ◌++◌}
 use Rattle.std.specs.List.{list_any}
 use Rattle.pseudo_time.specs.Nodes.{repository}

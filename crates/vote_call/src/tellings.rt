@@ -1,4 +1,4 @@
-//! What is told of votes: the text, and the status.
+//! What is reported of votes: the text, and the status.
 ghost use Rattle.std.specs.Prelude.{◌≡◌, ◌++◌, ◌<◌, ◌^◌, length, IfOk, OnOk};
 ghost use Rattle.pseudo_time.specs.Nodes.{repository};
 ghost use Rattle.world_core.specs.Counts.{down_cause};

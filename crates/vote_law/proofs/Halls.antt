@@ -203,9 +203,6 @@ module _ (b : Base) (h : Hall) (number : ℕ) (x : Sending) (sent : numbered h.s
     abbrev With : List Mark → Member → Type 0
     With asks m = Talks l asks (marks (member s) (broker i) later 1 h.sendings ++ waiting (broker i) m.owed) (ballot (h.polls i) s) (all_effects m) (is_some (held (h.polls i))) (h.flags (broker i)).gone
 
-    m-old : Member
-    m-old = h.members s
-
     abbrev gave : Given
     gave = on_message (all_effects (h.members s)) (h.members s).moment x.post.from x.post.message
 

@@ -89,7 +89,7 @@ module _ {M : Type 0} (w : Media M) (lines : List Line) where
   pub record RestoresLogs (media left : MemberNumber → Option M) (t : Trace) : Type 0 where
     pub opened : (s : MemberNumber) → (WasNotOpened t.entries (member s) → ⊥) → (old : M) × (new : M) × Became media left s old new × (IsTrue w.tells → KeepsLog t s old new)
     pub unopened : (s : MemberNumber) (old new : M) → WasNotOpened t.entries (member s) → Became media left s old new → IsUntouched w old new
-    -- it is told of each member whether it was opened
+    -- it is reported of each member whether it was opened
     pub either : (s : MemberNumber) → WasNotOpened t.entries (member s) ⊎ (WasNotOpened t.entries (member s) → ⊥)
 
   -- whatever a crash leaves of the member's medium has a Decide of this kind

@@ -396,9 +396,6 @@ module _ {M : Type 0} {g : _} (w : Media M) (lines : List Line) where
   may-late number (Fallen left) h = h
   may-late number (Wanting left) h = h
 
-  pub may-all-late : (ms : Members M g) → MayAllTurn w ms → MayAllTurn w (all_late ms)
-  may-all-late ms h = record { first = may-late 1 ms.first h.first; second = may-late 2 ms.second h.second; third = may-late 3 ms.third h.third }
-
 -- ---- results
 
 pub not-err : {T E : Type 0} (r : Result T E) (P : Type 0) → is_err r ≡ false → OnOk r P → P

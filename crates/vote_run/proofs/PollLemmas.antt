@@ -101,9 +101,6 @@ module _ (lines : List Line) (c d f : CourierParts) (i : ℕ) (ps : List PollSta
         };
       }
 
-pub turned-none : (lines : List Line) (c : CourierParts) (behind : Bool) (ps : List PollState) → Stands lines c → PollsAre (hall_of lines c) 0 behind ps → PollsTurned lines c c 0 behind ps
-turned-none lines c behind ps s at = record { keeps = keeps-still lines is_poll c c s refl; polls = at }
-
 pub went-none : (lines : List Line) (c : CourierParts) (ps : List PollState) → Stands lines c → PollsGo (hall_of lines c) 0 ps → PollsWent lines c c 0 ps
 went-none lines c ps s at = record { keeps = keeps-still lines is_poll c c s refl; polls = at }
 

@@ -22,7 +22,7 @@ use Rattle.vote_courier.specs.Couriers.{CourierParts, HasSent, Takes, with_entry
 use Rattle.vote_run.specs.declared.seats.Seat.{Seat}
 use Rattle.vote_run.specs.declared.seats.Seat.TheVariants.{Up, Fallen, Wanting}
 
--- ---- what a member is told
+-- ---- what reaches a member
 
 -- it hears the last Tick, of this moment
 pub record HearsMoment (n : NodeId) (moment : ℕ) (old new : CourierParts) (m k : MemberState) (t : Turn) : Type 0 where

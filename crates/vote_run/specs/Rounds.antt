@@ -12,7 +12,7 @@ use Rattle.vote_courier.specs.Places.{Keeps, PollIsAt, PollIsNew}
 abbrev pub is_poll : NodeId → Bool
 is_poll n = is_broker n.kind
 
--- These are the polls. The first ones, so many, have heard the last Tick; of the others it is told whether one stands that they haven't heard.
+-- These are the polls. The first ones, so many, have heard the last Tick; of the others it is known whether one stands that they haven't heard.
 abbrev pub PollsAre : Hall → ℕ → Bool → List PollState → Type 0
 PollsAre h heard behind ps = (k : ℕ) (p : PollState) → slice_get ps k ≡ Some p → PollIsAt h (suc k) p (not (nat_lt k heard) && behind)
 

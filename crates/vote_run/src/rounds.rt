@@ -25,7 +25,7 @@ pub fn all_held(polls: &[Poll]) -> bool
     polls.iter().all(|poll| poll.held().is_some())
 }
 
-// What follows a round, where it is told whether a tick stands that some member hasn't heard, and how
+// What follows a round, where it is known whether a tick stands that some member hasn't heard, and how
 // many ticks stand.
 fn follow<F: Fates, C: Clock>(
     courier: &mut Courier<F, C>,

@@ -48,13 +48,3 @@ module _ {M : Type 0} (w : Media M) where
     second = given-usable a (member_name 2) media.second h.are.1.0;
     third = given-usable a (member_name 3) media.third h.are.1.1.0;
   }
-
-module _ {M : Type 0} where
-  -- kept one after another
-  pub members-kept : (media : MemberMedia M) (none one two all : List (Kept M)) → none ≡ [] → one ≡ none ++ kept_as (member_name 1) media.first → two ≡ one ++ kept_as (member_name 2) media.second
-      → all ≡ two ++ kept_as (member_name 3) media.third → all ≡ kept_under member_names (in_order media)
-  members-kept media none one two all e p q r =
-      let first : one ≡ kept_as (member_name 1) media.first = p ∙ ap (λ l. l ++ kept_as (member_name 1) media.first) e in
-      r ∙ ap (λ l. l ++ kept_as (member_name 3) media.third) (q ∙ ap (λ l. l ++ kept_as (member_name 2) media.second) first)
-      ∙ append_assoc (kept_as (member_name 1) media.first) (kept_as (member_name 2) media.second) (kept_as (member_name 3) media.third)
-      ∙ ap (λ l. kept_as (member_name 1) media.first ++ (kept_as (member_name 2) media.second ++ l)) (sym (append-nil (kept_as (member_name 3) media.third)))

@@ -99,7 +99,7 @@ impl Case {
         }
     }
 
-    /// Carries out a line that is told.
+    /// Carries out a line that is printed.
     pub fn follow(&mut self, line: &str, said: &mut String) -> Result<(), CaseFault> {
         if line.is_empty() || line.starts_with('#') {
             return Ok(());

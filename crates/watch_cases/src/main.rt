@@ -1,4 +1,4 @@
-//! Carries out cases of watches and of the archive. A case is told in lines on standard input; each line
+//! Carries out cases of watches and of the archive. A case is written in lines on standard input; each line
 //! goes to standard output, and behind it what came of it, or why it can't be carried out. A line that
 //! begins with `#` is a remark.
 //!

@@ -7,7 +7,7 @@ use pseudo_time::{PseudoTime, Stamp};
 use std::alloc::{AllocError, Global};
 use value_form::ObjectId;
 
-// How the stamp was settled first.
+// How the stamp was decided first.
 fn settled(marks: &[Mark], stamp: Stamp) -> Option<bool> {
     for mark in marks {
         if let Mark::Settle(name, committed) = mark {
@@ -40,7 +40,7 @@ fn next_object(marks: &[Mark], above: Option<ObjectId>) -> Option<ObjectId> {
     least
 }
 
-// Whether a put with this start is below the pseudotime, and settled so.
+// Whether a put with this start is below the pseudotime, and decided so.
 fn is_wanted(marks: &[Mark], start: PseudoTime, at: PseudoTime, state: Option<bool>) -> bool {
     start < at && settled(marks, start.stamp()) == state
 }

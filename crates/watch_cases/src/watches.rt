@@ -92,7 +92,7 @@ fn tell_fault(alloc: Global, fault: &WatchFault, said: &mut String) -> Result<()
     }
 }
 
-// A watch advances. Of one that does nothing is told.
+// A watch advances. Of one that does nothing is printed.
 fn advance<R: WatchRule, F: Callback<R> + Drop>(
     alloc: Global,
     watches: &mut Watches<R, F>,

@@ -1,23 +1,11 @@
 -- Each medium that a watch took is handed back.
 use Rattle.std.proofs.Common.{◌≡◌, ◌⊎◌, ◌≤◌, ◌<◌, ℕ, zero, suc, List, [], ◌∷◌, ◌++◌, length, length-append, map, refl, sym, ◌∙◌, ap, subst, arith, Option, Some, None, inl, inr}
-use Rattle.std.proofs.lemmas.List.{append_assoc, length-map}
-use Rattle.std.proofs.lemmas.Slice.Zip.{AllZip-long}
+use Rattle.watch_command.proofs.Names.{append_assoc, length-map, AllZip-long, Mark, MediumName, Opening, Open, Shut, Wanting, Media, HasOpened, medium_in, Kept, kept_as, kept_under, ShelfSight, first_names, volume_name, Outcome, Rule, totals_volume, ComesTo, StopsBefore, WatchesOver}
 use Rattle.pseudo_time.specs.Nodes.{repository as named}
-use Rattle.object_history.specs.declared.marks.Mark.{Mark}
-use Rattle.medium_port.specs.declared.shelves.MediumName.{MediumName}
-use Rattle.run_volumes.specs.Opening.{Opening}
-use Rattle.run_volumes.specs.Opening.TheVariants.{Open, Shut, Wanting}
-use Rattle.run_volumes.specs.Media.{AreBack, IsBack, Media}
-use Rattle.run_volumes.specs.Openings.{HasOpened, medium_in}
-use Rattle.run_volumes.specs.declared.kept.Kept.{Kept}
-use Rattle.run_volumes.specs.Kept.{AllKept, kept_as, kept_under}
-use Rattle.run_volumes.specs.Shelves.{ShelfSight, first_names, volume_name}
+use Rattle.run_volumes.specs.Media.{AreBack, IsBack}
+use Rattle.run_volumes.specs.Kept.{AllKept}
 use Rattle.run_volumes.proofs.ShelfLemmas.{all-kept, names-long}
 use Rattle.run_volumes.proofs.StandLemmas.{back-all}
-use Rattle.archive_command.specs.declared.outcomes.Outcome.{Outcome}
-use Rattle.command_words.specs.declared.rules.Rule.{Rule}
-use Rattle.watch_command.specs.Totals.{totals_volume}
-use Rattle.watch_command.specs.Watches.{ComesTo, StopsBefore, WatchesOver}
 
 -- ---- one more behind others
 

@@ -3,3 +3,4 @@ pub mod TotalLemmas
 pub mod RangeLemmas
 pub mod WatchLemmas
 pub mod KeptLemmas
+pub mod Names

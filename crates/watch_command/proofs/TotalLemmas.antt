@@ -1,27 +1,14 @@
 -- What a watch is given of the totals that a log has.
 use Rattle.std.proofs.Common.{◌≡◌, ℤ, Bool, true, false, cond, List, [], ◌∷◌, length, drop, refl, sym, ◌∙◌, ap, subst, Option, Some, None, if◌then◌else◌}
-use Rattle.std.specs.Prelude.{◌⊎◌, Ok, is_some}
+use Rattle.watch_command.proofs.Names.{Ok, is_some, true≢false, false≢true, TimeParts, ObjectId, Effect, Mark, same_object, same_object-is, Moved, Version, WatchFault, advanced, IsRefusal, cursor_of, moved_at, or_before, with_moved, if_of, last_total, total_put, AreCursors, AreRestored}
+use Rattle.std.specs.Prelude.{◌⊎◌}
 use Rattle.std.specs.Ordering.{is_eq}
-use Rattle.std.proofs.lemmas.Bool.{true≢false, false≢true}
-use Rattle.pseudo_time.specs.TimeParts.{TimeParts}
-use Rattle.value_form.specs.declared.objects.ObjectId.{ObjectId}
 use Rattle.value_form.specs.Objects.{object_cmp}
-use Rattle.effect_form.specs.declared.effects.Effect.{Effect}
-use Rattle.object_history.specs.declared.marks.Mark.{Mark}
-use Rattle.object_history.specs.Objects.{same_object}
 use Rattle.object_history.proofs.MapLemmas.{found_at, Puts}
-use Rattle.object_history.proofs.ObjectLemmas.{same_object-is}
-use Rattle.commit_watch.specs.declared.moved.Moved.{Moved}
-use Rattle.commit_watch.specs.declared.versions.Version.{Version}
-use Rattle.commit_watch.specs.declared.faults.WatchFault.{WatchFault}
 use Rattle.commit_watch.specs.declared.faults.WatchFault.TheVariants as fault
-use Rattle.commit_watch.specs.Folds.{advanced}
-use Rattle.commit_watch.specs.Refusals.{IsRefusal}
-use Rattle.commit_watch.specs.Lists.{cursor_of, moved_at, or_before, with_moved}
 use Rattle.commit_watch.proofs.ChangeLemmas.{refused-as}
 use Rattle.commit_watch.proofs.ListLemmas.{moved-with}
-use Rattle.archive_command.specs.Archives.{if_of, last_total, total_put}
-use Rattle.watch_command.specs.Totals.{AreCursors, AreRestored, Cursors}
+use Rattle.watch_command.specs.Totals.{Cursors}
 
 -- ---- one effect more, at the front
 
@@ -104,14 +91,3 @@ restored-end log list empty o = ap (moved_at o) empty ∙ sym (ap (λ z. last_to
 module _ (first : ℤ) (next : ℤ → Version → Option ℤ) (m : List Mark) (log : List Effect) where
   from-restored : (restored : List (Moved ℤ)) → AreRestored log restored → (o : ObjectId) → advanced first next o m None (moved_at o restored) ≡ advanced first next o m None (last_total log o)
   from-restored restored h o = ap (advanced first next o m None) (h o)
-
-  pub folded-each : (restored new list : List (Moved ℤ)) → AreRestored log restored → list ≡ new → ((o : ObjectId) → advanced first next o m None (moved_at o restored) ≡ Ok (moved_at o new)) →
-      (o : ObjectId) → advanced first next o m None (last_total log o) ≡ Ok (moved_at o list)
-  folded-each restored new list h e each o = sym (from-restored restored h o) ∙ each o ∙ sym (ap (λ l. Ok (moved_at o l)) e)
-
-  pub folded-refused : (restored : List (Moved ℤ)) (why : WatchFault) → AreRestored log restored → (why ≡ fault.NoMemory) ⊎ IsRefusal (λ o. advanced first next o m None (moved_at o restored)) why →
-      (why ≡ fault.NoMemory) ⊎ IsRefusal (λ o. advanced first next o m None (last_total log o)) why
-  folded-refused restored why h r = refused-as (λ o. advanced first next o m None (moved_at o restored)) (λ o. advanced first next o m None (last_total log o)) why (from-restored restored h) r
-
-pub folded-cursors : (log : List Effect) (restored : List (Moved ℤ)) (cursors : Cursors) → AreRestored log restored → AreCursors (λ o. moved_at o restored) cursors → AreCursors (last_total log) cursors
-folded-cursors log restored cursors h k o = k o ∙ ap cursor_of (h o)

@@ -1,52 +1,33 @@
 -- What is written into the volume of totals, and what comes of a watch.
 use Rattle.std.proofs.Common.{◌≤◌, arith, length-append, ◌≡◌, ◌≢◌, ◌⊎◌, ◌<◌, ℕ, ℤ, IsTrue, List, [], ◌∷◌, ◌++◌, length, map, reverse, refl, sym, ◌∙◌, ap, subst, Option, Some, None, inl, inr}
-use Rattle.std.specs.Prelude.{Result, Ok, Err, IfOk, Vec}
+use Rattle.watch_command.proofs.Names.{Result, Ok, Err, length-map, AllZip-long, Effect, AreEffects, Mark, MediumName, HasPrefix, WatchFault, Moved, IsRefusal, Opening, Open, Shut, Wanting, Media, HasOpened, medium_in, Kept, kept_as, kept_under, ShelfSight, first_names, volume_name, Stands, AreOpen, logs_of, stand-all, joined_marks, Outcome, Rule, AreTotals, new_puts, outcome_of, totals_volume, Adds, ComesTo, Keeps, StopsBefore, WatchesOver}
+use Rattle.std.specs.Prelude.{IfOk, Vec}
 use Rattle.std.specs.declared.alloc.Global.{Global}
-use Rattle.std.proofs.lemmas.List.{length-map}
-use Rattle.std.proofs.lemmas.Slice.Zip.{AllZip-long}
 use Rattle.pseudo_time.specs.Lists.{Has}
 use Rattle.pseudo_time.specs.Nodes.{repository as named}
 use Rattle.pseudo_time.specs.declared.nodes.NodeId.{NodeId}
 use Rattle.pseudo_time.specs.declared.down_causes.DownCause.{DownCause}
 use Rattle.pseudo_time.specs.declared.down_causes.DownCause.TheVariants as down
 use Rattle.stream_port.specs.Causes.{Rose}
-use Rattle.effect_form.specs.declared.effects.Effect.{Effect}
-use Rattle.effect_form.specs.Effects.{AreEffects}
-use Rattle.object_history.specs.declared.marks.Mark.{Mark}
 use Rattle.medium_port.specs.Image.{Image}
-use Rattle.medium_port.specs.declared.shelves.MediumName.{MediumName}
 use Rattle.version_store.specs.declared.stores.Store.{Store}
 use Rattle.version_store.specs.declared.faults.StoreFault.{StoreFault}
 use Rattle.version_store.specs.declared.faults.StoreFault.TheVariants as adding
 use Rattle.version_store.specs.Causes.{down_of}
-use Rattle.version_store.specs.Filling.{HasPrefix, filling}
+use Rattle.version_store.specs.Filling.{filling}
 use Rattle.version_store.specs.Storage.{storage}
 use Rattle.version_store.specs.StoreWords.{effects_in, left_in, medium_of}
-use Rattle.commit_watch.specs.declared.faults.WatchFault.{WatchFault}
 use Rattle.commit_watch.specs.declared.faults.WatchFault.TheVariants as fault
-use Rattle.commit_watch.specs.declared.moved.Moved.{Moved}
-use Rattle.commit_watch.specs.Refusals.{IsRefusal}
-use Rattle.run_volumes.specs.Opening.{Opening}
-use Rattle.run_volumes.specs.Opening.TheVariants.{Open, Shut, Wanting}
-use Rattle.run_volumes.specs.Media.{Media}
-use Rattle.run_volumes.specs.Openings.{HasOpened, medium_in}
-use Rattle.run_volumes.specs.declared.kept.Kept.{Kept}
-use Rattle.run_volumes.specs.Kept.{kept_as, kept_under}
-use Rattle.run_volumes.specs.Shelves.{ShelfSight, TakesOne, WereTaken, first_names, volume_name}
-use Rattle.run_volumes.specs.Standings.{Stands}
-use Rattle.run_volumes.specs.Volumes.{AreOpen, AreVolumes, logs_of}
+use Rattle.run_volumes.specs.Shelves.{TakesOne, WereTaken}
+use Rattle.run_volumes.specs.Volumes.{AreVolumes}
 use Rattle.run_volumes.proofs.ShelfLemmas.{names-below, taken-both, taken-one}
-use Rattle.run_volumes.proofs.StandLemmas.{given-back, stand-all}
+use Rattle.run_volumes.proofs.StandLemmas.{given-back}
 use Rattle.run_volumes.proofs.VolumeLemmas.{go-few}
 use Rattle.archive_command.specs.Answers.{IsFallen}
-use Rattle.archive_command.specs.Archives.{joined_marks}
-use Rattle.archive_command.specs.declared.outcomes.Outcome.{Outcome}
 use Rattle.archive_command.specs.declared.outcomes.Outcome.TheVariants.{Told, Refused, Fallen, NoMemory}
-use Rattle.command_words.specs.declared.rules.Rule.{Rule}
 use Rattle.command_words.specs.declared.rules.Rule.TheVariants.{Count, Sum, Last}
 use Rattle.watch_command.specs.Lines.{down_watch_line, overflow_line, watch_text}
-use Rattle.watch_command.specs.Totals.{AreTotals, new_puts, outcome_of, totals_volume}
-use Rattle.watch_command.specs.Watches.{Adds, ComesOf, ComesTo, CutsOff, HasFront, Holds, IsReady, Keeps, RefusesFor, Stops, StopsBefore, TotalsOver, WatchesOver}
+use Rattle.watch_command.specs.Watches.{ComesOf, CutsOff, HasFront, Holds, IsReady, RefusesFor, Stops, TotalsOver}
 
 -- ---- why the totals don't go on
 
@@ -144,9 +125,6 @@ module _ {M : Type 0} (w : Media M) (repository : ℕ) (rule : Rule) (marks : Li
   pub shut-comes : {E : Type 0} (o : Opening M w) (medium : Option M) (cause : DownCause) (line : Result (List ℕ) E) (r : Outcome) → o ≡ Shut medium cause → IfOk line (λ l. l ≡ down_watch_line repository cause) → IsFallen line r →
       ComesTo w repository rule marks o r medium
   shut-comes o medium cause line r is h k = subst (λ z. ComesTo w repository rule marks z r medium) (sym is) (refl, fallen-line (down_watch_line repository cause) line r h k)
-
-  pub wanting-comes : (o : Opening M w) (medium : M) → o ≡ Wanting medium → ComesTo w repository rule marks o NoMemory (Some medium)
-  wanting-comes o medium is = subst (λ z. ComesTo w repository rule marks z NoMemory (Some medium)) (sym is) (refl, refl)
 
 module _ {M : Type 0} (w : Media M) (old new : ShelfSight) (repository : ℕ) (rule : Rule) where
   -- it was taken and opened

@@ -71,7 +71,7 @@ fn watch_totals<S: Shelf>(
 }
 
 /// Brings the totals of a repository's objects by the rule up to date: its volumes are taken and opened, and
-/// then that of its totals, which go on from what they were over all settled versions that ever stood in a
+/// then that of its totals, which go on from what they were over all stable versions that ever stood in a
 /// complete volume. Answers what came of it, and the media that were taken, in the order of the volumes.
 ///
 /// One put is written for each object whose total went on, all in one append, and nothing to the

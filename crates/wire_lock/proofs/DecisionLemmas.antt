@@ -1,23 +1,17 @@
 -- Numbers on the board, and what they tell.
-use Rattle.std.specs.Prelude.{◌≡◌, ◌≤◌, ◌⊎◌, ℕ, ◌+◌, ◌*◌, ◌^◌, ◌==◌, Bool, true, false, List, [], ◌∷◌, ◌++◌, length, ◌<◌, zero, suc, Some, None, IsTrue, if◌then◌else◌}
+use Rattle.wire_lock.proofs.Names.{◌≡◌, ◌≤◌, ℕ, ◌+◌, ◌==◌, Bool, true, false, List, [], ◌∷◌, ◌++◌, length, ◌<◌, zero, suc, Some, None, IsTrue, if◌then◌else◌, StampParts, NodeId, same_node, same_is, same_node-refl, Entry, Gate, Base, Life, World, gated_life, walk, IsDecidedAs, Origin, base_from, place_of, number_of, Decided, decided_by, answer_of}
+use Rattle.std.specs.Prelude.{◌⊎◌, ◌*◌, ◌^◌}
 use Rattle.std.proofs.Common.{refl, ap, sym, ◌∙◌, subst, arith, inl, inr, get_or}
-use Rattle.pseudo_time.specs.StampParts.{StampParts, IsStamp}
+use Rattle.pseudo_time.specs.StampParts.{IsStamp}
 use Rattle.pseudo_time.specs.Lists.{Every, Has}
 use Rattle.pseudo_time.specs.declared.decisions.Decision.{Decision}
-use Rattle.pseudo_time.specs.declared.nodes.NodeId.{NodeId}
-use Rattle.pseudo_time.specs.Nodes.{repository, same_node}
+use Rattle.pseudo_time.specs.Nodes.{repository}
 use Rattle.pseudo_time.proofs.ListLemmas.{every-append, every-map, has-right}
 use Rattle.effect_form.specs.declared.effects.Effect.{Effect}
 use Rattle.effect_form.specs.declared.effects.Effect.TheVariants as effect
-use Rattle.message_core.proofs.NodeLemmas.{same_is, same_node-refl}
 use Rattle.repository_core.specs.Logs.{is_commit}
-use Rattle.world_core.specs.declared.entries.Entry.{Entry}
-use Rattle.world_core.specs.declared.entries.Entry.TheVariants.{Gate}
-use Rattle.world_core.specs.Walks.{Base, Life, World, gated_life, walk}
-use Rattle.world_core.specs.Legal.{IsDecidedAs}
-use Rattle.wire_core.specs.Wires.{Origin, base_from}
-use Rattle.wire_core.specs.Boards.{place_of, number_of, IsDecided, MayHold}
-use Rattle.wire_lock.specs.Decisions.{Decided, decision_in, decided_by, answer_of}
+use Rattle.wire_core.specs.Boards.{IsDecided, MayHold}
+use Rattle.wire_lock.specs.Decisions.{decision_in}
 use Rattle.wire_lock.proofs.SightLemmas.{up-known, life-own}
 
 -- ---- no two decisions have the same number

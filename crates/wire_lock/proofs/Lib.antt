@@ -3,3 +3,4 @@ pub mod DecisionLemmas
 pub mod StoryLemmas
 pub mod Crosses
 mod UntoldLemmas
+pub mod Names

@@ -1,39 +1,26 @@
 -- What a pass has seen of its node is so in what a visit finds, and what a visit leaves.
-use Rattle.std.specs.Prelude.{◌≡◌, ◌↔◌, ℕ, ◌+◌, ◌==◌, Bool, true, false, ◌&&◌, List, [], ◌∷◌, ◌++◌, map, take, length, ◌<◌, Option, Some, None, Result, Ok, Err, IfOk, OnErr, IsTrue, if◌then◌else◌}
+use Rattle.wire_lock.proofs.Names.{◌≡◌, ℕ, ◌+◌, ◌==◌, Bool, true, false, List, [], ◌∷◌, ◌++◌, map, length, ◌<◌, Some, None, IsTrue, if◌then◌else◌, filter-append, StampParts, NodeId, same_node, same_is, same_node-refl, CarriesOn, knows, base_of, Begins, entries_of, Entry, Take, Go, Learn, Hear, Gate, Crash, Down, Tick, Base, Life, Flags, World, numbered, gated_life, sent_by, walk, IsDecidedAs, Idle, is_behind, fates_of, walk-more, Trace, Origin, WireParts, base_from, trace_of, world_of, owner_for, owner_of, place_of, number_of, Decided, posted, answer_of, end_of, Sight, base_at, world_at, life_at, flags_at}
+use Rattle.std.specs.Prelude.{◌↔◌, ◌&&◌, take, Option, Result, Ok, Err, IfOk, OnErr}
 use Rattle.std.proofs.Common.{refl, ap, ap₂, sym, ◌∙◌, subst, cond, eq-eqb, get_or, append_assoc}
 use Rattle.std.proofs.lemmas.List.{map-append, get_or-map, take_more}
-use Rattle.std.proofs.lemmas.List.Elements.{filter-append}
 use Rattle.std.proofs.Math.ListN.{get_or-map as get_or-f}
 use Rattle.std.specs.declared.snapshot.Snapshot.{Snapshot}
 use Rattle.atomic_table.specs.declared.shared.Seat.{Seat}
-use Rattle.pseudo_time.specs.StampParts.{StampParts}
-use Rattle.pseudo_time.specs.declared.nodes.NodeId.{NodeId}
 use Rattle.pseudo_time.specs.declared.nodes.NodeKind.{NodeKind}
 use Rattle.pseudo_time.specs.declared.nodes.NodeKind.TheVariants.{Repository, Broker}
-use Rattle.pseudo_time.specs.Nodes.{same_node}
-use Rattle.message_core.proofs.NodeLemmas.{same_is, same_node-refl}
 use Rattle.seat_lock.specs.declared.views.View.{View}
 use Rattle.seat_lock.specs.declared.views.Founding.{Founding}
 use Rattle.seat_lock.specs.declared.locks.LockTable.{LockTable}
-use Rattle.seat_lock.specs.Words.{CarriesOn, IsPassOf, knows, fresh, base_of, base_in, board_size}
-use Rattle.seat_lock.specs.Story.{Begins, entries_of}
-use Rattle.world_core.specs.declared.entries.Entry.{Entry}
-use Rattle.world_core.specs.declared.entries.Entry.TheVariants.{Take, Go, Learn, Hear, Gate, Crash, Down, Tick}
+use Rattle.seat_lock.specs.Words.{IsPassOf, fresh, base_in, board_size}
 use Rattle.message_form.specs.Posts.{Post}
 use Rattle.world_core.specs.Nodes.Input.{Taking}
-use Rattle.world_core.specs.Walks.{Base, Life, Flags, Sending, World, numbered, took, after_input, gated_life, sent_by, names, own, lives_on, flagged, is_down, step, start_world, walk_from, walk}
-use Rattle.world_core.specs.Legal.{IsDecidedAs, Idle, is_behind, fates_of}
-use Rattle.world_core.proofs.Lives.{walk-append, walk-more, same-life, stands-stays}
+use Rattle.world_core.specs.Walks.{Sending, took, after_input, names, own, lives_on, flagged, is_down, step, start_world, walk_from}
+use Rattle.world_core.proofs.Lives.{walk-append, same-life, stands-stays}
 use Rattle.world_core.proofs.Others.{same-flags, same-behind}
 use Rattle.message_core.specs.declared.letters.Arrival.{Arrival}
-use Rattle.world_core.specs.declared.traces.Trace.{Trace}
-use Rattle.wire_core.specs.Wires.{Origin, WireParts, base_from, trace_of, world_of}
 use Rattle.wire_core.specs.Changes.{IsCopyOf, IsQuiet, TookAll}
-use Rattle.wire_core.specs.Boards.{owner_for, owner_of, place_of, number_of}
 use Rattle.wire_core.proofs.DueLemmas.{numbered-from}
-use Rattle.wire_lock.specs.Decisions.{Decided, posted, answer_of}
-use Rattle.wire_lock.specs.Stories.{end_of}
-use Rattle.wire_lock.specs.Sights.{IsLeft, HasNoneDue, IsIdle, Sight, origin_in, origin_at, base_at, world_at, life_at, flags_at, IsOf, Owns, IsWirePass, IsAsBefore, Looked, Added, Visited, Gated, Tested, TicksOn, HasNothingOpen, closed}
+use Rattle.wire_lock.specs.Sights.{IsLeft, HasNoneDue, IsIdle, origin_in, origin_at, IsOf, Owns, IsWirePass, IsAsBefore, Looked, Added, Visited, Gated, Tested, TicksOn, HasNothingOpen, closed}
 
 -- ---- a node's entries are among those of its owner
 
@@ -198,9 +185,6 @@ noted-kept s k e is = subst (λ (z : Sight). record z { story = s.story ++ e ∷
 
 pub looked-of : (k k' : Sight) (l : List Entry) → Owns k → k' ≡ record k { story = l } → CarriesOn owner_of k l → Looked k k'
 looked-of k k' l owns is car = subst (Looked k) (sym is) (record { before = as-before k l owns car; kept = refl })
-
-pub added-of : (k k' : Sight) (l : List Entry) (e : Entry) → Owns k → k' ≡ record k { story = l ++ e ∷ []; own = k.own ++ e ∷ [] } → CarriesOn owner_of k l → Added k k' e
-added-of k k' l e owns is car = record { found = l; before = as-before k l owns car; kept = is }
 
 pub visited-of : (told : Bool) (n : NodeId) (k k' : Sight) (l : List Entry) (e : Entry) (life : Life) (flags : Flags) → Owns k → IsOf n k → names n e ≡ true → (flags_at k n).up ≡ true
     → k' ≡ record k { story = l ++ e ∷ []; own = k.own ++ e ∷ [] } → CarriesOn owner_of k l

@@ -1,12 +1,9 @@
 -- A story that has all entries of each owner is the whole list.
-use Rattle.std.specs.Prelude.{◌≡◌, ℕ, zero, suc, ◌≤◌, ◌==◌, Bool, List, [], ◌∷◌, ◌++◌, All}
+use Rattle.wire_lock.proofs.Names.{◌≡◌, ℕ, zero, suc, ◌≤◌, ◌==◌, Bool, List, [], ◌∷◌, ◌++◌, filter-append, IsOneOf, Begins, entries_of, Entry, owner_of}
+use Rattle.std.specs.Prelude.{All}
 use Rattle.std.proofs.Common.{refl, ap, sym, ◌∙◌, subst, cond, arith, eq-eqb}
 use Rattle.std.proofs.lemmas.List.{append-nil}
-use Rattle.std.proofs.lemmas.List.Elements.{filter-append}
-use Rattle.seat_lock.specs.Rule.{IsOneOf, same, total}
-use Rattle.seat_lock.specs.Story.{Begins, entries_of}
-use Rattle.world_core.specs.declared.entries.Entry.{Entry}
-use Rattle.wire_core.specs.Boards.{owner_of}
+use Rattle.seat_lock.specs.Rule.{same, total}
 
 nothing-added : (xs ys : List Entry) → xs ++ ys ≡ xs → ys ≡ []
 nothing-added [] ys h = h

@@ -37,7 +37,7 @@ pub record IsWhole (told : Bool) (o : Origin) (t : Trace) (asked : List Asked) (
   pub sent : IsTrue told → map post_of t.sent ≡ sent_by (end_of o t)
   pub legal : IsTrue told → (plan : Plan) → IsRunOf plan o → IsLegal plan asked t
 
--- The trace of a wire with this origin that no one is told, since memory ran out. Where media tell their content it is legal, with the fates that were asked for its
+-- The trace of a wire with this origin that is reported to no one, since memory ran out. Where media tell their content it is legal, with the fates that were asked for its
 -- messages.
 pub record IsUntold (told : Bool) (o : Origin) (t : Trace) : Type 0 where
   pub start : t.start ≡ o.start

@@ -18,7 +18,7 @@ use value_form::Items;
 use wire_core::Wire;
 use world_core::{Opened, Trace};
 
-/// A trace that was told by the end of a shared wire, or that of no run. It is made in no other way.
+/// A trace that the end of a shared wire reported, or that of no run. It is made in no other way.
 #[derive(Debug, Drop)]
 pub struct Told {
     trace: Trace,

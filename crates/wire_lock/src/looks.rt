@@ -23,7 +23,8 @@ pub struct Seen {
 }
 
 impl<F: Fates, C: Clock, M: Medium> SharedWire<F, C, M> {
-    /// Lets time pass, where the wire is idle: None only where it isn't. The pass is the conductor's.
+    /// Lets time pass, where the wire is idle. Over media that tell their content, None only where it
+    /// isn't. The pass is the conductor's.
     pub fn tick<R: Wait>(
         &self,
         rt: &R,
@@ -57,8 +58,9 @@ impl<F: Fates, C: Clock, M: Medium> SharedWire<F, C, M> {
         (visit.leave(), Ok(Some(moment)), left)
     }
 
-    /// How many messages the wire has sent, and whether it is idle, which it is just where no node
-    /// that is up has anything to do. After memory ran out in an earlier visit it isn't idle.
+    /// How many messages the wire has sent, and whether it is idle: over media that tell their
+    /// content, just where no node that is up has anything to do. After memory ran out in an earlier
+    /// visit it isn't idle.
     pub fn look<R: Wait>(
         &self,
         rt: &R,

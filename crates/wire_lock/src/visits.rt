@@ -20,8 +20,8 @@ use wire_core::Taken;
 use world_core::Entry;
 
 impl<F: Fates, C: Clock, M: Medium> SharedWire<F, C, M> {
-    /// Takes the node's first due copy. Behind where the node hasn't heard the last tick, and Nothing
-    /// only where no copy is due for it.
+    /// Takes the node's first due copy. Behind where the node hasn't heard the last tick; over media
+    /// that tell their content, Nothing only where no copy is due for it.
     pub fn take<R: Wait>(
         &self,
         rt: &R,

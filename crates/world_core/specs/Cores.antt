@@ -37,7 +37,7 @@ pub record IsBroker (b : Base) (n : NodeId) (l : List Effect) (m : Mind) (p : Br
   pub heard : p.heard ≡ m.heard
   pub scripted : Scripted b.script p.acts
 
--- a repository's turn is what the rules give, and its core goes on from there
+-- a repository's turn is what the rules give, and its core continues from there
 pub record RepositoryGave {H : Type 0} (n : NodeId) (log : List Effect) (g : Given) (t : Turn) (new : Core H) : Type 0 where
   pub effects : t.effects ≡ g.effects
   pub outs : t.outs ≡ g.outs

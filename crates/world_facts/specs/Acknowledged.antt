@@ -46,7 +46,7 @@ Keeps ever from log olds (message.Decided s d) = Has (effect.Decide s d) log
 Keeps ever from log olds (message.Tell s c) = (d : Decision) × Has (effect.Decide s d) log × (c ≡ is_commit d)
 Keeps ever from log olds _ = Unit {0}
 
--- What a read of the object at t sees there has this value, and is the origin, or a version that is settled or the reader's own,
+-- What a read of the object at t sees there has this value, and is the origin, or a version that is decided or the reader's own,
 -- unless the log knows the reader as aborted.
 abbrev pub SeesStill : List Mark → ObjectId → TimeParts → Value → Type 0
 SeesStill m o t v = alive m t ≡ true → (value_of (sees m o t) ≡ v) × Firm m t (sees m o t)

@@ -1,4 +1,4 @@
--- What a run asks of the rules of its nodes. Logs stand newest first here.
+-- What a run requires of the rules of its nodes. Logs stand newest first here.
 use Rattle.std.specs.Prelude.{◌≡◌, ◌⊎◌, ℕ, Bool, true, List, [], ◌∷◌, ◌++◌, reverse}
 use Rattle.pseudo_time.specs.Lists.{Every, Has}
 use Rattle.pseudo_time.specs.StampParts.{StampParts}

@@ -1,6 +1,5 @@
 use Rattle.std.proofs.Common.{◌≡◌, ◌++◌, take}
-use Rattle.std.specs.List.{flat_map}
-use Rattle.folder_look.specs.Attempts.{effect_text}
+use Rattle.folder_look.proofs.Names.{flat_map, effect_text}
 use Rattle.folder_look.proofs.attempts.push_log.Given as goal
 
 -- those so far are written

@@ -1,6 +1,5 @@
 use Rattle.std.proofs.Common.{◌≡◌, ◌++◌, take}
-use Rattle.std.specs.List.{flat_map}
-use Rattle.folder_look.specs.Drawing.{row_text}
+use Rattle.folder_look.proofs.Names.{flat_map, row_text}
 use Rattle.folder_look.proofs.drawing.push_each.Given as goal
 
 -- those so far are written

@@ -1,7 +1,6 @@
 use Rattle.std.proofs.Common.{◌∙◌, ◌++◌, ◌+◌, ◌*◌, codes, sym, ap}
-use Rattle.report_writer.specs.Reports.{named}
+use Rattle.folder_look.proofs.Names.{named, column}
 use Rattle.folder_look.proofs.Appends.{before, named-so, slice}
-use Rattle.folder_look.specs.Axes.{column}
 use Rattle.folder_look.specs.Drawing.{floor_text}
 use Rattle.folder_look.proofs.drawing.push_floor.Goals as goal
 

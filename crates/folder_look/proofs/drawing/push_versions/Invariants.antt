@@ -1,6 +1,5 @@
 use Rattle.std.proofs.Common.{◌≡◌, ◌++◌, take}
-use Rattle.std.specs.List.{flat_map}
-use Rattle.folder_look.specs.Drawing.{version_text}
+use Rattle.folder_look.proofs.Names.{flat_map, version_text}
 use Rattle.folder_look.proofs.drawing.push_versions.Given as goal
 
 -- those so far are written

@@ -1,6 +1,5 @@
 use Rattle.std.proofs.Common.{◌≡◌, ◌++◌, take}
-use Rattle.std.specs.List.{flat_map}
-use Rattle.folder_look.specs.MediaText.{acts_text}
+use Rattle.folder_look.proofs.Names.{flat_map, acts_text}
 use Rattle.folder_look.proofs.media_text.push_all_acts.Given as goal
 
 -- those so far are written

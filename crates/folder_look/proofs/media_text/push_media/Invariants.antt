@@ -1,6 +1,5 @@
 use Rattle.std.proofs.Common.{◌≡◌, ◌++◌, take}
-use Rattle.std.specs.List.{flat_map}
-use Rattle.folder_look.specs.MediaText.{medium_text}
+use Rattle.folder_look.proofs.Names.{flat_map, medium_text}
 use Rattle.folder_look.proofs.media_text.push_media.Given as goal
 
 -- those so far are written

@@ -1,6 +1,5 @@
 use Rattle.std.proofs.Common.{◌≡◌, ◌++◌, take}
-use Rattle.std.specs.List.{flat_map}
-use Rattle.folder_look.specs.MediaText.{spoiled_text}
+use Rattle.folder_look.proofs.Names.{flat_map, spoiled_text}
 use Rattle.folder_look.proofs.media_text.push_spoiled.Given as goal
 
 -- those so far are written

@@ -1,7 +1,5 @@
 use Rattle.std.proofs.Common.{◌∙◌, ◌++◌, ap, codes}
-use Rattle.std.specs.List.{flat_map}
-use Rattle.report_writer.specs.Reports.{named}
-use Rattle.folder_look.specs.MediaText.{spoiled_text}
+use Rattle.folder_look.proofs.Names.{flat_map, named, spoiled_text}
 use Rattle.folder_look.proofs.Appends.{before, slice}
 use Rattle.folder_look.proofs.media_text.push_strip.Goals as goal
 

@@ -1,6 +1,5 @@
 use Rattle.std.proofs.Common.{◌∙◌, ◌+◌, ◌++◌, rules, sym, suc}
-use Rattle.folder_look.specs.Objects.{logs_of}
-use Rattle.folder_look.specs.Rows.{given_up_by}
+use Rattle.folder_look.proofs.Names.{logs_of, given_up_by}
 use Rattle.folder_look.proofs.VolumeLemmas.{going-by, going-on, steps-are}
 use Rattle.folder_look.proofs.rows.push_given_up.Goals.{then-is_early+in_ok-push_behind, else-is_early}
 use Rattle.folder_look.proofs.rows.push_given_up.Goals as goal

@@ -1,6 +1,5 @@
 use Rattle.std.proofs.Common.{◌≡◌, ◌≤◌, ◌++◌, drop}
-use Rattle.folder_look.specs.Objects.{logs_of}
-use Rattle.folder_look.specs.Rows.{given_up_by}
+use Rattle.folder_look.proofs.Names.{logs_of, given_up_by}
 use Rattle.folder_look.proofs.VolumeLemmas.{going}
 use Rattle.folder_look.proofs.rows.push_given_up.Given as goal
 

@@ -1,6 +1,5 @@
 use Rattle.std.proofs.Common.{◌≡◌, ◌++◌, map, take}
-use Rattle.std.specs.List.{filter}
-use Rattle.folder_look.specs.Told.{told_row, is_told_in}
+use Rattle.folder_look.proofs.Names.{filter, told_row, is_told_in}
 use Rattle.folder_look.proofs.rows.push_versions.Given as goal
 
 -- those so far were added

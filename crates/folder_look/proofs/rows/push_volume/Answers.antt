@@ -1,12 +1,5 @@
 use Rattle.std.proofs.Common.{◌≡◌, ◌∙◌, ◌++◌, List, map, reverse, ap, subst}
-use Rattle.std.specs.BTreeSet.{contains}
-use Rattle.std.specs.List.{filter}
-use Rattle.pseudo_time.specs.TimeParts.{TimeParts, time_cmp}
-use Rattle.object_history.specs.History.{Seen}
-use Rattle.repository_log.specs.Logs.{marks}
-use Rattle.report_writer.specs.Tellings.{Holds}
-use Rattle.folder_look.specs.Rows.{rows_with, starts_at}
-use Rattle.folder_look.specs.Told.{told_row, is_told_in}
+use Rattle.folder_look.proofs.Names.{contains, filter, TimeParts, time_cmp, Seen, marks, Holds, rows_with, starts_at, told_row, is_told_in}
 use Rattle.folder_look.proofs.RowLemmas.{rows-are}
 use Rattle.folder_look.proofs.StartLemmas.{on-more}
 use Rattle.folder_look.proofs.rows.push_volume.Goals as goal

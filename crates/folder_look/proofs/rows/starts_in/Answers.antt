@@ -1,6 +1,5 @@
 use Rattle.std.proofs.Common.{◌∙◌, reverse, subst}
-use Rattle.repository_log.specs.Logs.{marks}
-use Rattle.report_writer.specs.Tellings.{Holds}
+use Rattle.folder_look.proofs.Names.{marks, Holds}
 use Rattle.folder_look.proofs.StartLemmas.{starts-told}
 use Rattle.folder_look.proofs.rows.starts_in.Goals as goal
 

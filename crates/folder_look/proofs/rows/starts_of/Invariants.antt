@@ -1,6 +1,5 @@
 use Rattle.std.proofs.Common.{◌≡◌, take}
-use Rattle.std.specs.BTreeSet.{contains}
-use Rattle.pseudo_time.specs.TimeParts.{TimeParts, time_cmp}
+use Rattle.folder_look.proofs.Names.{contains, TimeParts, time_cmp}
 use Rattle.folder_look.proofs.StartLemmas.{kept_at}
 use Rattle.folder_look.proofs.rows.starts_of.Given as goal
 

@@ -1,6 +1,5 @@
 use Rattle.std.proofs.Common.{◌≡◌, drop}
-use Rattle.forward_copy.specs.Currents.{log_at}
-use Rattle.folder_look.specs.Objects.{logs_of}
+use Rattle.folder_look.proofs.Names.{log_at, logs_of}
 use Rattle.folder_look.proofs.volumes.log_of.Given as goal
 
 -- so many volumes come before it still

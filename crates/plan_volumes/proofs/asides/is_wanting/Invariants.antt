@@ -1,6 +1,5 @@
 use Rattle.std.proofs.Common.{take}
-use Rattle.pseudo_time.specs.Lists.{Every}
-use Rattle.run_volumes.specs.Openings.{IsWanting}
+use Rattle.plan_volumes.proofs.Names.{Every, IsWanting}
 use Rattle.plan_volumes.proofs.asides.is_wanting.Given as goal
 
 -- memory was there for those so far

@@ -1,5 +1,4 @@
-use Rattle.std.proofs.lemmas.List.{map-set}
-use Rattle.run_volumes.specs.Openings.{medium_in}
+use Rattle.plan_volumes.proofs.Names.{map-set, medium_in}
 use Rattle.plan_volumes.proofs.asides.put_back.Goals as goal
 
 pub returns-clause-back : goal.returns-clause-back

@@ -1,9 +1,5 @@
 use Rattle.std.proofs.Common.{rules, ◌∙◌, ap, subst, length, map, arith}
-use Rattle.std.specs.List.{AllZip}
-use Rattle.std.proofs.lemmas.List.{length_push}
-use Rattle.run_volumes.specs.Openings.{medium_in}
-use Rattle.run_volumes.specs.Places.{node_at}
-use Rattle.plan_volumes.specs.Asides.{IsAside}
+use Rattle.plan_volumes.proofs.Names.{AllZip, length_push, medium_in, node_at, IsAside}
 use Rattle.plan_volumes.proofs.KeepLemmas.{nodes-joined, none-joined, zip-last}
 use Rattle.plan_volumes.proofs.keeping.+keep_nodes.Goals as goal
 

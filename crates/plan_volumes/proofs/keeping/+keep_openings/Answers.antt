@@ -1,6 +1,5 @@
 use Rattle.std.proofs.Common.{◌++◌, ◌∙◌, ap, arith}
-use Rattle.run_volumes.specs.Kept.{kept_as}
-use Rattle.run_volumes.specs.Shelves.{volume_name}
+use Rattle.plan_volumes.proofs.Names.{kept_as, volume_name}
 use Rattle.plan_volumes.proofs.KeepLemmas.{openings-joined}
 use Rattle.plan_volumes.proofs.keeping.+keep_openings.Goals as goal
 

@@ -1,8 +1,5 @@
 use Rattle.std.proofs.Common.{subst, arith}
-use Rattle.pseudo_time.specs.Lists.{Every}
-use Rattle.run_volumes.specs.Openings.{IsWanting}
-use Rattle.run_volumes.specs.Shelves.{shelf_sight}
-use Rattle.plan_volumes.specs.Volumes.{NodeVolumes}
+use Rattle.plan_volumes.proofs.Names.{Every, IsWanting, shelf_sight, NodeVolumes}
 use Rattle.plan_volumes.proofs.ApartLemmas.{aside-one, ends-some, working-below}
 use Rattle.plan_volumes.proofs.opening.open_node.Goals as goal
 

@@ -1,8 +1,6 @@
 use Rattle.std.proofs.Common.{◌≡◌, ◌≤◌, ◌∙◌, [], true, false, length, vec_capacity, Some, ap, sym, arith}
-use Rattle.std.proofs.lemmas.List.{length_push}
+use Rattle.plan_volumes.proofs.Names.{length_push, node_at, shelf_sight}
 use Rattle.std.proofs.lemmas.List.Elements.{All-pop}
-use Rattle.run_volumes.specs.Places.{node_at}
-use Rattle.run_volumes.specs.Shelves.{shelf_sight}
 use Rattle.plan_volumes.proofs.ApartLemmas.{apart-next, apart-none}
 use Rattle.plan_volumes.proofs.opening.open_nodes.Goals as goal
 

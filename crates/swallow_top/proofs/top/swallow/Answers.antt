@@ -1,7 +1,7 @@
 use Rattle.std.proofs.Common.{◌⊎◌, ◌∙◌, ◌≤◌, ap, length, refl, sym, subst}
 use Rattle.swallow_top.proofs.Names.{Every, IsOfLanguage, AreWords, IsPoll, RefusedAs, AskedNothing, TellsHistory, TellsAnswer, TellsWatch, TellsRetirement, mark_at, shelf_sight, sinking}
-use Rattle.plan_form.proofs.MadeLemmas.{made_is_whole}
 use Rattle.command_words.specs.Words.{said}
+use Rattle.plan_form.proofs.MadeLemmas.{made_is_whole}
 use Rattle.command_words.proofs.WordLemmas.{few-ticks}
 use Rattle.archive_promise.specs.Question.TheVariants as question
 use Rattle.swallow_top.proofs.PromiseLemmas.{language-of, polls-of, promise-audit, promise-history, promise-load, promise-map, promise-no-polls, promise-refused, promise-retire, promise-run, promise-votes, promise-watch, quiet-call, some-workers}

@@ -1,6 +1,5 @@
 use Rattle.std.proofs.Common.{◌≡◌, refl, subst, sym}
-use Rattle.std.specs.Prelude.{IfOk}
-use Rattle.trace_report.proofs.Names.{AreDecided, logs_by, run_over}
+use Rattle.trace_report.proofs.Names.{IfOk, AreDecided, logs_by, run_over}
 use Rattle.trace_report.proofs.FinalLemmas.{finals-are}
 use Rattle.trace_report.proofs.finals.finals_of.Goals as goal
 

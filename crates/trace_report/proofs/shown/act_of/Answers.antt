@@ -1,6 +1,5 @@
 use Rattle.std.proofs.Common.{ap, ◌∙◌, map}
-use Rattle.std.specs.Option.{option_map}
-use Rattle.trace_report.proofs.Names.{BegunTry, kept_act, kept_try, begun_at, try_told}
+use Rattle.trace_report.proofs.Names.{option_map, BegunTry, kept_act, kept_try, begun_at, try_told}
 use Rattle.trace_report.proofs.ShownLemmas.{told-of}
 use Rattle.trace_report.proofs.shown.act_of.Goals as goal
 

@@ -1,6 +1,5 @@
 use Rattle.std.proofs.Common.{◌≡◌, ap, ◌∙◌, map, subst, sym}
-use Rattle.std.specs.Prelude.{IfOk}
-use Rattle.trace_report.proofs.Names.{Every, ActSpec, IsScript, kept, act_told, part_at}
+use Rattle.trace_report.proofs.Names.{IfOk, Every, ActSpec, IsScript, kept, act_told, part_at}
 use Rattle.trace_report.proofs.OwnLemmas.{plan-scripts}
 use Rattle.trace_report.proofs.ShownLemmas.{acts-are}
 use Rattle.trace_report.proofs.shown.acts_of_plan.Goals as goal

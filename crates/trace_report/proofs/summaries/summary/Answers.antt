@@ -1,6 +1,5 @@
 use Rattle.std.proofs.Common.{◌≡◌, ◌∙◌, subst}
-use Rattle.std.specs.Prelude.{IfOk}
-use Rattle.trace_report.specs.Reports.{load_text_by, open_by}
+use Rattle.trace_report.proofs.Names.{IfOk, load_text_by, open_by}
 use Rattle.trace_report.proofs.TraceLemmas.{plan-acts, logs-found}
 use Rattle.trace_report.proofs.summaries.summary.Goals as goal
 

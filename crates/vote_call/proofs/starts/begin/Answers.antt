@@ -1,7 +1,5 @@
 use Rattle.std.proofs.Common.{◌≡◌, ◌∙◌, sym, false}
-use Rattle.vote_run.specs.Members.{some_wants}
-use Rattle.vote_run.proofs.EndLemmas.{not-err}
-use Rattle.vote_call.specs.Starts.{Fall}
+use Rattle.vote_call.proofs.Names.{some_wants, not-err, Fall}
 use Rattle.vote_call.proofs.BeginLemmas.{begun-for, lasts-all, may-all}
 use Rattle.vote_call.proofs.starts.begin.Goals as goal
 

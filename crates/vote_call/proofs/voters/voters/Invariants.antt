@@ -1,6 +1,5 @@
 use Rattle.std.proofs.Common.{◌≡◌}
-use Rattle.vote_run.specs.Openings.{log_in}
-use Rattle.vote_run.specs.Voters.{opened_voters}
+use Rattle.vote_call.proofs.Names.{log_in, opened_voters}
 use Rattle.vote_call.proofs.voters.voters.Given as goal
 
 -- the members, and the polls so far

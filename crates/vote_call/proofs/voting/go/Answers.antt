@@ -1,7 +1,5 @@
 use Rattle.std.proofs.Common.{◌∙◌, sym}
-use Rattle.vote_run.proofs.EndLemmas.{not-err}
-use Rattle.vote_call.specs.Media.{medium_of}
-use Rattle.vote_call.specs.Starts.{BegunFor}
+use Rattle.vote_call.proofs.Names.{not-err, medium_of, BegunFor}
 use Rattle.vote_call.proofs.FinishLemmas.{ended-for}
 use Rattle.vote_call.proofs.voting.go.Goals as goal
 

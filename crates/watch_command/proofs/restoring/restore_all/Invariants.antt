@@ -1,6 +1,5 @@
 use Rattle.std.proofs.Common.{◌≡◌, ◌≤◌, length, drop}
-use Rattle.commit_watch.specs.Lists.{moved_at}
-use Rattle.watch_command.specs.Totals.{AreCursors, AreRestored}
+use Rattle.watch_command.proofs.Names.{moved_at, AreCursors, AreRestored}
 use Rattle.watch_command.proofs.restoring.restore_all.Given as goal
 
 abbrev pub decreases-loop-at : goal.decreases-loop-at

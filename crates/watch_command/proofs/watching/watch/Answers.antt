@@ -1,12 +1,6 @@
 use Rattle.std.proofs.Common.{ap, ◌∙◌, inl, inr, subst, sym}
-use Rattle.pseudo_time.specs.Lists.{Every}
-use Rattle.run_volumes.specs.Shelves.{shelf_sight}
-use Rattle.run_volumes.specs.Standings.{Stands}
-use Rattle.run_volumes.specs.Volumes.{AreOpen, logs_of}
-use Rattle.run_volumes.proofs.StandLemmas.{stand-all}
-use Rattle.archive_command.specs.Archives.{joined_marks}
+use Rattle.watch_command.proofs.Names.{Every, shelf_sight, Stands, AreOpen, logs_of, stand-all, joined_marks, Keeps}
 use Rattle.archive_command.proofs.AnswerLemmas.{handed-back}
-use Rattle.watch_command.specs.Watches.{Keeps}
 use Rattle.watch_command.proofs.MarkLemmas.{archive-in-range, archive-unretired}
 use Rattle.watch_command.proofs.WatchLemmas.{stops-before, watches-over}
 use Rattle.watch_command.proofs.watching.watch.Goals as goal

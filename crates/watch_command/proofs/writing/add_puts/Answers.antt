@@ -1,6 +1,5 @@
 use Rattle.std.proofs.Common.{subst}
-use Rattle.version_store.specs.Filling.{HasPrefix}
-use Rattle.watch_command.specs.Watches.{Adds}
+use Rattle.watch_command.proofs.Names.{HasPrefix, Adds}
 use Rattle.watch_command.proofs.WatchLemmas.{cut}
 use Rattle.watch_command.proofs.writing.add_puts.Goals as goal
 

@@ -1,7 +1,6 @@
 use Rattle.std.proofs.Common.{subst, ap, reverse, ◌∙◌}
-use Rattle.std.specs.Prelude.{is_some}
+use Rattle.trace_logs.proofs.Names.{is_some, StandsFor}
 use Rattle.repository_log.specs.Logs.{known}
-use Rattle.trace_logs.specs.Cores.{StandsFor}
 use Rattle.repository_log.proofs.MarkLemmas.{knows-known}
 use Rattle.trace_logs.proofs.MarkLemmas.{knows-reverse}
 use Rattle.trace_logs.proofs.cores.NodeCore.knows.Goals as goal

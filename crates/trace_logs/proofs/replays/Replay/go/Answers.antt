@@ -1,7 +1,5 @@
 use Rattle.std.proofs.Common.{refl, subst, ◌≡◌, ◌<◌, length, true}
-use Rattle.std.specs.Vec.{with_item}
-use Rattle.std.proofs.Math.ListN.{get_or}
-use Rattle.trace_logs.proofs.Names.{same_node, sent_by, ReplayedNode, all_posted, IsAbsent}
+use Rattle.trace_logs.proofs.Names.{with_item, get_or, same_node, sent_by, ReplayedNode, all_posted, IsAbsent}
 use Rattle.world_core.specs.declared.entries.Entry.TheVariants as entry
 use Rattle.trace_logs.proofs.WalkLemmas.{absent}
 use Rattle.trace_logs.proofs.EntryLemmas.{moved-ok, always}

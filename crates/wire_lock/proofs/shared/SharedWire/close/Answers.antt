@@ -1,9 +1,5 @@
 use Rattle.std.proofs.Common.{ap, sym, subst, get_or, ◌∙◌, List, ℕ, All}
-use Rattle.seat_lock.specs.Words.{CarriesOn, knows}
-use Rattle.world_core.specs.declared.traces.Trace.{Trace}
-use Rattle.seat_lock.specs.Rule.{IsOneOf}
-use Rattle.wire_core.specs.Boards.{owner_of}
-use Rattle.wire_core.specs.Wires.{trace_of}
+use Rattle.wire_lock.proofs.Names.{CarriesOn, knows, Trace, IsOneOf, owner_of, trace_of}
 use Rattle.wire_lock.proofs.SightLemmas.{idle-closed, rest-closed}
 use Rattle.wire_lock.proofs.UntoldLemmas.{untold}
 use Rattle.wire_lock.proofs.shared.SharedWire.close.Goals as goal

@@ -1,9 +1,5 @@
 use Rattle.std.proofs.Common.{◌≤◌, List, [], ◌∷◌, ◌++◌, length, refl, sym, ap, subst, ◌∙◌}
-use Rattle.message_core.proofs.NodeLemmas.{same_node-refl}
-use Rattle.seat_lock.specs.Words.{knows, sees}
-use Rattle.world_core.specs.declared.entries.Entry.{Entry}
-use Rattle.world_core.specs.declared.entries.Entry.TheVariants.{Crash}
-use Rattle.world_core.specs.Walks.{World, Life, Flags}
+use Rattle.wire_lock.proofs.Names.{same_node-refl, knows, sees, Entry, Crash, World, Life, Flags}
 use Rattle.wire_lock.proofs.SightLemmas.{finds, origin-of, entries-in, story-of, lock-origin, noted-kept, looked-of, visited-of}
 use Rattle.wire_lock.proofs.shared.SharedWire.crash.Goals as goal
 

@@ -1,12 +1,7 @@
 use Rattle.std.proofs.Common.{List, [], ◌∷◌, ◌++◌, refl, sym, ap, ◌∙◌}
 use Rattle.std.specs.Option.{unwrap_or}
-use Rattle.message_core.proofs.NodeLemmas.{same_node-refl}
-use Rattle.seat_lock.specs.Words.{knows, sees}
-use Rattle.world_core.specs.declared.entries.Entry.{Entry}
-use Rattle.world_core.specs.declared.entries.Entry.TheVariants.{Down}
-use Rattle.world_core.specs.Walks.{World, Flags, opened_log}
-use Rattle.wire_core.specs.Wires.{Origin}
-use Rattle.wire_lock.specs.Sights.{base_at}
+use Rattle.wire_lock.proofs.Names.{same_node-refl, knows, sees, Entry, Down, World, Flags, Origin, base_at}
+use Rattle.world_core.specs.Walks.{opened_log}
 use Rattle.wire_lock.proofs.SightLemmas.{finds, origin-of, entries-in, story-of, lock-origin, noted-kept, looked-of, visited-of, moved-before}
 use Rattle.wire_lock.proofs.shared.SharedWire.down.Goals as goal
 

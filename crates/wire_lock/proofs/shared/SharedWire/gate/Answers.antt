@@ -1,16 +1,9 @@
 use Rattle.std.proofs.Common.{List, [], ◌∷◌, ◌++◌, sym, ap, ◌∙◌}
-use Rattle.seat_lock.specs.Words.{knows, sees}
-use Rattle.world_core.specs.declared.entries.Entry.{Entry}
-use Rattle.world_core.specs.declared.entries.Entry.TheVariants.{Gate}
-use Rattle.world_core.specs.Walks.{World, Life, Flags}
-use Rattle.wire_lock.specs.Sights.{base_at}
-use Rattle.wire_lock.proofs.SightLemmas.{finds, origin-of, entries-in, story-of, lock-origin, looked-of}
+use Rattle.wire_lock.proofs.Names.{knows, sees, Entry, Gate, World, Life, Flags, base_at, base_from, posted, decided_by}
+use Rattle.world_core.specs.Walks.{all_effects}
+use Rattle.wire_lock.proofs.SightLemmas.{finds, origin-of, entries-in, story-of, lock-origin, looked-of, pass-origin, gated-of, gate-kept, all-posted}
 use Rattle.std.specs.List.{filter}
 use Rattle.world_core.specs.Nodes.{leaves}
-use Rattle.world_core.specs.Walks.{all_effects}
-use Rattle.wire_core.specs.Wires.{base_from}
-use Rattle.wire_lock.specs.Decisions.{posted, decided_by}
-use Rattle.wire_lock.proofs.SightLemmas.{pass-origin, gated-of, gate-kept, all-posted}
 use Rattle.wire_lock.proofs.DecisionLemmas.{gate-stands}
 use Rattle.wire_lock.proofs.shared.SharedWire.gate.Goals as goal
 

@@ -1,12 +1,6 @@
 use Rattle.std.proofs.Common.{◌≡◌, ℕ, List, [], ◌∷◌, ◌++◌, Option, Some, sym, ap, ◌∙◌}
-use Rattle.message_core.proofs.NodeLemmas.{same_node-refl}
-use Rattle.seat_lock.specs.Words.{knows, sees}
-use Rattle.world_core.specs.declared.entries.Entry.{Entry}
-use Rattle.world_core.specs.declared.entries.Entry.TheVariants.{Hear}
-use Rattle.world_core.specs.Walks.{World, Flags, hears, has_heard, walk}
-use Rattle.world_core.specs.Legal.{is_behind}
-use Rattle.world_core.proofs.Lives.{walk-more}
-use Rattle.wire_lock.specs.Sights.{Sight, base_at, world_at, life_at, flags_at}
+use Rattle.wire_lock.proofs.Names.{same_node-refl, knows, sees, Entry, Hear, World, Flags, walk, is_behind, walk-more, Sight, base_at, world_at, life_at, flags_at}
+use Rattle.world_core.specs.Walks.{hears, has_heard}
 use Rattle.wire_lock.proofs.SightLemmas.{finds, origin-of, entries-in, story-of, lock-origin, noted-kept, looked-of, visited-of}
 use Rattle.wire_lock.proofs.shared.SharedWire.hear.Goals as goal
 

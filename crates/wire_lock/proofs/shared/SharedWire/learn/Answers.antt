@@ -1,11 +1,5 @@
 use Rattle.std.proofs.Common.{List, [], ◌∷◌, ◌++◌, refl, sym, ap, subst, ◌∙◌}
-use Rattle.message_core.proofs.NodeLemmas.{same_node-refl}
-use Rattle.seat_lock.specs.Words.{knows, sees}
-use Rattle.world_core.specs.declared.entries.Entry.{Entry}
-use Rattle.world_core.specs.declared.entries.Entry.TheVariants.{Learn}
-use Rattle.world_core.specs.Walks.{World, Flags}
-use Rattle.world_core.specs.Legal.{IsDecidedAs}
-use Rattle.wire_lock.specs.Sights.{base_at}
+use Rattle.wire_lock.proofs.Names.{same_node-refl, knows, sees, Entry, Learn, World, Flags, IsDecidedAs, base_at}
 use Rattle.wire_lock.proofs.SightLemmas.{finds, origin-of, entries-in, story-of, lock-origin, noted-kept, looked-of, visited-of, stands-later}
 use Rattle.wire_lock.proofs.shared.SharedWire.learn.Goals as goal
 

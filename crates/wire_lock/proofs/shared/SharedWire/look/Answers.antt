@@ -1,9 +1,6 @@
 use Rattle.std.proofs.Common.{sym, subst, ◌∙◌, ◌≡◌, ◌↔◌, IsTrue, false}
-use Rattle.seat_lock.specs.Words.{knows}
-use Rattle.wire_lock.proofs.SightLemmas.{finds, origin-of, entries-in, lock-origin, looked-of}
-use Rattle.wire_lock.proofs.SightLemmas.{sent-left, rest-left, left-of, idle-left}
-use Rattle.world_core.specs.Legal.{Idle, fates_of}
-use Rattle.wire_core.specs.Wires.{WireParts, world_of}
+use Rattle.wire_lock.proofs.Names.{knows, Idle, fates_of, WireParts, world_of}
+use Rattle.wire_lock.proofs.SightLemmas.{finds, origin-of, entries-in, lock-origin, looked-of, sent-left, rest-left, left-of, idle-left}
 use Rattle.wire_lock.proofs.shared.SharedWire.look.Goals as goal
 
 pub leave-requires : goal.leave-requires

@@ -1,9 +1,6 @@
 use Rattle.std.proofs.Common.{subst}
-use Rattle.seat_lock.specs.Words.{knows}
-use Rattle.wire_lock.proofs.SightLemmas.{story-of, looked-of}
-use Rattle.wire_lock.proofs.SightLemmas.{owns-left}
-use Rattle.seat_lock.specs.Words.{CarriesOn}
-use Rattle.wire_core.specs.Boards.{owner_of}
+use Rattle.wire_lock.proofs.Names.{knows, CarriesOn, owner_of}
+use Rattle.wire_lock.proofs.SightLemmas.{story-of, looked-of, owns-left}
 use Rattle.wire_lock.proofs.shared.SharedWire.meet.Goals as goal
 
 pub returns-clause-one : goal.returns-clause-one

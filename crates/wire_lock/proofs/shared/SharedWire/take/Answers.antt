@@ -1,14 +1,6 @@
 use Rattle.std.proofs.Common.{List, [], ◌∷◌, ◌++◌, true, false, refl, sym, ap, ◌∙◌}
-use Rattle.message_core.proofs.NodeLemmas.{same_node-refl}
-use Rattle.seat_lock.specs.Words.{knows, sees}
-use Rattle.world_core.specs.declared.entries.Entry.{Entry}
-use Rattle.world_core.specs.declared.entries.Entry.TheVariants.{Take}
-use Rattle.world_core.specs.Walks.{World, Flags, walk}
-use Rattle.wire_core.specs.Wires.{WireParts}
-use Rattle.wire_lock.specs.Sights.{base_at}
-use Rattle.wire_lock.proofs.SightLemmas.{finds, origin-of, entries-in, story-of, lock-origin, noted-kept, looked-of, visited-of}
-use Rattle.world_core.specs.Walks.{numbered, sent_by}
-use Rattle.wire_lock.proofs.SightLemmas.{took-copy, copy-left, behind-is, if-gave, if-failed, left-of, none-due}
+use Rattle.wire_lock.proofs.Names.{same_node-refl, knows, sees, Entry, Take, World, Flags, walk, numbered, sent_by, WireParts, base_at}
+use Rattle.wire_lock.proofs.SightLemmas.{finds, origin-of, entries-in, story-of, lock-origin, noted-kept, looked-of, visited-of, took-copy, copy-left, behind-is, if-gave, if-failed, left-of, none-due}
 use Rattle.wire_lock.proofs.shared.SharedWire.take.Goals as goal
 
 pub take-taken-requires-clause-up : goal.take-taken-requires-clause-up

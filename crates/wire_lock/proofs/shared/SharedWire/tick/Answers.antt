@@ -1,10 +1,6 @@
 use Rattle.std.proofs.Common.{List, [], ◌∷◌, ◌++◌, sym, ap, ◌∙◌}
-use Rattle.seat_lock.specs.Words.{knows, sees}
-use Rattle.world_core.specs.declared.entries.Entry.{Entry}
-use Rattle.world_core.specs.declared.entries.Entry.TheVariants.{Tick}
-use Rattle.wire_lock.proofs.SightLemmas.{finds, origin-of, entries-in, story-of, lock-origin, noted-kept, looked-of}
-use Rattle.wire_lock.proofs.SightLemmas.{ticked-of, rest-found, pass-at, owns-noted, left-of, still-busy}
-use Rattle.wire_core.specs.Wires.{WireParts}
+use Rattle.wire_lock.proofs.Names.{knows, sees, Entry, Tick, WireParts}
+use Rattle.wire_lock.proofs.SightLemmas.{finds, origin-of, entries-in, story-of, lock-origin, noted-kept, looked-of, ticked-of, rest-found, pass-at, owns-noted, left-of, still-busy}
 use Rattle.wire_lock.proofs.shared.SharedWire.tick.Goals as goal
 
 pub leave-requires : goal.leave-requires
