@@ -1,7 +1,10 @@
 -- How a run ends that doesn't begin, and what its wire began with.
-use Rattle.std.proofs.Common.{◌≡◌, ℕ, List, length, map, Option, Some, inl, sym, subst}
+use Rattle.std.proofs.Common.{◌≡◌, ℕ, List, length, map, Option, Some, inl, refl, sym, subst}
 use Rattle.std.specs.List.{AllZip}
-use Rattle.run_rounds.proofs.Names.{Asked, Plan, Origin, Opening, Media, FirstRefusal, HasOpened, medium_in, node_count, IsSetUp, End, EndsAs, IsEndFor, tellers}
+use Rattle.seat_lock.specs.Words.{base_of}
+use Rattle.run_starts.specs.Starts.{HasPasses}
+use Rattle.run_rounds.specs.Begins.{HasBegun}
+use Rattle.run_rounds.proofs.Names.{Asked, Plan, View, Founding, LockTable, Entry, Origin, WireParts, Opening, Media, FirstRefusal, HasOpened, medium_in, node_count, IsSetUp, End, EndsAs, IsEndFor, tellers, Pass}
 use Rattle.run_media.specs.declared.openings.Refusal.{Refusal}
 use Rattle.run_media.specs.declared.openings.Refusal.TheVariants as refusal
 use Rattle.run_rounds.specs.declared.ends.End.TheVariants as end
@@ -29,3 +32,11 @@ module _ {M : Type 0} {g : _} (w : Media M) (most_ticks enough : ℕ) (plan : Pl
   ends-set-up os asked later answers more o media left e set h =
       subst (λ (a : List Asked). EndsAs w most_ticks enough plan (tellers a later answers more) media left e) set.asked_is
       (subst (λ (a : Option (List ℕ)). EndsAs w most_ticks enough plan (tellers o.asked later a more) media left e) set.answers_are h)
+
+module _ {M : Type 0} {g : _} {Q A : Type 0} (plan : Plan) (os : List (Opening M g)) (lock : LockTable WireParts (View WireParts Entry) (Founding WireParts) Q A) where
+  -- a wire that was set up, with its passes
+  pub has-begun : (asked : List Asked) (answers : Option (List ℕ)) (start : ℕ) (passes : List Pass) (conductor : Pass) → IsSetUp plan os asked answers (base_of lock).origin → HasPasses lock start passes conductor → HasBegun plan os lock start passes conductor
+  has-begun asked answers start passes conductor set has = record {
+    set_up = record { run = set.run; acts = set.acts; opened = set.opened; start = set.start; asked_is = refl; answers_are = refl };
+    has = has;
+  }

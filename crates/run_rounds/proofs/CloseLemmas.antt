@@ -1,11 +1,8 @@
 -- What the closing of a run's wire says, and what its calls ask.
-use Rattle.std.proofs.Common.{◌≡◌, ◌⊎◌, ◌≤◌, ◌<◌, ◌+◌, ◌++◌, ◌↔◌, ◌∙◌, ◌^◌, ℕ, Bool, true, IsTrue, List, [], ◌∷◌, Option, length, map, inl, inr, refl, ap, sym, subst, arith}
+use Rattle.std.proofs.Common.{◌≡◌, ◌⊎◌, ◌<◌, ◌+◌, ◌++◌, ◌↔◌, ◌∙◌, ◌^◌, ℕ, Bool, true, IsTrue, List, [], ◌∷◌, Option, inl, inr, refl, ap, sym, subst, arith}
 use Rattle.std.specs.Prelude.{All}
-use Rattle.std.specs.List.{AllZip}
-use Rattle.std.proofs.lemmas.List.{length-map, length_push}
 use Rattle.std.proofs.lemmas.List.Elements.{All-push}
-use Rattle.std.proofs.lemmas.Slice.Zip.{AllZip-long}
-use Rattle.run_rounds.proofs.Names.{Asked, Plan, IsOfLanguage, View, Founding, LockTable, IsOneOf, CarriesOn, fresh, knows, Entry, Trace, Idle, fates_of, IsLegal, Origin, WireParts, owner_of, IsWirePass, Sight, owners_for, IsWhole, LeavesUntold, end_of, tick_count, NodeParts, Limits, Reason, GoesOn, Media, node_count, End, ClosedAs, HaveGone, IfRan, IfWanting, Pass}
+use Rattle.run_rounds.proofs.Names.{Asked, Plan, IsOfLanguage, View, Founding, LockTable, IsOneOf, CarriesOn, fresh, knows, Entry, Trace, Idle, fates_of, IsLegal, Origin, WireParts, owner_of, IsWirePass, Sight, owners_for, IsWhole, LeavesUntold, end_of, tick_count, NodeParts, Limits, Reason, Media, node_count, End, ClosedAs, HaveGone, IfRan, IfWanting, Pass}
 use Rattle.run_starts.specs.Reason.TheVariants as reason
 use Rattle.run_rounds.specs.declared.ends.End.TheVariants as end
 use Rattle.run_rounds.specs.Closings.{ToldFor}
@@ -75,12 +72,6 @@ pub wires-pushed : {Q A : Type 0} (lock : LockTable WireParts (View WireParts En
 wires-pushed lock all front last e are is = subst (All (IsWirePass lock)) (sym e) (All-push (IsWirePass lock) front last are is)
 
 -- ---- counts
-
--- a pass for each node, and the conductor's
-pub passes-count : {M : Type 0} (w : Media M) (limits : Limits) (begun : List (NodeParts M)) (why : Reason) (media : List (Option M)) (passes : List Pass) → HaveGone w limits begun why media passes → length passes ≡ length begun + 1
-passes-count {M} w limits begun why media passes gone =
-    ap length gone.passes_are ∙ (length_push (map (λ (n : NodeParts M). n.pass) gone.nodes) gone.conductor
-    ∙ ap (λ (n : ℕ). n + 1) (length-map gone.nodes (λ (n : NodeParts M). n.pass) ∙ AllZip-long (GoesOn w.tells w.faults w.reads) begun gone.nodes gone.went))
 
 -- a plan has few nodes
 pub few-nodes : (plan : Plan) → IsOfLanguage plan → node_count plan < 2 ^ 32

@@ -1,17 +1,16 @@
 -- A run that can begin, and one whose wire is set up, before anything happens in it.
-use Rattle.std.specs.Prelude.{◌≡◌, ℕ, List, length, map, All}
+use Rattle.std.specs.Prelude.{◌≡◌, ℕ, List, length}
 use Rattle.atomic_table.specs.declared.shared.Seat.{Seat}
 use Rattle.seat_lock.specs.declared.views.View.{View}
 use Rattle.seat_lock.specs.declared.views.Founding.{Founding}
 use Rattle.seat_lock.specs.declared.locks.LockTable.{LockTable}
-use Rattle.seat_lock.specs.Words.{base_of, fresh, knows}
+use Rattle.seat_lock.specs.Words.{base_of}
 use Rattle.plan_form.specs.PlanTexts.{IsOfLanguage}
 use Rattle.plan_form.specs.declared.plans.Plan.{Plan}
 use Rattle.run_media.specs.Openings.{AreReady}
 use Rattle.run_media.specs.Places.{node_count}
 use Rattle.run_media.specs.declared.openings.Opening.{Opening}
-use Rattle.run_starts.specs.Sights.{IsWirePass}
-use Rattle.run_starts.specs.Starts.{IsSetUp, fresh_for}
+use Rattle.run_starts.specs.Starts.{HasPasses, IsSetUp}
 use Rattle.run_starts.specs.Wires.{WireParts}
 use Rattle.world_core.specs.declared.entries.Entry.{Entry}
 use Rattle.run_rounds.specs.Closings.{Pass}
@@ -24,11 +23,7 @@ module _ {M : Type 0} {g : _} where
     pub ready : AreReady plan 0 os
 
 module _ {M : Type 0} {g : _} {Q A : Type 0} where
-  -- The wire under this lock begins a run of the plan over what was opened; each node has a pass, and the conductor one, which have seen nothing.
+  -- The wire under this lock begins a run of the plan over what was opened, and its passes have seen nothing.
   pub record HasBegun (plan : Plan) (os : List (Opening M g)) (lock : LockTable WireParts (View WireParts Entry) (Founding WireParts) Q A) (start : ℕ) (passes : List Pass) (conductor : Pass) : Type 0 where
     pub set_up : IsSetUp plan os (base_of lock).origin.asked (base_of lock).origin.answers (base_of lock).origin
-    pub starts : start ≡ (base_of lock).origin.start
-    pub passes_fit : All (IsWirePass lock) passes
-    pub unseen : map knows passes ≡ fresh_for (base_of lock) (base_of lock).origin.opened
-    pub conducts : IsWirePass lock conductor
-    pub conductor_unseen : knows conductor ≡ fresh (base_of lock) 0
+    pub has : HasPasses lock start passes conductor

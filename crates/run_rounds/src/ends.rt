@@ -44,7 +44,6 @@ fn told_by(told: Told, idle: bool, reason: Reason) -> End
 }
 
 /// A run's media in their places, all passes of its wire, and why it ended.
-#[derive(Drop)]
 pub struct Ended<F: Fates, C: Clock, M: Medium> {
     pub media: Vec<Option<M>>,
     pub passes: Vec<WirePass<F, C, M>>,

@@ -1,17 +1,13 @@
 //! A run of a plan.
 ghost use Rattle.std.specs.Prelude.{◌≡◌, ◌≤◌, ◌<◌, ℕ, List, [], length, map, vec_len, vec_capacity, slice_get, Option, Some, All};
 ghost use Rattle.std.specs.List.{AllZip};
-ghost use Rattle.seat_lock.specs.Words.{base_of, knows};
+ghost use Rattle.seat_lock.specs.Words.{base_of};
 ghost use Rattle.plan_form.specs.PlanTexts.{IsOfLanguage};
 ghost use Rattle.run_starts.specs.Sights.{IsWirePass};
 ghost use Rattle.run_media.specs.Openings.{HasOpened, IsOpen, medium_in};
-ghost use Rattle.run_starts.specs.Deals.{HaveRoom, IsDealt};
 ghost use Rattle.run_starts.specs.Seats.{IsSound};
 ghost use Rattle.run_media.specs.Places.{node_count};
-ghost use Rattle.run_starts.specs.Nodes.{IsReady};
-ghost use Rattle.world_core.specs.Counts.{tick_count};
 ghost use Rattle.run_rounds.specs.Begins.{HasBegun, IsRunnable};
-ghost use Rattle.run_rounds.specs.Closings.{HasClosed};
 ghost use Rattle.run_rounds.specs.Finishes.{EndsAs, IsEndFor, tellers};
 
 use crate::courses::rounds;
@@ -20,7 +16,7 @@ use medium_port::Medium;
 use plan_form::Plan;
 use run_media::{Opening, Refusal, are_open, first_refusal, give_back};
 use run_starts::{
-    Begun, Limits, Reason, RunNode, Seated, SharedWire, WirePass, down_visits, empty_shares,
+    Begun, Limits, Reason, Seated, SharedWire, WirePass, down_visits, empty_shares, let_go,
     open_nodes, wire_for,
 };
 use std::alloc::Global;
@@ -96,10 +92,7 @@ fn with_nodes<
         start,
     } = begun;
     let count = openings.len();
-    let (Ok(nodes), Ok(shares)) = (
-        Vec::with_capacity(alloc, count),
-        empty_shares(alloc, limits.workers, count),
-    ) else {
+    let Ok((nodes, shares)) = empty_shares(alloc, limits.workers, count) else {
         return stopped(wire, passes, conductor, give_back(media, openings));
     };
     let Seated {
@@ -109,47 +102,17 @@ fn with_nodes<
         is_whole,
     } = open_nodes(alloc, plan, start, openings, passes, nodes, media);
     if !is_whole {
+        nodes.destroy_empty();
+        let_go(shares);
         return stopped(wire, passes, conductor, media);
     }
-    run_nodes(rt, wire, limits, nodes, shares, conductor, media, passes)
-}
-
-// Lets the opened nodes go on until the run has ended, and closes its wire.
-fn run_nodes<
-    F: Fates + Drop + Send,
-    C: Clock + Drop + Send,
-    M: Medium + Drop + Send,
-    R: Threads + Wait + Sync,
->(
-    rt: &R,
-    wire: SharedWire<F, C, M>,
-    limits: Limits,
-    nodes: Vec<RunNode<F, C, M>>,
-    shares: Vec<Vec<RunNode<F, C, M>>>,
-    conductor: WirePass<F, C, M>,
-    media: Vec<Option<M>>,
-    passes: Vec<WirePass<F, C, M>>,
-) -> Finished<F, C, M>
-    requires ready { All (IsReady wire.lock) nodes.items }
-    requires count { length nodes.items ≡ length (base_of wire.lock).origin.opened }
-    requires some { 1 ≤ length shares.items }
-    requires dealt { IsDealt (length shares.items) [] shares.items }
-    requires share_room { (count : _) × (vec_len nodes ≤ count) × HaveRoom (length shares.items) count shares.items }
-    requires pass { IsWirePass wire.lock conductor × ((knows conductor).owner ≡ 0) ×
-        (tick_count (knows conductor).own ≡ 0) }
-    requires empty { (media.items ≡ []) × (passes.items ≡ []) }
-    requires room { (vec_len nodes ≤ vec_capacity media) × (vec_len nodes < vec_capacity passes) }
-    ensures { HasClosed M.Medium wire.lock limits nodes.items result.media result.end
-        (F.asked result.fates) (C.answers result.clock) }
-{
-    let ended = rounds(rt, &wire, limits, nodes, shares, conductor, media, passes);
-    closed_run(wire, ended)
+    rounds(rt, wire, limits, nodes, shares, conductor, media, passes)
 }
 
 // Memory ran out before the first round.
 fn stopped<F: Fates, C: Clock, M: Medium>(
     wire: SharedWire<F, C, M>,
-    passes: Vec<WirePass<F, C, M>>,
+    mut passes: Vec<WirePass<F, C, M>>,
     conductor: WirePass<F, C, M>,
     media: Vec<Option<M>>,
 ) -> Finished<F, C, M>
@@ -159,7 +122,6 @@ fn stopped<F: Fates, C: Clock, M: Medium>(
     ensures end { result.end ≡ End.NoMemory }
     ensures media { result.media ≡ media.items }
 {
-    let mut passes = passes;
     passes.push_reserved(conductor);
     closed_run(
         wire,
@@ -199,8 +161,7 @@ fn without_nodes<F: Fates, C: Clock, M: Medium, R: Wait>(
         conductor,
         start: _,
     } = begun;
-    let (passes, reason) = down_visits(rt, &wire, plan, openings.as_slice(), passes);
-    let mut passes = passes;
+    let (mut passes, reason) = down_visits(rt, &wire, plan, openings.as_slice(), passes);
     passes.push_reserved(conductor);
     let ended = Ended {
         media: give_back(media, openings),

@@ -2,7 +2,7 @@
 use Rattle.std.proofs.Common.{◌≡◌, ◌≢◌, ◌≤◌, ◌<◌, ◌+◌, ◌*◌, ◌/◌, ◌%◌, ◌⊎◌, inl, inr, ◌-◌, ℕ, zero, suc, Bool, true, false, ◌==◌, List, [], ◌∷◌, ◌++◌, length, Some, None, slice_get, slice_set, slice_index_or, All, refl, ap, sym, ◌∙◌, subst, arith}
 use Rattle.std.proofs.lemmas.Bool.{cases_lt}
 use Rattle.std.proofs.lemmas.Bool.Decides.{nat_tests}
-use Rattle.std.proofs.Math.Nat.{div-add-mod, mod-lt, lt_of_mul-lt-mul_left, add-mul-div_right, mul-le-mul_left, add-mul-mod_self_right}
+use Rattle.std.proofs.Math.Nat.{div-add-mod, mod-lt, mod-eq_of_lt, lt_of_mul-lt-mul_left, add-mul-div_right, mul-le-mul_left, add-mul-mod_self_right}
 use Rattle.std.proofs.lemmas.List.{length_push}
 use Rattle.std.specs.Vec.{vec_len, vec_capacity}
 use Rattle.std.proofs.lemmas.Option.{slice_get_past, slice_get_within, slice_get_read, get_or_from_slice_get, same_Some}
@@ -275,3 +275,12 @@ no-items v e = empty v.items (omega (arith, e, v.ok))
     empty : {T : Type 0} (xs : List T) → length xs ≡ 0 → xs ≡ []
     empty [] e = refl
     empty (x ∷ xs) e = absurd (omega (arith, e))
+
+-- shares to which nothing is dealt are empty
+pub empty-dealt : {T A : Type 0} (W : ℕ) (xs : List T) (shares : List (Vec T A)) → IsDealt W xs shares → length xs ≡ 0 → length shares ≡ W → All (λ (s : Vec T A). s.items ≡ []) shares
+empty-dealt {T} {A} W xs shares d none size k v lt =
+    let x = some-within shares k lt in
+    let inside : k < W = omega (arith, lt, size) in
+    let z = row-first W k inside in
+    let m = none-past x.0.items (k / W) (d k x.0 (ap (λ n. slice_get shares n) (mod-eq_of_lt inside) ∙ x.1) ∙ slice_get_past xs k (omega (arith, none))) in
+    subst (λ (s : Vec T A). s.items ≡ []) (sym (get_or_from_slice_get shares k x.0 v x.1)) (no-items x.0 (omega (arith, m, z, x.0.ok)))

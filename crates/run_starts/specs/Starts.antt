@@ -1,18 +1,20 @@
 -- How a run starts: its wire, its nodes, and the Downs of those that weren't opened.
-use Rattle.std.specs.Prelude.{◌≡◌, ℕ, ◌^◌, ◌≤◌, List, [], ◌∷◌, map, Option, Some}
+use Rattle.std.specs.Prelude.{◌≡◌, ℕ, ◌^◌, ◌≤◌, List, [], ◌∷◌, map, Option, Some, All}
 use Rattle.pseudo_time.specs.declared.nodes.NodeId.{NodeId}
 use Rattle.stream_port.specs.declared.fates.Asked.{Asked}
 use Rattle.plan_form.specs.declared.plans.Plan.{Plan}
 use Rattle.atomic_table.specs.declared.shared.Seat.{Seat}
 use Rattle.seat_lock.specs.declared.views.View.{View}
-use Rattle.seat_lock.specs.Words.{fresh, knows}
+use Rattle.seat_lock.specs.declared.views.Founding.{Founding}
+use Rattle.seat_lock.specs.declared.locks.LockTable.{LockTable}
+use Rattle.seat_lock.specs.Words.{base_of, fresh, knows}
 use Rattle.world_core.specs.declared.entries.Entry.{Entry}
 use Rattle.world_core.specs.declared.entries.Entry.TheVariants.{Down}
 use Rattle.world_core.specs.declared.traces.Opened.{Opened}
 use Rattle.world_core.specs.Walks.{opened_log}
 use Rattle.node_rounds.specs.Wires.{Origin, WireParts}
 use Rattle.node_rounds.specs.Boards.{owner_for}
-use Rattle.node_rounds.specs.Sights.{Sight}
+use Rattle.node_rounds.specs.Sights.{IsWirePass, Sight}
 use Rattle.run_media.specs.declared.openings.Opening.{Opening}
 use Rattle.run_media.specs.declared.openings.Opening.TheVariants.{Open, Shut, Wanting}
 use Rattle.run_media.specs.Openings.{opened_from, log_in}
@@ -47,3 +49,12 @@ module _ {M : Type 0} {g : _} where
 -- what the new passes of these nodes know
 abbrev pub fresh_for : WireParts → List Opened → List Sight
 fresh_for w opened = map (λ (o : Opened). fresh w (owner_for o.node)) opened
+
+module _ {Q A : Type 0} where
+  -- The wire under this lock begins at this moment. Each node that was opened has a pass, and the conductor one, which have seen nothing.
+  pub record HasPasses (lock : LockTable WireParts (View WireParts Entry) (Founding WireParts) Q A) (start : ℕ) (passes : List (Seat WireParts (View WireParts Entry))) (conductor : Seat WireParts (View WireParts Entry)) : Type 0 where
+    pub starts : start ≡ (base_of lock).origin.start
+    pub passes_fit : All (IsWirePass lock) passes
+    pub unseen : map knows passes ≡ fresh_for (base_of lock) (base_of lock).origin.opened
+    pub conducts : IsWirePass lock conductor
+    pub conductor_unseen : knows conductor ≡ fresh (base_of lock) 0

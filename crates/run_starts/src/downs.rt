@@ -44,7 +44,7 @@ pub fn down_visits<F: Fates, C: Clock, M: Medium, R: Wait>(
     wire: &SharedWire<F, C, M>,
     plan: &Plan,
     openings: &[Opening<M>],
-    passes: Vec<WirePass<F, C, M>>,
+    mut passes: Vec<WirePass<F, C, M>>,
 ) -> (Vec<WirePass<F, C, M>>, Reason)
     requires plan { IsOfLanguage plan.now }
     requires count { (length openings.now ≡ order.node_count plan.now) × (vec_len passes ≤ length openings.now) }
@@ -59,7 +59,6 @@ pub fn down_visits<F: Fates, C: Clock, M: Medium, R: Wait>(
     ensures reason { (result.1 ≡ Reason.Down) ⊎ (result.1 ≡ Reason.Wanting) }
     ensures count { (vec_len result.0 ≡ vec_len passes) × (vec_capacity result.0 ≡ vec_capacity passes) }
 {
-    let mut passes = passes;
     let Some(pass) = passes.pop() else {
         return (passes, Reason::Down);
     };

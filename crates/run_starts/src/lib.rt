@@ -7,7 +7,7 @@ mod downs;
 mod seats;
 mod starts;
 
-pub use deals::{collect, deal, empty_shares};
+pub use deals::{collect, deal, empty_shares, let_go};
 pub use downs::down_visits;
 pub use node_rounds::{Closed, Limits, Reason, RunNode, SharedWire, Told, WirePass, conduct};
 pub use seats::{Seated, open_nodes, take_apart};

@@ -73,7 +73,7 @@ fn node_of<F: Fates, C: Clock, M: Medium>(
 /// Takes the nodes apart: their media and their passes, in their order, in emptied lists that have
 /// room for them.
 pub fn take_apart<F: Fates, C: Clock, M: Medium>(
-    nodes: Vec<RunNode<F, C, M>>,
+    mut nodes: Vec<RunNode<F, C, M>>,
     media: Vec<Option<M>>,
     passes: Vec<WirePass<F, C, M>>,
 ) -> (Vec<Option<M>>, Vec<WirePass<F, C, M>>)
@@ -84,8 +84,8 @@ pub fn take_apart<F: Fates, C: Clock, M: Medium>(
     ensures rest { All (IsAtRest M.Medium) nodes.items }
     ensures room { (vec_capacity result.0 ≡ vec_capacity media) × (vec_capacity result.1 ≡ vec_capacity passes) }
 {
-    let mut nodes = nodes;
     let Some(node) = nodes.pop() else {
+        nodes.destroy_empty();
         return (media, passes);
     };
     let (mut media, mut passes) = take_apart(nodes, media, passes);
@@ -100,8 +100,7 @@ pub fn take_apart<F: Fates, C: Clock, M: Medium>(
 }
 
 /// What came of opening a run's nodes: all of them, or, where memory ran out, their media and their
-/// passes.
-#[derive(Drop)]
+/// passes. None of them is let go.
 pub struct Seated<F: Fates, C: Clock, M: Medium> {
     pub nodes: Vec<RunNode<F, C, M>>,
     pub media: Vec<Option<M>>,
@@ -141,16 +140,15 @@ fn seat<F: Fates, C: Clock, M: Medium>(
     ensures room { (vec_capacity result.media ≡ vec_capacity seated.media) ×
         (vec_capacity result.passes ≡ vec_capacity seated.passes) }
     ensures room_left { result.is_whole ≡ true → vec_capacity result.nodes ≡ vec_capacity seated.nodes }
+    ensures none { result.is_whole ≡ false → (seated.is_whole ≡ false → vec_len seated.nodes ≡ 0) →
+        vec_len result.nodes ≡ 0 }
 {
     let Seated {
-        nodes,
-        media,
-        passes,
+        mut nodes,
+        mut media,
+        mut passes,
         is_whole,
     } = seated;
-    let mut nodes = nodes;
-    let mut media = media;
-    let mut passes = passes;
     if !is_whole {
         media.push_reserved(opening.release());
         passes.push_reserved(pass);
@@ -195,8 +193,8 @@ pub fn open_nodes<F: Fates, C: Clock, M: Medium>(
     alloc: Global,
     plan: &Plan,
     start: u64,
-    openings: Vec<Opening<M>>,
-    passes: Vec<WirePass<F, C, M>>,
+    mut openings: Vec<Opening<M>>,
+    mut passes: Vec<WirePass<F, C, M>>,
     nodes: Vec<RunNode<F, C, M>>,
     media: Vec<Option<M>>,
 ) -> Seated<F, C, M>
@@ -213,10 +211,10 @@ pub fn open_nodes<F: Fates, C: Clock, M: Medium>(
     ensures room { (vec_capacity result.media ≡ vec_capacity media) ×
         (vec_capacity result.passes ≡ vec_capacity passes) }
     ensures room_left { result.is_whole ≡ true → vec_capacity result.nodes ≡ vec_capacity nodes }
+    ensures none { result.is_whole ≡ false → vec_len result.nodes ≡ 0 }
 {
-    let mut openings = openings;
-    let mut passes = passes;
     let Some(opening) = openings.pop() else {
+        openings.destroy_empty();
         return Seated {
             nodes,
             media,

@@ -1,10 +1,10 @@
 //! The start of a run: its wire, and the passes of its nodes.
-ghost use Rattle.std.specs.Prelude.{◌≡◌, ◌≢◌, ◌<◌, [], length, map, vec_len, vec_capacity, All, AllPairs, IfOk};
-ghost use Rattle.seat_lock.specs.Words.{base_of, fresh, knows};
+ghost use Rattle.std.specs.Prelude.{◌≡◌, ◌≢◌, ◌<◌, [], length, vec_len, vec_capacity, AllPairs, IfOk};
+ghost use Rattle.seat_lock.specs.Words.{base_of};
 ghost use Rattle.plan_form.specs.PlanTexts.{IsOfLanguage};
-ghost use Rattle.node_rounds.specs.Sights.{IsWirePass, owners_for};
+ghost use Rattle.node_rounds.specs.Sights.{owners_for};
 ghost use Rattle.run_media.specs.Places as order;
-ghost use Rattle.run_starts.specs.Starts.{IsSetUp, fresh_for};
+ghost use Rattle.run_starts.specs.Starts.{HasPasses, IsSetUp};
 
 use medium_port::Medium;
 use node_rounds::{SharedWire, Wire, WirePass};
@@ -13,8 +13,8 @@ use run_media::{Opening, opened_nodes};
 use std::alloc::{AllocError, Global};
 use stream_port::{Clock, Fates};
 
-/// The wire of a run, with the passes of its nodes, in their order, and the conductor's.
-#[derive(Drop)]
+/// The wire of a run, with the passes of its nodes, in their order, and the conductor's. None of them is
+/// let go.
 pub struct Begun<F: Fates, C: Clock, M: Medium> {
     pub wire: SharedWire<F, C, M>,
     pub passes: Vec<WirePass<F, C, M>>,
@@ -35,12 +35,7 @@ pub fn wire_for<F: Fates, C: Clock, M: Medium>(
     requires count { length openings.now ≡ order.node_count plan.now }
     ensures set_up { IfOk result (λ b. IsSetUp plan.now openings.now (F.asked fates) (C.answers clock)
         (base_of b.wire.lock).origin) }
-    ensures start { IfOk result (λ b. b.start ≡ (base_of b.wire.lock).origin.start) }
-    ensures passes { IfOk result (λ b. All (IsWirePass b.wire.lock) b.passes.items) }
-    ensures fresh { IfOk result (λ b. map knows b.passes.items ≡ fresh_for (base_of b.wire.lock)
-        (base_of b.wire.lock).origin.opened) }
-    ensures conductor { IfOk result (λ b. IsWirePass b.wire.lock b.conductor ×
-        (knows b.conductor ≡ fresh (base_of b.wire.lock) 0)) }
+    ensures has { IfOk result (λ b. HasPasses b.wire.lock b.start b.passes.items b.conductor) }
     ensures room { IfOk result (λ b. vec_len b.passes < vec_capacity b.passes) }
 {
     let Ok(opened) = opened_nodes(alloc, plan, openings) else {
@@ -65,12 +60,7 @@ fn shared<F: Fates, C: Clock, M: Medium>(
     requires start { start ≡ wire.origin.start }
     requires differ { AllPairs (λ a b. a ≢ b) (owners_for wire.origin.opened) }
     ensures base { IfOk result (λ b. base_of b.wire.lock ≡ wire) }
-    ensures start { IfOk result (λ b. b.start ≡ (base_of b.wire.lock).origin.start) }
-    ensures passes { IfOk result (λ b. All (IsWirePass b.wire.lock) b.passes.items) }
-    ensures fresh { IfOk result (λ b. map knows b.passes.items ≡ fresh_for (base_of b.wire.lock)
-        (base_of b.wire.lock).origin.opened) }
-    ensures conductor { IfOk result (λ b. IsWirePass b.wire.lock b.conductor ×
-        (knows b.conductor ≡ fresh (base_of b.wire.lock) 0)) }
+    ensures has { IfOk result (λ b. HasPasses b.wire.lock b.start b.passes.items b.conductor) }
     ensures room { IfOk result (λ b. vec_len b.passes < vec_capacity b.passes) }
 {
     match SharedWire::new(alloc, wire) {

@@ -1,10 +1,10 @@
-use Rattle.std.proofs.Common.{rules, refl, ◌≡◌, ◌∙◌, Some, length, slice_get, sym, subst, ap, arith}
+use Rattle.std.proofs.Common.{rules, ◌≡◌, Some, length, slice_get, sym, subst, ap, arith}
 use Rattle.std.specs.Prelude.{All}
 use Rattle.seat_lock.specs.Words.{base_of}
 use Rattle.run_rounds.proofs.Names.{FirstRefusal, IsInRange, IsOpen, IsSetUp, EndsAs, IsEndFor, tellers}
 use Rattle.run_rounds.specs.declared.ends.End.TheVariants as end
 use Rattle.run_rounds.proofs.BackLemmas.{opened-in-range}
-use Rattle.run_rounds.proofs.BeginLemmas.{ends-refused, ends-set-up, ends-wanting}
+use Rattle.run_rounds.proofs.BeginLemmas.{ends-refused, ends-set-up, ends-wanting, has-begun}
 use Rattle.run_rounds.proofs.SoundLemmas.{sound-of}
 use Rattle.run_rounds.proofs.runs.run.Goals as goal
 
@@ -65,29 +65,15 @@ with_nodes-requires-clause-runnable g c κs within = record { of_language = c.re
 
 pub with_nodes-requires-clause-begun : goal.with_nodes-requires-clause-begun
 with_nodes-requires-clause-begun g c κs within =
-    let o = (base_of c.in-Ok.begun.wire.lock).origin in
-    let set = subst (λ l. IsSetUp c.args.plan.now l (g.F.Fates.asked c.args.fates) (g.C.Clock.answers c.args.clock) o) c.as_slice-2.ensures.value c.in-Ok.ensures.set_up in
-    record {
-      set_up = record { run = set.run; acts = set.acts; opened = set.opened; start = set.start; asked_is = refl; answers_are = refl };
-      starts = c.in-Ok.ensures.start;
-      passes_fit = c.in-Ok.ensures.passes;
-      unseen = c.in-Ok.ensures.fresh;
-      conducts = c.in-Ok.ensures.conductor.0;
-      conductor_unseen = c.in-Ok.ensures.conductor.1;
-    }
+    let b = c.in-Ok.begun in
+    let set = subst (λ l. IsSetUp c.args.plan.now l (g.F.Fates.asked c.args.fates) (g.C.Clock.answers c.args.clock) (base_of b.wire.lock).origin) c.as_slice-2.ensures.value c.in-Ok.ensures.set_up in
+    has-begun c.args.plan.now c.args.openings.items b.wire.lock (g.F.Fates.asked c.args.fates) (g.C.Clock.answers c.args.clock) b.start b.passes.items b.conductor set c.in-Ok.ensures.has
 
 pub without_nodes-requires-clause-runnable : goal.without_nodes-requires-clause-runnable
 without_nodes-requires-clause-runnable g c = record { of_language = c.requires.plan; all = c.requires.count; ready = search rules }
 
 pub without_nodes-requires-clause-begun : goal.without_nodes-requires-clause-begun
 without_nodes-requires-clause-begun g c =
-    let o = (base_of c.in-Ok.begun.wire.lock).origin in
-    let set = subst (λ l. IsSetUp c.args.plan.now l (g.F.Fates.asked c.args.fates) (g.C.Clock.answers c.args.clock) o) c.as_slice-2.ensures.value c.in-Ok.ensures.set_up in
-    record {
-      set_up = record { run = set.run; acts = set.acts; opened = set.opened; start = set.start; asked_is = refl; answers_are = refl };
-      starts = c.in-Ok.ensures.start;
-      passes_fit = c.in-Ok.ensures.passes;
-      unseen = c.in-Ok.ensures.fresh;
-      conducts = c.in-Ok.ensures.conductor.0;
-      conductor_unseen = c.in-Ok.ensures.conductor.1;
-    }
+    let b = c.in-Ok.begun in
+    let set = subst (λ l. IsSetUp c.args.plan.now l (g.F.Fates.asked c.args.fates) (g.C.Clock.answers c.args.clock) (base_of b.wire.lock).origin) c.as_slice-2.ensures.value c.in-Ok.ensures.set_up in
+    has-begun c.args.plan.now c.args.openings.items b.wire.lock (g.F.Fates.asked c.args.fates) (g.C.Clock.answers c.args.clock) b.start b.passes.items b.conductor set c.in-Ok.ensures.has

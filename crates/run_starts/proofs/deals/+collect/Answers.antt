@@ -1,8 +1,15 @@
 use Rattle.std.proofs.Common.{rules, ◌≡◌, ◌≤◌, ◌-◌, ◌+◌, ◌++◌, ◌∷◌, [], ℕ, ◌%◌, length, refl, ap, sym, subst, ◌∙◌, arith, slice_set}
 use Rattle.std.proofs.lemmas.List.{length_push}
 use Rattle.run_starts.specs.Deals.{IsDealt}
-use Rattle.run_starts.proofs.DealLemmas.{at-index, some-there, split-last, dealt-popped, popped-is, length-set, no-items}
+use Rattle.run_starts.proofs.DealLemmas.{at-index, some-there, split-last, dealt-popped, empty-dealt, popped-is, length-set, no-items}
 use Rattle.run_starts.proofs.deals.+collect.Goals as goal
+
+pub let_go-requires : goal.let_go-requires
+let_go-requires g t c =
+    let d = c.requires.dealt in
+    let l = d.2 in
+    let r = c.if-count-eq0.true in
+    record { empty = empty-dealt (length c.args.shares.items) d.0 c.args.shares.items d.1 (omega (arith, l, r)) refl }
 
 pub unreachable-requires : goal.unreachable-requires
 unreachable-requires g t c =

@@ -112,3 +112,6 @@ returns-clause-back g t c is = go c.open_nodes-seated.result.is_whole refl
 
 pub returns-clause-room_left : goal.returns-clause-room_left
 returns-clause-room_left g t c is = c.seat.ensures.room_left is ∙ c.open_nodes-seated.ensures.room_left (c.seat.ensures.new is).0
+
+pub returns-clause-none : goal.returns-clause-none
+returns-clause-none g t c is = c.seat.ensures.none is (λ not. c.open_nodes-seated.ensures.none not)
