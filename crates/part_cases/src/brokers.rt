@@ -1,5 +1,6 @@
 //! The core of a broker.
 ghost use Rattle.std.specs.Prelude.{IfOk};
+ghost use Rattle.pseudo_time.specs.Lists.{Every};
 ghost use Rattle.value_form.specs.Mirror.{block};
 ghost use Rattle.effect_form.specs.Effects.{AreEffects};
 ghost use Rattle.script_form.specs.Printable.{IsPrintable};
@@ -46,40 +47,18 @@ fn act_of(alloc: Global, text: &[u8], index: u32, clock: u64) -> Result<ActSpec,
     })
 }
 
-// The act of this index, with the clock that a word is.
-fn act(alloc: Global, text: &[u8], index: u32, clock: &str) -> Result<ActSpec, CaseFault>
-    ensures { IfOk result (λ a. IsBrokerAct a) }
+// An act of this script for each clock.
+fn acts_of(alloc: Global, text: &[u8], clocks: &[&str]) -> Result<Vec<ActSpec>, CaseFault>
+    ensures { IfOk result (λ v. Every IsBrokerAct v.items) }
 {
-    act_of(alloc, text, index, number(clock)?)
-}
-
-// Broker 1 in run 1 with two acts of this script, over this log.
-fn with_two(
-    alloc: Global,
-    text: &[u8],
-    clocks: (&str, &str),
-    log: &[Effect],
-) -> Result<Result<Broker, ResumeFault>, CaseFault>
-    requires { AreEffects log.now }
-{
-    let first = act(alloc, text, 1, clocks.0)?;
-    let second = act(alloc, text, 2, clocks.1)?;
-    Ok(Broker::open(alloc, 1, 1, &[first, second], log))
-}
-
-// The same with three acts.
-fn with_three(
-    alloc: Global,
-    text: &[u8],
-    clocks: (&str, &str, &str),
-    log: &[Effect],
-) -> Result<Result<Broker, ResumeFault>, CaseFault>
-    requires { AreEffects log.now }
-{
-    let first = act(alloc, text, 1, clocks.0)?;
-    let second = act(alloc, text, 2, clocks.1)?;
-    let third = act(alloc, text, 3, clocks.2)?;
-    Ok(Broker::open(alloc, 1, 1, &[first, second, third], log))
+    let mut acts = Vec::new(alloc);
+    let mut index = 0u32;
+    for clock in clocks {
+        index = index.saturating_add(1);
+        let act = act_of(alloc, text, index, number(clock)?)?;
+        acts.push(act)?;
+    }
+    Ok(acts)
 }
 
 // Broker 1 in run 1, with an act of this script for each clock, at most three, over this log.
@@ -91,15 +70,11 @@ fn opened(
 ) -> Result<Result<Broker, ResumeFault>, CaseFault>
     requires { AreEffects log.now }
 {
-    match clocks {
-        [one] => {
-            let first = act(alloc, text, 1, one)?;
-            Ok(Broker::open(alloc, 1, 1, &[first], log))
-        }
-        [one, two] => with_two(alloc, text, (one, two), log),
-        [one, two, three] => with_three(alloc, text, (one, two, three), log),
-        _ => Err(CaseFault::Line),
+    let acts = acts_of(alloc, text, clocks)?;
+    if acts.is_empty() || acts.len() > 3 {
+        return Err(CaseFault::Line);
     }
+    Ok(Broker::open(alloc, 1, 1, acts.as_slice(), log))
 }
 
 fn take(alloc: Global, broker: &mut Broker, words: &[&str]) -> Result<String, CaseFault> {
@@ -172,7 +147,7 @@ impl Brokers {
         opened(alloc, self.script.as_bytes(), clocks, log.as_slice())
     }
 
-    // Begins the broker of the acts with these clocks, or tells why it can't go on.
+    // Begins the broker of the acts with these clocks, or says why it can't go on.
     fn begin(&mut self, alloc: Global, clocks: &[&str]) -> Result<String, CaseFault> {
         match self.resumed(alloc, clocks)? {
             Ok(broker) => {

@@ -48,7 +48,6 @@ use std::alloc::{AllocError, Global};
 use std::process::ExitCode;
 use std::rt::Files;
 use std::{fs, io};
-use stores::Storage;
 use subjects::carry_all;
 use tables::Tables;
 use votes::Votes;
@@ -59,9 +58,8 @@ fn cases(alloc: Global, about: &str, text: &str, said: &mut String) -> Result<()
         "records" => carry_all::<Records>(alloc, text, said),
         "logs" => carry_all::<Vec<Effect>>(alloc, text, said),
         "flights" => carry_all::<Option<Flight>>(alloc, text, said),
-        "media" => carry_all::<Storage>(alloc, text, said),
+        "media" | "tables" => carry_all::<Tables>(alloc, text, said),
         "histories" => carry_all::<Option<Pair>>(alloc, text, said),
-        "tables" => carry_all::<Tables>(alloc, text, said),
         "repositories" => carry_all::<Option<Core>>(alloc, text, said),
         "votes" => carry_all::<Votes>(alloc, text, said),
         "brokers" => carry_all::<Brokers>(alloc, text, said),

@@ -7,13 +7,11 @@ ghost use Rattle.version_store.specs.StoreWords.{medium_of};
 use crate::faults::CaseFault;
 use crate::pages::on_medium;
 use crate::stops::stop;
-use crate::subjects::Subject;
 use crate::words::{effects, size, small};
 use effect_form::Effect;
 use medium_port::{Medium, MemoryMedium, Stop};
 use std::alloc::{AllocError, Global};
 use std::fmt::Debug;
-use std::mem;
 use version_store::Store;
 
 /// A medium that hasn't failed.
@@ -162,7 +160,12 @@ fn on_sound(
 }
 
 impl Storage {
-    // The medium, if it hasn't failed.
+    /// No medium, and no stops of the next one.
+    pub fn nothing(alloc: Global) -> Storage {
+        Storage::Stops(Vec::new(alloc))
+    }
+
+    /// The medium, if it hasn't failed.
     pub fn sound(self) -> Result<Sound, CaseFault> {
         match self {
             Storage::Medium(sound) => Ok(sound),
@@ -214,23 +217,5 @@ impl Storage {
             [verb, words @ ..] => on_sound(alloc, self.sound()?, verb, words),
             [] => Err(CaseFault::Line),
         }
-    }
-}
-
-impl Subject for Storage {
-    fn nothing(alloc: Global) -> Storage {
-        Storage::Stops(Vec::new(alloc))
-    }
-
-    fn carry_out(
-        &mut self,
-        alloc: Global,
-        _line: &str,
-        words: &[&str],
-    ) -> Result<String, CaseFault> {
-        let storage = mem::replace(self, Storage::nothing(alloc));
-        let (storage, said) = storage.come_of(alloc, words)?;
-        *self = storage;
-        Ok(said)
     }
 }
