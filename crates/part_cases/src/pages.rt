@@ -1,5 +1,5 @@
-//! The calls of a medium in memory that hasn't failed, and of its pages. Each answers what is printed of it, or None where
-//! the medium failed.
+//! The calls of a medium in memory that hasn't failed, and of its pages. Each answers what is printed of it, or
+//! None where the medium failed.
 ghost use Rattle.std.specs.Prelude.{◌≡◌, false, is_err, IfOk, IfSome};
 ghost use Rattle.medium_port.specs.MemoryMedia.{failed_in};
 
