@@ -1,14 +1,17 @@
 //! The core of a broker.
 ghost use Rattle.std.specs.Prelude.{IfOk};
+ghost use Rattle.pseudo_time.specs.Lists.{Every};
 ghost use Rattle.value_form.specs.Mirror.{block};
+ghost use Rattle.effect_form.specs.Effects.{AreEffects};
 ghost use Rattle.script_form.specs.Printable.{IsPrintable};
 ghost use Rattle.broker_core.specs.Ledgers.{IsBrokerAct};
 
 use crate::faults::CaseFault;
 use crate::subjects::Subject;
-use crate::turns::told;
-use crate::words::{effects, joined, message, node, number};
+use crate::turns::turn_text;
+use crate::words::{arrival, joined, log_of, number};
 use broker_core::{Broker, ResumeFault};
+use effect_form::Effect;
 use pseudo_time::LAST_CLOCK;
 use script_form::{law_of_lines, parse};
 use std::alloc::Global;
@@ -44,161 +47,162 @@ fn act_of(alloc: Global, text: &[u8], index: u32, clock: u64) -> Result<ActSpec,
     })
 }
 
+// An act of this script for each clock.
+fn acts_of(alloc: Global, text: &[u8], clocks: &[&str]) -> Result<Vec<ActSpec>, CaseFault>
+    ensures { IfOk result (λ v. Every IsBrokerAct v.items) }
+{
+    let mut acts = Vec::new(alloc);
+    let mut index = 0u32;
+    for clock in clocks {
+        index = index.saturating_add(1);
+        let act = act_of(alloc, text, index, number(clock)?)?;
+        acts.push(act)?;
+    }
+    Ok(acts)
+}
+
 // Broker 1 in run 1, with an act of this script for each clock, at most three, over this log.
 fn opened(
     alloc: Global,
     text: &[u8],
     clocks: &[&str],
-    log: &[&str],
-) -> Result<Result<Broker, ResumeFault>, CaseFault> {
-    let log = effects(alloc, log)?;
-    match clocks {
-        [one] => {
-            let first = act_of(alloc, text, 1, number(one)?)?;
-            Ok(Broker::open(alloc, 1, 1, &[first], log.as_slice()))
-        }
-        [one, two] => {
-            let first = act_of(alloc, text, 1, number(one)?)?;
-            let second = act_of(alloc, text, 2, number(two)?)?;
-            Ok(Broker::open(alloc, 1, 1, &[first, second], log.as_slice()))
-        }
-        [one, two, three] => {
-            let first = act_of(alloc, text, 1, number(one)?)?;
-            let second = act_of(alloc, text, 2, number(two)?)?;
-            let third = act_of(alloc, text, 3, number(three)?)?;
-            Ok(Broker::open(alloc, 1, 1, &[first, second, third], log.as_slice()))
-        }
-        _ => Err(CaseFault::Line),
+    log: &[Effect],
+) -> Result<Result<Broker, ResumeFault>, CaseFault>
+    requires { AreEffects log.now }
+{
+    let acts = acts_of(alloc, text, clocks)?;
+    if acts.is_empty() || acts.len() > 3 {
+        return Err(CaseFault::Line);
     }
+    Ok(Broker::open(alloc, 1, 1, acts.as_slice(), log))
+}
+
+fn take(alloc: Global, broker: &mut Broker, words: &[&str]) -> Result<String, CaseFault> {
+    let (from, message) = arrival(alloc, words)?;
+    turn_text(alloc, &broker.take(from, &message)?)
+}
+
+fn hear(alloc: Global, broker: &mut Broker, moment: &str) -> Result<String, CaseFault> {
+    turn_text(alloc, &broker.hear(number(moment)?)?)
 }
 
 // What comes of a line on a broker.
-fn carry_out(alloc: Global, broker: &mut Broker, words: &[&str]) -> Result<String, CaseFault> {
-    let [verb, rest @ ..] = words else {
-        return Err(CaseFault::Line);
-    };
-    match (*verb, rest) {
-        ("go", []) => told(alloc, &broker.go()?),
-        ("hear", [moment]) => told(alloc, &broker.hear(number(moment)?)?),
-        ("take", [kind, from, words @ ..]) => {
-            let message = message(alloc, words)?;
-            told(alloc, &broker.take(node(kind, from)?, &message)?)
-        }
-        ("done", []) => Ok(format!(in alloc; "  {}\n", broker.done())?),
+fn on_broker(alloc: Global, broker: &mut Broker, words: &[&str]) -> Result<String, CaseFault> {
+    match words {
+        ["go"] => turn_text(alloc, &broker.go()?),
+        ["hear", moment] => hear(alloc, broker, moment),
+        ["take", rest @ ..] => take(alloc, broker, rest),
+        ["done"] => Ok(format!(in alloc; "  {}\n", broker.done())?),
         _ => Err(CaseFault::Line),
     }
 }
 
-/// What stands before a broker is begun.
+// Why a broker can't go on.
+fn resume_text(alloc: Global, fault: ResumeFault) -> Result<String, CaseFault> {
+    match fault {
+        ResumeFault::NoMemory => Err(CaseFault::NoMemory),
+        fault => Ok(format!(in alloc; "  {fault:?}\n")?),
+    }
+}
+
+/// A broker, and what stands before it is begun.
 #[derive(Drop)]
-pub struct Head {
+pub struct Brokers {
     /// Whether the script of its acts goes on.
     is_open: bool,
     script: String,
     /// The log that it finds.
     log: String,
+    broker: Option<Broker>,
 }
 
-impl Head {
-    fn new(alloc: Global, is_open: bool) -> Head {
-        Head {
+impl Brokers {
+    fn new(alloc: Global, is_open: bool) -> Brokers {
+        Brokers {
             is_open,
             script: String::new(alloc),
             log: String::new(alloc),
+            broker: None,
         }
     }
 
     // Adds a line of the script, or ends it.
-    fn script_line(&mut self, line: &str) -> Result<(), CaseFault> {
+    fn script_line(&mut self, alloc: Global, line: &str) -> Result<String, CaseFault> {
         if line == "end program" {
             self.is_open = false;
         } else {
             self.script.push_str(line)?;
             self.script.push('\n')?;
         }
-        Ok(())
+        Ok(String::new(alloc))
     }
 
-    // Takes the log that the broker finds.
-    fn keep(&mut self, alloc: Global, words: &[&str]) -> Result<(), CaseFault> {
-        self.log = joined(alloc, words)?;
-        Ok(())
+    // What the broker of the acts with these clocks comes to.
+    fn resumed(
+        &self,
+        alloc: Global,
+        clocks: &[&str],
+    ) -> Result<Result<Broker, ResumeFault>, CaseFault> {
+        let log = log_of(alloc, self.log.as_str())?;
+        opened(alloc, self.script.as_bytes(), clocks, log.as_slice())
     }
 
-    // The broker of the acts with these clocks, or why it can't go on.
-    fn broker(self, alloc: Global, clocks: &[&str]) -> Result<(Brokers, String), CaseFault> {
-        let log: Vec<&str> = self.log.split_whitespace().collect(alloc)?;
-        match opened(alloc, self.script.as_bytes(), clocks, log.as_slice())? {
-            Ok(broker) => Ok((Brokers::Broker(broker), String::new(alloc))),
-            Err(ResumeFault::NoMemory) => Err(CaseFault::NoMemory),
+    // Begins the broker of the acts with these clocks, or says why it can't go on.
+    fn begin(&mut self, alloc: Global, clocks: &[&str]) -> Result<String, CaseFault> {
+        match self.resumed(alloc, clocks)? {
+            Ok(broker) => {
+                self.broker = Some(broker);
+                Ok(String::new(alloc))
+            }
             Err(fault) => {
-                let said = format!(in alloc; "  {fault:?}\n")?;
-                Ok((Brokers::Head(Head::new(alloc, false)), said))
+                *self = Brokers::new(alloc, false);
+                resume_text(alloc, fault)
             }
         }
     }
 
     // What comes of a line before the broker is begun.
-    fn carry_out(
-        self,
-        alloc: Global,
-        line: &str,
-        words: &[&str],
-    ) -> Result<(Brokers, String), CaseFault> {
-        let mut head = self;
-        if head.is_open {
-            head.script_line(line)?;
-            return Ok((Brokers::Head(head), String::new(alloc)));
-        }
+    fn before(&mut self, alloc: Global, words: &[&str]) -> Result<String, CaseFault> {
         match words {
-            ["log", words @ ..] => head.keep(alloc, words)?,
-            ["broker", clocks @ ..] => return head.broker(alloc, clocks),
-            _ => return Err(CaseFault::Subject),
-        }
-        Ok((Brokers::Head(head), String::new(alloc)))
-    }
-}
-
-#[derive(Drop)]
-pub enum Brokers {
-    Head(Head),
-    Broker(Broker),
-}
-
-impl Brokers {
-    // What comes of a line that begins nothing.
-    fn come_of(
-        self,
-        alloc: Global,
-        line: &str,
-        words: &[&str],
-    ) -> Result<(Brokers, String), CaseFault> {
-        match self {
-            Brokers::Head(head) => head.carry_out(alloc, line, words),
-            Brokers::Broker(broker) => {
-                let mut broker = broker;
-                let said = carry_out(alloc, &mut broker, words)?;
-                Ok((Brokers::Broker(broker), said))
+            ["log", words @ ..] => {
+                self.log = joined(alloc, words)?;
+                Ok(String::new(alloc))
             }
+            ["broker", clocks @ ..] => self.begin(alloc, clocks),
+            _ => Err(CaseFault::Subject),
+        }
+    }
+
+    // What comes of a line that is none of a script.
+    fn come_of(&mut self, alloc: Global, words: &[&str]) -> Result<String, CaseFault> {
+        if self.broker.is_none() {
+            return self.before(alloc, words);
+        }
+        match &mut self.broker {
+            Some(broker) => on_broker(alloc, broker, words),
+            None => Err(CaseFault::Subject),
         }
     }
 }
 
 impl Subject for Brokers {
     fn nothing(alloc: Global) -> Brokers {
-        Brokers::Head(Head::new(alloc, false))
+        Brokers::new(alloc, false)
     }
 
     fn carry_out(
-        self,
+        &mut self,
         alloc: Global,
         line: &str,
         words: &[&str],
-    ) -> Result<(Brokers, String), CaseFault> {
+    ) -> Result<String, CaseFault> {
         if line == "program" {
-            drop(self);
-            return Ok((Brokers::Head(Head::new(alloc, true)), String::new(alloc)));
+            *self = Brokers::new(alloc, true);
+            return Ok(String::new(alloc));
         }
-        self.come_of(alloc, line, words)
+        if self.is_open {
+            return self.script_line(alloc, line);
+        }
+        self.come_of(alloc, words)
     }
 }

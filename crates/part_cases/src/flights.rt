@@ -1,8 +1,9 @@
 //! Messages on their way between nodes.
+
 use crate::faults::CaseFault;
 use crate::subjects::Subject;
 use crate::words::{byte, message, node, small};
-use message_core::Flight;
+use message_core::{Arrival, Flight};
 use pseudo_time::NodeId;
 use std::alloc::{AllocError, Global};
 use stream_port::Fate;
@@ -12,8 +13,25 @@ fn flight(alloc: Global) -> Result<Flight, AllocError> {
     Flight::new(alloc, &[NodeId::repository(1), NodeId::broker(1)])
 }
 
+// The node that two words are.
+fn one_node(words: &[&str]) -> Result<NodeId, CaseFault> {
+    match words {
+        [kind, number] => node(kind, number),
+        _ => Err(CaseFault::Line),
+    }
+}
+
+// What comes of a message, from `COPIES OVERTAKE HOLD`.
+fn fate(copies: &str, overtake: &str, hold: &str) -> Result<Fate, CaseFault> {
+    Ok(Fate {
+        copies: byte(copies)?,
+        overtake: small(overtake)?,
+        hold: small(hold)?,
+    })
+}
+
 // Sends the message whose bytes these are from broker 1.
-fn send(
+fn send_to(
     alloc: Global,
     flight: &mut Flight,
     to: NodeId,
@@ -25,40 +43,49 @@ fn send(
     Ok(format!(in alloc; "  sent {number}\n")?)
 }
 
+fn send(alloc: Global, flight: &mut Flight, words: &[&str]) -> Result<String, CaseFault> {
+    let [kind, number, copies, overtake, hold, words @ ..] = words else {
+        return Err(CaseFault::Line);
+    };
+    let fate = fate(copies, overtake, hold)?;
+    send_to(alloc, flight, node(kind, number)?, fate, words)
+}
+
+// A copy that a node took.
+fn copy_text(alloc: Global, arrival: &Arrival) -> Result<String, AllocError> {
+    format!(in alloc; "  copy {} {:?}\n", arrival.number, arrival.message)
+}
+
 // The copy that the node takes.
-fn take(alloc: Global, flight: &mut Flight, node: NodeId) -> Result<String, CaseFault> {
-    match flight.take(node)? {
+fn take(alloc: Global, flight: &mut Flight, words: &[&str]) -> Result<String, CaseFault> {
+    match flight.take(one_node(words)?)? {
         None => Ok(format!(in alloc; "  none\n")?),
-        Some(arrival) => {
-            Ok(format!(in alloc; "  copy {} {:?}\n", arrival.number, arrival.message)?)
-        }
+        Some(arrival) => Ok(copy_text(alloc, &arrival)?),
     }
+}
+
+fn pass(alloc: Global, flight: &mut Flight) -> Result<String, CaseFault> {
+    flight.pass()?;
+    Ok(String::new(alloc))
+}
+
+fn shut(alloc: Global, flight: &mut Flight, words: &[&str]) -> Result<String, CaseFault> {
+    flight.shut(one_node(words)?);
+    Ok(String::new(alloc))
+}
+
+fn empty(alloc: Global, flight: &Flight) -> Result<String, CaseFault> {
+    Ok(format!(in alloc; "  {}\n", flight.empty())?)
 }
 
 // What comes of a line on a flight.
 fn carry_out(alloc: Global, flight: &mut Flight, words: &[&str]) -> Result<String, CaseFault> {
-    let [verb, rest @ ..] = words else {
-        return Err(CaseFault::Line);
-    };
-    match (*verb, rest) {
-        ("send", [kind, number, copies, overtake, hold, words @ ..]) => {
-            let fate = Fate {
-                copies: byte(copies)?,
-                overtake: small(overtake)?,
-                hold: small(hold)?,
-            };
-            send(alloc, flight, node(kind, number)?, fate, words)
-        }
-        ("take", [kind, number]) => take(alloc, flight, node(kind, number)?),
-        ("pass", []) => {
-            flight.pass()?;
-            Ok(String::new(alloc))
-        }
-        ("shut", [kind, number]) => {
-            flight.shut(node(kind, number)?);
-            Ok(String::new(alloc))
-        }
-        ("empty", []) => Ok(format!(in alloc; "  {}\n", flight.empty())?),
+    match words {
+        ["send", rest @ ..] => send(alloc, flight, rest),
+        ["take", rest @ ..] => take(alloc, flight, rest),
+        ["pass"] => pass(alloc, flight),
+        ["shut", rest @ ..] => shut(alloc, flight, rest),
+        ["empty"] => empty(alloc, flight),
         _ => Err(CaseFault::Line),
     }
 }
@@ -69,21 +96,17 @@ impl Subject for Option<Flight> {
     }
 
     fn carry_out(
-        self,
+        &mut self,
         alloc: Global,
         _line: &str,
         words: &[&str],
-    ) -> Result<(Option<Flight>, String), CaseFault> {
+    ) -> Result<String, CaseFault> {
         if let ["flight"] = words {
-            drop(self);
-            return Ok((Some(flight(alloc)?), String::new(alloc)));
+            *self = Some(flight(alloc)?);
+            return Ok(String::new(alloc));
         }
         match self {
-            Some(flight) => {
-                let mut flight = flight;
-                let said = carry_out(alloc, &mut flight, words)?;
-                Ok((Some(flight), said))
-            }
+            Some(flight) => carry_out(alloc, flight, words),
             None => Err(CaseFault::Subject),
         }
     }

@@ -1,27 +1,71 @@
 //! Histories of objects, plain ones and those over a store.
-ghost use Rattle.std.specs.Prelude.{◌≡◌, OnErr};
+ghost use Rattle.std.specs.Prelude.{◌≡◌, IfOk, OnErr};
+ghost use Rattle.value_form.specs.ObjectBytes.{IsObject};
 
 use crate::faults::CaseFault;
-use crate::stores::{Stored, medium};
-use crate::subjects::Subject;
+use crate::stored::Stored;
+use crate::stores::medium;
+use crate::subjects::{Subject, told};
 use crate::words::{object, signed, stamp, time};
 use medium_port::MemoryMedium;
 use object_header::HeaderTable;
 use object_history::{Histories, HistoryFault, PlainHistories};
-use pseudo_time::Stamp;
+use pseudo_time::{PseudoTime, Stamp};
 use std::alloc::Global;
 use std::fmt::Debug;
-use value_form::Value;
+use value_form::{ObjectId, Value};
 
 // What histories answer.
-fn told<T: Debug + Drop>(
+fn answered<T: Debug + Drop>(
     alloc: Global,
     answer: Result<T, HistoryFault>,
 ) -> Result<String, CaseFault> {
     match answer {
-        Ok(step) => Ok(format!(in alloc; "  {step:?}\n")?),
-        Err(fault) => Ok(format!(in alloc; "  {fault:?}\n")?),
+        Ok(step) => told(alloc, &step),
+        Err(fault) => told(alloc, &fault),
     }
+}
+
+// An object and a pseudotime.
+fn place(name: &str, at: &str) -> Result<(ObjectId, PseudoTime), CaseFault>
+    ensures { IfOk result (λ p. IsObject p.0) }
+{
+    let object = object(name)?;
+    Ok((object, time(at)?))
+}
+
+fn read<H: Histories>(
+    alloc: Global,
+    histories: &mut H,
+    name: &str,
+    at: &str,
+) -> Result<String, CaseFault> {
+    let (object, at) = place(name, at)?;
+    answered(alloc, histories.read(object, at))
+}
+
+fn write<H: Histories>(
+    alloc: Global,
+    histories: &mut H,
+    name: &str,
+    at: &str,
+    number: &str,
+) -> Result<String, CaseFault> {
+    let value = Value::Number(signed(number)?);
+    let (object, at) = place(name, at)?;
+    answered(alloc, histories.write(object, at, &value))
+}
+
+fn stands<H: Histories>(
+    alloc: Global,
+    histories: &mut H,
+    name: &str,
+    at: &str,
+    number: &str,
+) -> Result<String, CaseFault> {
+    let value = Value::Number(signed(number)?);
+    let (object, at) = place(name, at)?;
+    answered(alloc, histories.stands(object, at, &value))
 }
 
 // Settles an attempt that isn't decided yet.
@@ -43,13 +87,18 @@ fn settle_first<H: Histories>(
 fn settle<H: Histories>(
     alloc: Global,
     histories: &mut H,
-    stamp: Stamp,
+    name: &str,
     committed: bool,
 ) -> Result<String, CaseFault> {
-    match settle_first(histories, stamp, committed) {
+    match settle_first(histories, stamp(name)?, committed) {
         Ok(()) => Ok(String::new(alloc)),
-        Err(fault) => Ok(format!(in alloc; "  {fault:?}\n")?),
+        Err(fault) => told(alloc, &fault),
     }
+}
+
+// How an attempt is settled.
+fn settled<H: Histories>(alloc: Global, histories: &H, name: &str) -> Result<String, CaseFault> {
+    told(alloc, &histories.settled(stamp(name)?))
 }
 
 /// What comes of a line on histories.
@@ -58,24 +107,13 @@ pub fn carry_out<H: Histories>(
     histories: &mut H,
     words: &[&str],
 ) -> Result<String, CaseFault> {
-    let [verb, rest @ ..] = words else {
-        return Err(CaseFault::Line);
-    };
-    match (*verb, rest) {
-        ("read", [name, at]) => told(alloc, histories.read(object(name)?, time(at)?)),
-        ("write", [name, at, number]) => {
-            let value = Value::Number(signed(number)?);
-            told(alloc, histories.write(object(name)?, time(at)?, &value))
-        }
-        ("stands", [name, at, number]) => {
-            let value = Value::Number(signed(number)?);
-            told(alloc, histories.stands(object(name)?, time(at)?, &value))
-        }
-        ("settle", [name, "yes"]) => settle(alloc, histories, stamp(name)?, true),
-        ("settle", [name, "no"]) => settle(alloc, histories, stamp(name)?, false),
-        ("settled", [name]) => {
-            Ok(format!(in alloc; "  {:?}\n", histories.settled(stamp(name)?))?)
-        }
+    match words {
+        ["read", name, at] => read(alloc, histories, name, at),
+        ["write", name, at, number] => write(alloc, histories, name, at, number),
+        ["stands", name, at, number] => stands(alloc, histories, name, at, number),
+        ["settle", name, "yes"] => settle(alloc, histories, name, true),
+        ["settle", name, "no"] => settle(alloc, histories, name, false),
+        ["settled", name] => settled(alloc, histories, name),
         _ => Err(CaseFault::Line),
     }
 }
@@ -85,6 +123,14 @@ pub fn carry_out<H: Histories>(
 pub struct Pair {
     plain: PlainHistories,
     table: HeaderTable<MemoryMedium>,
+}
+
+// What both answered; each answer, where they differ.
+fn compared(alloc: Global, plain: String, table: &str) -> Result<String, CaseFault> {
+    if plain.as_str() == table {
+        return Ok(plain);
+    }
+    Ok(format!(in alloc; "  plain\n{}  table\n{table}", plain.as_str())?)
 }
 
 impl Pair {
@@ -98,14 +144,11 @@ impl Pair {
         })
     }
 
-    // What comes of a line on both; each answer, where they differ.
+    // What comes of a line on both.
     fn carry_out(&mut self, alloc: Global, words: &[&str]) -> Result<String, CaseFault> {
         let plain = carry_out(alloc, &mut self.plain, words)?;
         let table = carry_out(alloc, &mut self.table, words)?;
-        if plain.as_str() == table.as_str() {
-            return Ok(plain);
-        }
-        Ok(format!(in alloc; "  plain\n{}  table\n{}", plain.as_str(), table.as_str())?)
+        compared(alloc, plain, table.as_str())
     }
 }
 
@@ -115,21 +158,17 @@ impl Subject for Option<Pair> {
     }
 
     fn carry_out(
-        self,
+        &mut self,
         alloc: Global,
         _line: &str,
         words: &[&str],
-    ) -> Result<(Option<Pair>, String), CaseFault> {
+    ) -> Result<String, CaseFault> {
         if let ["histories"] = words {
-            drop(self);
-            return Ok((Some(Pair::new(alloc)?), String::new(alloc)));
+            *self = Some(Pair::new(alloc)?);
+            return Ok(String::new(alloc));
         }
         match self {
-            Some(pair) => {
-                let mut pair = pair;
-                let said = pair.carry_out(alloc, words)?;
-                Ok((Some(pair), said))
-            }
+            Some(pair) => pair.carry_out(alloc, words),
             None => Err(CaseFault::Subject),
         }
     }

@@ -1,56 +1,79 @@
 //! Logs, and what a retirement makes of them.
 
 use crate::faults::CaseFault;
-use crate::subjects::Subject;
+use crate::subjects::{Subject, told};
 use crate::words::{decision, number, object, small, stamp, time};
 use effect_form::Effect;
 use forward_copy::{Forward, forward};
 use pseudo_time::PseudoTime;
-use std::alloc::Global;
-use value_form::{Items, Value};
+use std::alloc::{AllocError, Global};
+use value_form::Value;
+
+fn put(name: &str, start: &str, value: &str) -> Result<Effect, CaseFault> {
+    Ok(Effect::Put {
+        object: object(name)?,
+        start: time(start)?,
+        value: Value::Number(i64::from(small(value)?)),
+    })
+}
+
+fn stretch(name: &str, at: &str) -> Result<Effect, CaseFault> {
+    Ok(Effect::Stretch {
+        object: object(name)?,
+        at: time(at)?,
+    })
+}
+
+fn begin(name: &str, deadline: &str) -> Result<Effect, CaseFault> {
+    Ok(Effect::Begin {
+        stamp: stamp(name)?,
+        deadline: number(deadline)?,
+    })
+}
+
+fn decide(name: &str, words: &[&str]) -> Result<Effect, CaseFault> {
+    Ok(Effect::Decide {
+        stamp: stamp(name)?,
+        decision: decision(words)?,
+    })
+}
+
+fn learn(name: &str, word: &str) -> Result<Effect, CaseFault> {
+    Ok(Effect::Learn {
+        stamp: stamp(name)?,
+        committed: word == "committed",
+    })
+}
+
+fn mark(at: &str) -> Result<Effect, CaseFault> {
+    Ok(Effect::Mark { at: time(at)? })
+}
 
 // The effect that these words are.
 fn effect(words: &[&str]) -> Result<Effect, CaseFault> {
-    let [verb, rest @ ..] = words else {
-        return Err(CaseFault::Line);
-    };
-    match (*verb, rest) {
-        ("put", [name, start, value]) => Ok(Effect::Put {
-            object: object(name)?,
-            start: time(start)?,
-            value: Value::Number(i64::from(small(value)?)),
-        }),
-        ("stretch", [name, at]) => Ok(Effect::Stretch {
-            object: object(name)?,
-            at: time(at)?,
-        }),
-        ("begin", [name, deadline]) => Ok(Effect::Begin {
-            stamp: stamp(name)?,
-            deadline: number(deadline)?,
-        }),
-        ("decide", [name, words @ ..]) => Ok(Effect::Decide {
-            stamp: stamp(name)?,
-            decision: decision(words)?,
-        }),
-        ("learn", [name, word]) => Ok(Effect::Learn {
-            stamp: stamp(name)?,
-            committed: *word == "committed",
-        }),
-        ("mark", [at]) => Ok(Effect::Mark { at: time(at)? }),
-        ("whole", []) => Ok(Effect::Whole),
+    match words {
+        ["put", name, start, value] => put(name, start, value),
+        ["stretch", name, at] => stretch(name, at),
+        ["begin", name, deadline] => begin(name, deadline),
+        ["decide", name, words @ ..] => decide(name, words),
+        ["learn", name, word] => learn(name, word),
+        ["mark", at] => mark(at),
+        ["whole"] => Ok(Effect::Whole),
         _ => Err(CaseFault::Line),
     }
 }
 
+// An effect that was dropped.
+fn dropped(alloc: Global, effect: &Effect) -> Result<String, AllocError> {
+    format!(in alloc; "  dropped {effect:?}\n")
+}
+
 // How many effects were kept, and those that were dropped.
 fn parts(alloc: Global, parts: &Forward) -> Result<String, CaseFault> {
-    let mut said = format!(in alloc;
-        "  kept {} dropped {}\n",
-        parts.kept.len(),
-        parts.dropped.len()
-    )?;
+    let (kept, gone) = (parts.kept.len(), parts.dropped.len());
+    let mut said = format!(in alloc; "  kept {kept} dropped {gone}\n")?;
     for effect in parts.dropped.as_slice() {
-        said.push_str(format!(in alloc; "  dropped {effect:?}\n")?.as_str())?;
+        said.push_str(dropped(alloc, effect)?.as_str())?;
     }
     Ok(said)
 }
@@ -62,41 +85,34 @@ fn retired(alloc: Global, log: &[Effect], at: PseudoTime) -> Result<String, Case
     }
     match forward(alloc, log, at) {
         Ok(forward) => parts(alloc, &forward),
-        Err(fault) => Ok(format!(in alloc; "  {fault:?}\n")?),
+        Err(fault) => told(alloc, &fault),
     }
 }
 
-// What comes of a line on a log.
-fn carry_out(alloc: Global, log: &mut Vec<Effect>, words: &[&str]) -> Result<String, CaseFault> {
-    let [verb, rest @ ..] = words else {
-        return Err(CaseFault::Line);
-    };
-    match (*verb, rest) {
-        ("log", []) => {
-            *log = Vec::new(alloc);
-            Ok(String::new(alloc))
-        }
-        ("forward", [at]) => retired(alloc, log.as_slice(), time(at)?),
-        _ => {
-            log.push(effect(words)?)?;
-            Ok(String::new(alloc))
-        }
-    }
+// Adds the effect that these words are.
+fn add(alloc: Global, log: &mut Vec<Effect>, words: &[&str]) -> Result<String, CaseFault> {
+    log.push(effect(words)?)?;
+    Ok(String::new(alloc))
 }
 
-impl Subject for Items<Effect> {
-    fn nothing(alloc: Global) -> Items<Effect> {
-        Items::of(Vec::new(alloc))
+impl Subject for Vec<Effect> {
+    fn nothing(alloc: Global) -> Vec<Effect> {
+        Vec::new(alloc)
     }
 
     fn carry_out(
-        self,
+        &mut self,
         alloc: Global,
         _line: &str,
         words: &[&str],
-    ) -> Result<(Items<Effect>, String), CaseFault> {
-        let mut log = self.into_vec();
-        let said = carry_out(alloc, &mut log, words)?;
-        Ok((Items::of(log), said))
+    ) -> Result<String, CaseFault> {
+        match words {
+            ["log"] => {
+                *self = Vec::new(alloc);
+                Ok(String::new(alloc))
+            }
+            ["forward", at] => retired(alloc, self.as_slice(), time(at)?),
+            _ => add(alloc, self, words),
+        }
     }
 }

@@ -5,8 +5,8 @@
 //!
 //! A line begins what those behind it are about:
 //! - `records`: `begin STAMP DEADLINE`, `commit`, `withdraw`, `restore`, `state`, `due MOMENT`, `hear MOMENT`.
-//! - `log`: `put OBJECT TIME NUMBER`, `stretch OBJECT TIME`, `begin STAMP DEADLINE`, `decide STAMP DECISION`, `learn STAMP
-//!   committed` or another word, `mark TIME`, `whole`, and `forward TIME`, which retires the log.
+//! - `log`: `put OBJECT TIME NUMBER`, `stretch OBJECT TIME`, `begin STAMP DEADLINE`, `decide STAMP DECISION`,
+//!   `learn STAMP committed` or another word, `mark TIME`, `whole`, and `forward TIME`, which retires the log.
 //! - `flight`: `send NODE COPIES OVERTAKE HOLD HEX`, `take NODE`, `pass`, `shut NODE`, `empty`.
 //! - `medium PAGES`, which meets the stops of the lines `stop call N keep K fill F` and `stop write PAGE AT
 //!   keep K fill F`: `write PAGE AT HEX`, `read PAGE AT SIZE`, `sync`, `crash`, `look PAGE`, `put PAGE HEX`;
@@ -26,9 +26,11 @@ mod faults;
 mod flights;
 mod histories;
 mod logs;
+mod pages;
 mod records;
 mod repositories;
 mod stops;
+mod stored;
 mod stores;
 mod subjects;
 mod tables;
@@ -46,21 +48,18 @@ use std::alloc::{AllocError, Global};
 use std::process::ExitCode;
 use std::rt::Files;
 use std::{fs, io};
-use stores::Storage;
 use subjects::carry_all;
 use tables::Tables;
-use value_form::Items;
 use votes::Votes;
 
 // Carries out the cases of a text, which are about this.
 fn cases(alloc: Global, about: &str, text: &str, said: &mut String) -> Result<(), AllocError> {
     match about {
         "records" => carry_all::<Records>(alloc, text, said),
-        "logs" => carry_all::<Items<Effect>>(alloc, text, said),
+        "logs" => carry_all::<Vec<Effect>>(alloc, text, said),
         "flights" => carry_all::<Option<Flight>>(alloc, text, said),
-        "media" => carry_all::<Storage>(alloc, text, said),
+        "media" | "tables" => carry_all::<Tables>(alloc, text, said),
         "histories" => carry_all::<Option<Pair>>(alloc, text, said),
-        "tables" => carry_all::<Tables>(alloc, text, said),
         "repositories" => carry_all::<Option<Core>>(alloc, text, said),
         "votes" => carry_all::<Votes>(alloc, text, said),
         "brokers" => carry_all::<Brokers>(alloc, text, said),
@@ -68,17 +67,27 @@ fn cases(alloc: Global, about: &str, text: &str, said: &mut String) -> Result<()
     }
 }
 
+// Carries out the cases of the file that a line names.
+fn file<R: Files + AllocGlobal>(
+    rt: &R,
+    alloc: Global,
+    line: &str,
+    said: &mut String,
+) -> Result<(), AllocError> {
+    said.push_str(line)?;
+    said.push('\n')?;
+    let (about, name) = line.split_once(' ').unwrap_or((line, ""));
+    match fs::read_to_string(rt, name) {
+        Ok(text) => cases(alloc, about, text.as_str(), said),
+        Err(_) => said.push_str("  no file\n"),
+    }
+}
+
 // Carries out the cases of these files.
 fn files<R: Files + AllocGlobal>(rt: &R, alloc: Global, names: &str) -> Result<String, AllocError> {
     let mut said = String::new(alloc);
     for line in names.lines() {
-        said.push_str(line)?;
-        said.push('\n')?;
-        let (about, name) = line.split_once(' ').unwrap_or((line, ""));
-        match fs::read_to_string(rt, name) {
-            Ok(text) => cases(alloc, about, text.as_str(), &mut said)?,
-            Err(_) => said.push_str("  no file\n")?,
-        }
+        file(rt, alloc, line, &mut said)?;
     }
     Ok(said)
 }

@@ -1,43 +1,75 @@
 //! Commit records.
 
 use crate::faults::CaseFault;
-use crate::subjects::Subject;
+use crate::subjects::{Subject, told};
 use crate::words::{decision, number, stamp};
 use commit_record::Records;
 use std::alloc::Global;
 
-// What comes of a line on records.
-fn carry_out(alloc: Global, records: &mut Records, words: &[&str]) -> Result<String, CaseFault> {
-    let [verb, rest @ ..] = words else {
+fn anew(alloc: Global, records: &mut Records) -> Result<String, CaseFault> {
+    *records = Records::new(alloc);
+    Ok(String::new(alloc))
+}
+
+fn begin(alloc: Global, records: &mut Records, words: &[&str]) -> Result<String, CaseFault> {
+    let [name, deadline] = words else {
         return Err(CaseFault::Line);
     };
-    match (*verb, rest) {
-        ("records", []) => {
-            *records = Records::new(alloc);
-            Ok(String::new(alloc))
-        }
-        ("begin", [name, deadline]) => {
-            let step = records.begin(stamp(name)?, number(deadline)?)?;
-            Ok(format!(in alloc; "  {step:?}\n")?)
-        }
-        ("state", [name]) => Ok(format!(in alloc; "  {:?}\n", records.state(stamp(name)?))?),
-        ("commit", [name]) => Ok(format!(in alloc; "  {:?}\n", records.commit(stamp(name)?))?),
-        ("withdraw", [name]) => {
-            Ok(format!(in alloc; "  {:?}\n", records.withdraw(stamp(name)?))?)
-        }
-        ("restore", [name, words @ ..]) => {
-            let step = records.restore(stamp(name)?, decision(words)?);
-            Ok(format!(in alloc; "  {step:?}\n")?)
-        }
-        ("due", [moment]) => {
-            let due = records.due(number(moment)?)?;
-            Ok(format!(in alloc; "  {:?}\n", due.as_slice())?)
-        }
-        ("hear", [moment]) => {
-            let heard = records.hear(number(moment)?)?;
-            Ok(format!(in alloc; "  {:?}\n", heard.as_slice())?)
-        }
+    let step = records.begin(stamp(name)?, number(deadline)?)?;
+    told(alloc, &step)
+}
+
+fn restore(alloc: Global, records: &mut Records, words: &[&str]) -> Result<String, CaseFault> {
+    let [name, words @ ..] = words else {
+        return Err(CaseFault::Line);
+    };
+    let step = records.restore(stamp(name)?, decision(words)?);
+    told(alloc, &step)
+}
+
+fn due(alloc: Global, records: &mut Records, moment: u64) -> Result<String, CaseFault> {
+    let due = records.due(moment)?;
+    told(alloc, &due.as_slice())
+}
+
+fn hear(alloc: Global, records: &mut Records, moment: u64) -> Result<String, CaseFault> {
+    let heard = records.hear(moment)?;
+    told(alloc, &heard.as_slice())
+}
+
+// What comes of a line on a record.
+fn on_record(
+    alloc: Global,
+    records: &mut Records,
+    verb: &str,
+    words: &[&str],
+) -> Result<String, CaseFault> {
+    let [name] = words else {
+        return Err(CaseFault::Line);
+    };
+    let stamp = stamp(name)?;
+    match verb {
+        "state" => told(alloc, &records.state(stamp)),
+        "commit" => told(alloc, &records.commit(stamp)),
+        "withdraw" => told(alloc, &records.withdraw(stamp)),
         _ => Err(CaseFault::Line),
+    }
+}
+
+// What comes of a line on a moment.
+fn on_moment(
+    alloc: Global,
+    records: &mut Records,
+    verb: &str,
+    words: &[&str],
+) -> Result<String, CaseFault> {
+    let [moment] = words else {
+        return Err(CaseFault::Line);
+    };
+    let moment = number(moment)?;
+    match verb {
+        "due" => due(alloc, records, moment),
+        _ => hear(alloc, records, moment),
     }
 }
 
@@ -47,13 +79,20 @@ impl Subject for Records {
     }
 
     fn carry_out(
-        self,
+        &mut self,
         alloc: Global,
         _line: &str,
         words: &[&str],
-    ) -> Result<(Records, String), CaseFault> {
-        let mut records = self;
-        let said = carry_out(alloc, &mut records, words)?;
-        Ok((records, said))
+    ) -> Result<String, CaseFault> {
+        let [verb, rest @ ..] = words else {
+            return Err(CaseFault::Line);
+        };
+        match *verb {
+            "records" => anew(alloc, self),
+            "begin" => begin(alloc, self, rest),
+            "restore" => restore(alloc, self, rest),
+            "due" | "hear" => on_moment(alloc, self, verb, rest),
+            verb => on_record(alloc, self, verb, rest),
+        }
     }
 }

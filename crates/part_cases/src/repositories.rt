@@ -3,12 +3,13 @@ ghost use Rattle.std.specs.Prelude.{◌≡◌, false, OnOk};
 
 use crate::faults::CaseFault;
 use crate::subjects::Subject;
-use crate::turns::told;
-use crate::words::{byte, message, node, number, stamp};
+use crate::turns::turn_text;
+use crate::words::{arrival, byte, number, stamp};
 use message_form::Turn;
 use object_history::PlainHistories;
 use repository_core::Repository;
 use std::alloc::Global;
+use std::mem;
 
 /// A repository of which no call has failed.
 #[derive(Drop)]
@@ -25,6 +26,36 @@ fn repository(alloc: Global, number: u8) -> Result<Core, CaseFault> {
     }
 }
 
+fn take(
+    core: &mut Repository<PlainHistories>,
+    alloc: Global,
+    words: &[&str],
+) -> Result<Turn, CaseFault>
+    requires { core.old.is_failed ≡ false }
+    ensures { OnOk result (core.new.is_failed ≡ false) }
+{
+    let (from, message) = arrival(alloc, words)?;
+    Ok(core.take(from, &message)?)
+}
+
+fn learn(
+    core: &mut Repository<PlainHistories>,
+    name: &str,
+    committed: bool,
+) -> Result<Turn, CaseFault>
+    requires { core.old.is_failed ≡ false }
+    ensures { OnOk result (core.new.is_failed ≡ false) }
+{
+    Ok(core.learn(stamp(name)?, committed)?)
+}
+
+fn hear(core: &mut Repository<PlainHistories>, moment: &str) -> Result<Turn, CaseFault>
+    requires { core.old.is_failed ≡ false }
+    ensures { OnOk result (core.new.is_failed ≡ false) }
+{
+    Ok(core.hear(number(moment)?.min(1_000_000))?)
+}
+
 // The call that a line says.
 fn call(
     core: &mut Repository<PlainHistories>,
@@ -34,29 +65,20 @@ fn call(
     requires { core.old.is_failed ≡ false }
     ensures { OnOk result (core.new.is_failed ≡ false) }
 {
-    let [verb, rest @ ..] = words else {
-        return Err(CaseFault::Line);
-    };
-    match (*verb, rest) {
-        ("take", [kind, from, words @ ..]) => {
-            let from = node(kind, from)?;
-            let message = message(alloc, words)?;
-            Ok(core.take(from, &message)?)
-        }
-        ("learn", [name, "yes"]) => Ok(core.learn(stamp(name)?, true)?),
-        ("learn", [name, "no"]) => Ok(core.learn(stamp(name)?, false)?),
-        ("hear", [moment]) => Ok(core.hear(number(moment)?.min(1_000_000))?),
+    match words {
+        ["take", rest @ ..] => take(core, alloc, rest),
+        ["learn", name, "yes"] => learn(core, name, true),
+        ["learn", name, "no"] => learn(core, name, false),
+        ["hear", moment] => hear(core, moment),
         _ => Err(CaseFault::Line),
     }
 }
 
-impl Core {
-    // What comes of a line on the repository.
-    fn carry_out(self, alloc: Global, words: &[&str]) -> Result<(Core, String), CaseFault> {
-        let Core { mut core } = self;
-        let turn = call(&mut core, alloc, words)?;
-        Ok((Core { core }, told(alloc, &turn)?))
-    }
+// What comes of a line on the repository.
+fn carry_out(alloc: Global, core: Core, words: &[&str]) -> Result<(Core, String), CaseFault> {
+    let Core { mut core } = core;
+    let turn = call(&mut core, alloc, words)?;
+    Ok((Core { core }, turn_text(alloc, &turn)?))
 }
 
 impl Subject for Option<Core> {
@@ -65,21 +87,20 @@ impl Subject for Option<Core> {
     }
 
     fn carry_out(
-        self,
+        &mut self,
         alloc: Global,
         _line: &str,
         words: &[&str],
-    ) -> Result<(Option<Core>, String), CaseFault> {
+    ) -> Result<String, CaseFault> {
         if let ["repository", number] = words {
-            drop(self);
-            return Ok((Some(repository(alloc, byte(number)?)?), String::new(alloc)));
+            *self = Some(repository(alloc, byte(number)?)?);
+            return Ok(String::new(alloc));
         }
-        match self {
-            Some(core) => {
-                let (core, said) = core.carry_out(alloc, words)?;
-                Ok((Some(core), said))
-            }
-            None => Err(CaseFault::Subject),
-        }
+        let Some(core) = mem::replace(self, None) else {
+            return Err(CaseFault::Subject);
+        };
+        let (core, said) = carry_out(alloc, core, words)?;
+        *self = Some(core);
+        Ok(said)
     }
 }

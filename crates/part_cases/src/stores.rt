@@ -1,28 +1,23 @@
-//! A medium in memory, its pages, and a store over it.
-ghost use Rattle.std.specs.Prelude.{◌≡◌, [], false, IfOk};
-ghost use Rattle.value_form.specs.ObjectBytes.{IsObject};
+//! A medium in memory, and a store over it.
+ghost use Rattle.std.specs.Prelude.{◌≡◌, false};
 ghost use Rattle.medium_port.specs.MemoryMedia.{failed_in};
+ghost use Rattle.effect_form.specs.Effects.{AreEffects};
 ghost use Rattle.version_store.specs.StoreWords.{medium_of};
-ghost use Rattle.object_header.specs.Tables.{ledger_of, store_of};
 
 use crate::faults::CaseFault;
+use crate::pages::on_medium;
 use crate::stops::stop;
-use crate::subjects::Subject;
-use crate::words::{bytes, effects, half, size, small};
+use crate::words::{effects, size, small};
 use effect_form::Effect;
 use medium_port::{Medium, MemoryMedium, Stop};
-use object_header::{HeaderTable, late_marks};
-use object_history::{Histories, WriteStep};
-use page_gate::{PageState, all_zero, look, put};
-use pseudo_time::PseudoTime;
-use std::alloc::Global;
-use value_form::{ObjectId, Value};
+use std::alloc::{AllocError, Global};
+use std::fmt::Debug;
 use version_store::Store;
 
 /// A medium that hasn't failed.
 #[derive(Drop)]
 pub struct Sound {
-    medium: MemoryMedium,
+    pub medium: MemoryMedium,
     ghost open: { failed_in medium ≡ false },
 }
 
@@ -53,136 +48,89 @@ pub fn medium(alloc: Global, pages: u32, stops: Vec<Stop>) -> Result<Sound, Case
     Ok(Sound { medium })
 }
 
-// What is printed of a call that failed.
-fn failed(alloc: Global, medium: MemoryMedium) -> Result<(Storage, String), CaseFault> {
-    Ok((Storage::Failed(medium), format!(in alloc; "  medium\n")?))
+// What a line comes to, where memory is there for what it prints.
+fn told(
+    storage: Storage,
+    said: Result<String, AllocError>,
+) -> Result<(Storage, String), CaseFault> {
+    match said {
+        Ok(said) => Ok((storage, said)),
+        Err(_) => Err(CaseFault::NoMemory),
+    }
 }
 
-impl Sound {
-    // Writes bytes to a page from this place on.
-    fn write(
-        self,
-        alloc: Global,
-        page: u32,
-        at: u16,
-        bytes: &[u8],
-    ) -> Result<(Storage, String), CaseFault> {
-        let Sound { mut medium } = self;
-        if page >= medium.pages() || bytes.len() > 4096 || at as usize > 4096 - bytes.len() {
-            return Err(CaseFault::Place);
-        }
-        match medium.write(page, at, bytes) {
-            Ok(()) => Ok((Storage::Medium(Sound { medium }), String::new(alloc))),
-            Err(_) => failed(alloc, medium),
-        }
-    }
+// What is printed of a call that failed.
+fn failed(alloc: Global, medium: MemoryMedium) -> Result<(Storage, String), CaseFault> {
+    told(Storage::Failed(medium), format!(in alloc; "  medium\n"))
+}
 
-    // So many bytes of a page from this place on.
-    fn read(
-        self,
-        alloc: Global,
-        page: u32,
-        at: usize,
-        count: usize,
-    ) -> Result<(Storage, String), CaseFault> {
-        let Sound { mut medium } = self;
-        if page >= medium.pages() || count > 4096 || at > 4096 - count {
-            return Err(CaseFault::Place);
-        }
-        let mut bytes = [0u8; 4096];
-        match medium.read(page, &mut bytes) {
-            Ok(()) => {
-                let digits = hex::encode(alloc, &bytes[at..at + count])?;
-                let said = format!(in alloc; "  bytes {}\n", digits.as_str())?;
-                Ok((Storage::Medium(Sound { medium }), said))
-            }
-            Err(_) => failed(alloc, medium),
-        }
-    }
+// What the log of a store has.
+fn found_text(alloc: Global, effects: usize, left: u32) -> Result<String, AllocError> {
+    format!(in alloc; "  {effects} effects, {left} pages left\n")
+}
 
-    // What was written is kept from now on.
-    fn sync(self, alloc: Global) -> Result<(Storage, String), CaseFault> {
-        let Sound { mut medium } = self;
-        match medium.sync() {
-            Ok(()) => Ok((Storage::Medium(Sound { medium }), String::new(alloc))),
-            Err(_) => failed(alloc, medium),
-        }
-    }
+// How many pages of a store are left.
+fn left_text(alloc: Global, left: u32) -> Result<String, AllocError> {
+    format!(in alloc; "  {left} pages left\n")
+}
 
-    // The state of a page, with the first bytes of its body.
-    fn look(self, alloc: Global, page: u32) -> Result<(Storage, String), CaseFault> {
-        let Sound { mut medium } = self;
-        if page >= medium.pages() {
-            return Err(CaseFault::Place);
-        }
-        let said = match look(&mut medium, page) {
-            Ok(PageState::Blank) => format!(in alloc; "  blank\n")?,
-            Ok(PageState::Spoiled) => format!(in alloc; "  spoiled\n")?,
-            Ok(PageState::Gated(body)) => {
-                format!(in alloc; "  gated {}\n", hex::encode(alloc, &body[..4])?.as_str())?
-            }
-            Err(_) => return failed(alloc, medium),
-        };
-        Ok((Storage::Medium(Sound { medium }), said))
-    }
+// Why a call on a store failed.
+fn fault_text<T: Debug>(alloc: Global, fault: &T) -> Result<String, AllocError> {
+    format!(in alloc; "  {fault:?}\n")
+}
 
-    // Puts a body on a page, if it is blank.
-    fn put(self, alloc: Global, page: u32, body: &[u8]) -> Result<(Storage, String), CaseFault> {
-        let Sound { mut medium } = self;
-        if page >= medium.pages() || body.is_empty() || body.len() > 4095 || all_zero(body) {
-            return Err(CaseFault::Place);
+// The store of what stands on the medium.
+fn open(alloc: Global, sound: Sound) -> Result<(Storage, String), CaseFault> {
+    let Sound { medium } = sound;
+    match Store::open(alloc, medium) {
+        Ok((store, found)) => {
+            let said = found_text(alloc, found.len(), store.pages_left());
+            told(Storage::Store(Kept { store }), said)
         }
-        match look(&mut medium, page) {
-            Ok(PageState::Blank) => {}
-            Ok(_) => return Err(CaseFault::Place),
-            Err(_) => return failed(alloc, medium),
-        }
-        match put(&mut medium, page, body) {
-            Ok(()) => Ok((Storage::Medium(Sound { medium }), String::new(alloc))),
-            Err(_) => failed(alloc, medium),
-        }
+        Err((medium, fault)) => told(Storage::Failed(medium), fault_text(alloc, &fault)),
     }
+}
 
-    // The store of what stands on the medium.
-    fn open(self, alloc: Global) -> Result<(Storage, String), CaseFault> {
-        let Sound { medium } = self;
-        match Store::open(alloc, medium) {
-            Ok((store, found)) => {
-                let left = store.pages_left();
-                let said = format!(in alloc; "  {} effects, {left} pages left\n", found.len())?;
-                Ok((Storage::Store(Kept { store }), said))
-            }
-            Err((medium, fault)) => {
-                let said = format!(in alloc; "  {fault:?}\n")?;
-                Ok((Storage::Failed(medium), said))
-            }
+// So many times the words.
+fn repeated<'a>(
+    alloc: Global,
+    times: usize,
+    words: &[&'a str],
+) -> Result<Vec<&'a str>, AllocError> {
+    let mut all = Vec::new(alloc);
+    for _ in 0..times {
+        all.extend_from_slice(words)?;
+    }
+    Ok(all)
+}
+
+// Adds effects to a store by one call.
+fn add(alloc: Global, kept: Kept, effects: &[Effect]) -> Result<(Storage, String), CaseFault>
+    requires { AreEffects effects.now }
+{
+    let Kept { store } = kept;
+    match store.append(effects) {
+        Ok(store) => {
+            let said = left_text(alloc, store.pages_left());
+            told(Storage::Store(Kept { store }), said)
         }
+        Err((medium, fault)) => told(Storage::Failed(medium), fault_text(alloc, &fault)),
     }
 }
 
 // Adds effects by one call, so many times those that the words are.
 fn append(
-    store: Kept,
     alloc: Global,
-    times: usize,
+    storage: Storage,
+    times: &str,
     words: &[&str],
 ) -> Result<(Storage, String), CaseFault> {
-    let Kept { store } = store;
-    let mut repeated = Vec::new(alloc);
-    for _ in 0..times {
-        repeated.extend_from_slice(words)?;
-    }
-    let added = effects(alloc, repeated.as_slice())?;
-    match store.append(added.as_slice()) {
-        Ok(store) => {
-            let said = format!(in alloc; "  {} pages left\n", store.pages_left())?;
-            Ok((Storage::Store(Kept { store }), said))
-        }
-        Err((medium, fault)) => {
-            let said = format!(in alloc; "  {fault:?}\n")?;
-            Ok((Storage::Failed(medium), said))
-        }
-    }
+    let Storage::Store(kept) = storage else {
+        return Err(CaseFault::Subject);
+    };
+    let words = repeated(alloc, size(times)?, words)?;
+    let added = effects(alloc, words.as_slice())?;
+    add(alloc, kept, added.as_slice())
 }
 
 // The medium is opened anew after a crash.
@@ -194,8 +142,30 @@ fn reopen(alloc: Global, medium: MemoryMedium) -> Result<(Storage, String), Case
     }
 }
 
+// What comes of a line on a medium that hasn't failed.
+fn on_sound(
+    alloc: Global,
+    sound: Sound,
+    verb: &str,
+    words: &[&str],
+) -> Result<(Storage, String), CaseFault> {
+    if verb == "open" && words.is_empty() {
+        return open(alloc, sound);
+    }
+    let Sound { mut medium } = sound;
+    match on_medium(alloc, &mut medium, verb, words)? {
+        Some(said) => Ok((Storage::Medium(Sound { medium }), said)),
+        None => failed(alloc, medium),
+    }
+}
+
 impl Storage {
-    // The medium, if it hasn't failed.
+    /// No medium, and no stops of the next one.
+    pub fn nothing(alloc: Global) -> Storage {
+        Storage::Stops(Vec::new(alloc))
+    }
+
+    /// The medium, if it hasn't failed.
     pub fn sound(self) -> Result<Sound, CaseFault> {
         match self {
             Storage::Medium(sound) => Ok(sound),
@@ -223,8 +193,7 @@ impl Storage {
 
     // A medium with the stops that were said.
     fn begin(self, alloc: Global, pages: &str) -> Result<(Storage, String), CaseFault> {
-        let stops = self.stops(alloc);
-        let sound = medium(alloc, small(pages)?, stops)?;
+        let sound = medium(alloc, small(pages)?, self.stops(alloc))?;
         Ok((Storage::Medium(sound), String::new(alloc)))
     }
 
@@ -240,138 +209,13 @@ impl Storage {
 
     /// What comes of a line on a medium or on a store.
     pub fn come_of(self, alloc: Global, words: &[&str]) -> Result<(Storage, String), CaseFault> {
-        let [verb, rest @ ..] = words else {
-            return Err(CaseFault::Line);
-        };
-        match (*verb, rest) {
-            ("stop", words) => self.stop(alloc, words),
-            ("medium", [pages]) => self.begin(alloc, pages),
-            ("crash", []) => self.crash(alloc),
-            ("append", [times, words @ ..]) => match self {
-                Storage::Store(store) => append(store, alloc, size(times)?, words),
-                _ => Err(CaseFault::Subject),
-            },
-            (verb, rest) => self.sound()?.carry_out(alloc, verb, rest),
+        match words {
+            ["stop", words @ ..] => self.stop(alloc, words),
+            ["medium", pages] => self.begin(alloc, pages),
+            ["crash"] => self.crash(alloc),
+            ["append", times, words @ ..] => append(alloc, self, times, words),
+            [verb, words @ ..] => on_sound(alloc, self.sound()?, verb, words),
+            [] => Err(CaseFault::Line),
         }
-    }
-}
-
-impl Subject for Storage {
-    fn nothing(alloc: Global) -> Storage {
-        Storage::Stops(Vec::new(alloc))
-    }
-
-    fn carry_out(
-        self,
-        alloc: Global,
-        _line: &str,
-        words: &[&str],
-    ) -> Result<(Storage, String), CaseFault> {
-        self.come_of(alloc, words)
-    }
-}
-
-impl Sound {
-    // What comes of a line on a medium that hasn't failed.
-    fn carry_out(
-        self,
-        alloc: Global,
-        verb: &str,
-        words: &[&str],
-    ) -> Result<(Storage, String), CaseFault> {
-        match (verb, words) {
-            ("write", [page, at, words @ ..]) => {
-                let bytes = bytes(alloc, words)?;
-                self.write(alloc, small(page)?, half(at)?, bytes.as_slice())
-            }
-            ("read", [page, at, count]) => {
-                self.read(alloc, small(page)?, size(at)?, size(count)?)
-            }
-            ("sync", []) => self.sync(alloc),
-            ("look", [page]) => self.look(alloc, small(page)?),
-            ("put", [page, words @ ..]) => {
-                let body = bytes(alloc, words)?;
-                self.put(alloc, small(page)?, body.as_slice())
-            }
-            ("open", []) => self.open(alloc),
-            _ => Err(CaseFault::Line),
-        }
-    }
-
-    /// The table of histories of what stands on the medium.
-    pub fn table(self, alloc: Global) -> Result<Stored, CaseFault> {
-        let Sound { medium } = self;
-        let Ok((store, effects)) = Store::open(alloc, medium) else {
-            return Err(CaseFault::Subject);
-        };
-        match HeaderTable::rebuild(alloc, store, effects.as_slice()) {
-            Ok(table) => Ok(Stored { table }),
-            Err(_) => Err(CaseFault::NoMemory),
-        }
-    }
-}
-
-/// A table of histories, all of which stand in its store.
-#[derive(Drop)]
-pub struct Stored {
-    table: HeaderTable<MemoryMedium>,
-    ghost late: { (ledger_of table).late ≡ [] },
-    ghost open: { failed_in (medium_of (store_of table)) ≡ false },
-}
-
-impl Stored {
-    /// The table, for calls that may add to it.
-    pub fn into_table(self) -> HeaderTable<MemoryMedium> {
-        let Stored { table } = self;
-        table
-    }
-
-    /// The table that its medium gives.
-    pub fn again(self, alloc: Global) -> Result<Stored, CaseFault> {
-        let Stored { table } = self;
-        let sound = Sound {
-            medium: table.release(),
-        };
-        sound.table(alloc)
-    }
-
-    /// Puts a version, which is stored at once.
-    pub fn put(self, object: ObjectId, start: PseudoTime, number: i64) -> Result<Stored, CaseFault>
-        requires { IsObject object }
-    {
-        let Stored { table } = self;
-        let table = put_and_stored(table, object, start, number)?;
-        Ok(Stored { table })
-    }
-}
-
-// A version that is put and stored at once: what each call of histories says is enough for that.
-fn put_and_stored(
-    table: HeaderTable<MemoryMedium>,
-    object: ObjectId,
-    start: PseudoTime,
-    number: i64,
-) -> Result<HeaderTable<MemoryMedium>, CaseFault>
-    requires object { IsObject object }
-    requires late { (ledger_of table).late ≡ [] }
-    ensures late { IfOk result (λ t. (ledger_of t).late ≡ []) }
-    ensures open { IfOk result (λ t. failed_in (medium_of (store_of t)) ≡ false) }
-{
-    let mut table = table;
-    let _in_range = start.stamp();
-    let value = Value::Number(number);
-    let step = table.write(object, start, &value)?;
-    if step != WriteStep::Put {
-        return Err(CaseFault::Histories);
-    }
-    let effects = [Effect::Put {
-        object,
-        start,
-        value,
-    }];
-    late_marks();
-    match table.flush(&effects) {
-        Ok(table) => Ok(table),
-        Err(_) => Err(CaseFault::Histories),
     }
 }

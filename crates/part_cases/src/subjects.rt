@@ -2,54 +2,54 @@
 
 use crate::faults::CaseFault;
 use std::alloc::{AllocError, Global};
+use std::fmt::Debug;
 
 pub trait Subject: Drop {
     /// Where nothing was begun, or a line wasn't carried out.
     fn nothing(alloc: Global) -> Self;
 
-    /// What the next line is about, and what comes of this one, whose words these are.
-    fn carry_out(
-        self,
-        alloc: Global,
-        line: &str,
-        words: &[&str],
-    ) -> Result<(Self, String), CaseFault>;
+    /// What comes of a line, whose words these are.
+    fn carry_out(&mut self, alloc: Global, line: &str, words: &[&str]) -> Result<String, CaseFault>;
 }
 
-/// Adds what came of a line, or its fault, to what was said.
-pub fn tell(
-    alloc: Global,
-    said: &mut String,
-    told: Result<String, CaseFault>,
-) -> Result<(), AllocError> {
-    match told {
-        Ok(more) => said.push_str(more.as_str()),
-        Err(CaseFault::NoMemory) => Err(AllocError),
-        Err(fault) => said.push_str(format!(in alloc; "  fault {fault:?}\n")?.as_str()),
+/// What is printed of an answer.
+pub fn told<T: Debug>(alloc: Global, answer: &T) -> Result<String, CaseFault> {
+    Ok(format!(in alloc; "  {answer:?}\n")?)
+}
+
+// What is printed of a fault. Want of memory is none of the line's.
+fn fault_text(alloc: Global, fault: CaseFault) -> Result<String, AllocError> {
+    match fault {
+        CaseFault::NoMemory => Err(AllocError),
+        fault => format!(in alloc; "  fault {fault:?}\n"),
     }
 }
 
-// Carries out a line. Of a remark and of an empty line nothing comes.
-fn carry_one<S: Subject>(
-    alloc: Global,
-    subject: S,
-    line: &str,
-    said: &mut String,
-) -> Result<S, AllocError> {
-    if line.is_empty() || line.starts_with('#') {
-        return Ok(subject);
-    }
+// What comes of a line. Where it isn't carried out nothing is begun.
+fn come_of<S: Subject>(alloc: Global, subject: &mut S, line: &str) -> Result<String, AllocError> {
     let words: Vec<&str> = line.split(' ').collect(alloc)?;
     match subject.carry_out(alloc, line, words.as_slice()) {
-        Ok((subject, more)) => {
-            said.push_str(more.as_str())?;
-            Ok(subject)
-        }
+        Ok(said) => Ok(said),
         Err(fault) => {
-            tell(alloc, said, Err(fault))?;
-            Ok(S::nothing(alloc))
+            *subject = S::nothing(alloc);
+            fault_text(alloc, fault)
         }
     }
+}
+
+// Prints a line, and behind it what came of it. Of a remark and of an empty line nothing comes.
+fn carry_one<S: Subject>(
+    alloc: Global,
+    subject: &mut S,
+    line: &str,
+    said: &mut String,
+) -> Result<(), AllocError> {
+    said.push_str(line)?;
+    said.push('\n')?;
+    if line.is_empty() || line.starts_with('#') {
+        return Ok(());
+    }
+    said.push_str(come_of(alloc, subject, line)?.as_str())
 }
 
 /// Carries out the lines of a text. Each is printed, and behind it what came of it.
@@ -60,9 +60,7 @@ pub fn carry_all<S: Subject>(
 ) -> Result<(), AllocError> {
     let mut subject = S::nothing(alloc);
     for line in text.lines() {
-        said.push_str(line)?;
-        said.push('\n')?;
-        subject = carry_one(alloc, subject, line, said)?;
+        carry_one(alloc, &mut subject, line, said)?;
     }
     Ok(())
 }

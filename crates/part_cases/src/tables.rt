@@ -2,12 +2,14 @@
 
 use crate::faults::CaseFault;
 use crate::histories;
-use crate::stores::{Storage, Stored};
+use crate::stored::Stored;
+use crate::stores::{Sound, Storage};
 use crate::subjects::Subject;
 use crate::words::{object, signed, time};
 use medium_port::MemoryMedium;
 use object_header::HeaderTable;
 use std::alloc::Global;
+use std::mem;
 
 #[derive(Drop)]
 pub enum Tables {
@@ -16,6 +18,44 @@ pub enum Tables {
     /// Histories that all stand in their store.
     Stored(Stored),
     Table(HeaderTable<MemoryMedium>),
+}
+
+impl Tables {
+    // What goes on from a medium or a store.
+    fn storage(self, alloc: Global) -> Storage {
+        match self {
+            Tables::Storage(storage) => storage,
+            _ => Storage::nothing(alloc),
+        }
+    }
+}
+
+// What comes of a line on a medium or on a store.
+fn on_storage(
+    alloc: Global,
+    storage: Storage,
+    words: &[&str],
+) -> Result<(Tables, String), CaseFault> {
+    let (storage, said) = storage.come_of(alloc, words)?;
+    Ok((Tables::Storage(storage), said))
+}
+
+// The table of histories of what stands on a medium.
+fn table_of(alloc: Global, sound: Sound) -> Result<(Tables, String), CaseFault> {
+    let stored = sound.table(alloc)?;
+    Ok((Tables::Stored(stored), String::new(alloc)))
+}
+
+// Puts a version, which is stored at once.
+fn put(
+    alloc: Global,
+    stored: Stored,
+    name: &str,
+    at: &str,
+    number: &str,
+) -> Result<(Tables, String), CaseFault> {
+    let stored = stored.put(object(name)?, time(at)?, signed(number)?)?;
+    Ok((Tables::Stored(stored), String::new(alloc)))
 }
 
 // What comes of a line on a table.
@@ -32,50 +72,29 @@ fn on_table(
 // What comes of a line on a table, all of which is stored.
 fn on_stored(alloc: Global, stored: Stored, words: &[&str]) -> Result<(Tables, String), CaseFault> {
     match words {
-        ["table"] => Ok((Tables::Stored(stored.again(alloc)?), String::new(alloc))),
-        ["put", name, at, number] => {
-            let stored = stored.put(object(name)?, time(at)?, signed(number)?)?;
-            Ok((Tables::Stored(stored), String::new(alloc)))
-        }
+        ["table"] => table_of(alloc, stored.release()),
+        ["put", name, at, number] => put(alloc, stored, name, at, number),
         _ => on_table(alloc, stored.into_table(), words),
     }
 }
 
-// What comes of a line on a medium or on a store.
-fn on_storage(
-    alloc: Global,
-    storage: Storage,
-    words: &[&str],
-) -> Result<(Tables, String), CaseFault> {
-    if let ["table"] = words {
-        let stored = storage.sound()?.table(alloc)?;
-        return Ok((Tables::Stored(stored), String::new(alloc)));
+// What comes of a line on what was begun.
+fn come_of(alloc: Global, tables: Tables, words: &[&str]) -> Result<(Tables, String), CaseFault> {
+    match tables {
+        Tables::Storage(storage) => match words {
+            ["table"] => table_of(alloc, storage.sound()?),
+            _ => on_storage(alloc, storage, words),
+        },
+        Tables::Stored(stored) => on_stored(alloc, stored, words),
+        Tables::Table(table) => on_table(alloc, table, words),
     }
-    let (storage, said) = storage.come_of(alloc, words)?;
-    Ok((Tables::Storage(storage), said))
 }
 
-// Whether a line begins anew.
-fn is_beginning(words: &[&str]) -> bool {
-    matches!(words, ["stop", ..] | ["medium", _])
-}
-
-impl Tables {
-    // What a line that begins anew resumes from.
-    fn begun(self, alloc: Global) -> Storage {
-        match self {
-            Tables::Storage(storage) => storage,
-            _ => Storage::nothing(alloc),
-        }
-    }
-
-    // What comes of a line that doesn't begin anew.
-    fn come_of(self, alloc: Global, words: &[&str]) -> Result<(Tables, String), CaseFault> {
-        match self {
-            Tables::Storage(storage) => on_storage(alloc, storage, words),
-            Tables::Stored(stored) => on_stored(alloc, stored, words),
-            Tables::Table(table) => on_table(alloc, table, words),
-        }
+// What comes of a line, which may begin anew.
+fn begun_or(alloc: Global, tables: Tables, words: &[&str]) -> Result<(Tables, String), CaseFault> {
+    match words {
+        ["stop", ..] | ["medium", _] => on_storage(alloc, tables.storage(alloc), words),
+        _ => come_of(alloc, tables, words),
     }
 }
 
@@ -85,14 +104,14 @@ impl Subject for Tables {
     }
 
     fn carry_out(
-        self,
+        &mut self,
         alloc: Global,
         _line: &str,
         words: &[&str],
-    ) -> Result<(Tables, String), CaseFault> {
-        if is_beginning(words) {
-            return on_storage(alloc, self.begun(alloc), words);
-        }
-        self.come_of(alloc, words)
+    ) -> Result<String, CaseFault> {
+        let tables = mem::replace(self, Tables::nothing(alloc));
+        let (tables, said) = begun_or(alloc, tables, words)?;
+        *self = tables;
+        Ok(said)
     }
 }

@@ -1,10 +1,11 @@
 //! Three members that vote on records, and two polls of one stamp: one that commits and one that withdraws.
+ghost use Rattle.effect_form.specs.Effects.{AreEffects};
 ghost use Rattle.message_form.specs.Messages.{IsMessage};
 
 use crate::faults::CaseFault;
-use crate::subjects::Subject;
-use crate::turns::told;
-use crate::words::{effects, joined, message, node, number, stamp};
+use crate::subjects::{Subject, told};
+use crate::turns::turn_text;
+use crate::words::{arrival, joined, log_of, node, number, stamp};
 use effect_form::Effect;
 use message_form::{Message, Turn};
 use pseudo_time::{NodeId, NodeKind, Stamp};
@@ -21,11 +22,12 @@ pub struct Room {
     two: Poll,
 }
 
-// A room in which nothing has happened. The words are the log of the first member.
-fn open_room(alloc: Global, stamp: Stamp, words: &[&str]) -> Result<Room, CaseFault> {
-    let log: Vec<Effect> = effects(alloc, words)?;
+// A room in which nothing has happened, over this log of the first member.
+fn open_room(alloc: Global, stamp: Stamp, log: &[Effect]) -> Result<Room, AllocError>
+    requires { AreEffects log.now }
+{
     Ok(Room {
-        first: Member::open(alloc, 1, 0, log.as_slice())?,
+        first: Member::open(alloc, 1, 0, log)?,
         second: Member::open(alloc, 2, 0, &[])?,
         third: Member::open(alloc, 3, 0, &[])?,
         one: Poll::new(alloc, 1, stamp, 5, Wish::Commit),
@@ -52,106 +54,160 @@ impl Room {
         }
     }
 
-    fn hear(&mut self, node: NodeId, moment: u64) -> Result<Turn, AllocError> {
+    // A poll hears the time.
+    fn hear_poll(&mut self, broker: u8, moment: u64) -> Result<Turn, AllocError> {
+        if broker == 1 {
+            self.one.hear(moment)
+        } else {
+            self.two.hear(moment)
+        }
+    }
+
+    // A member hears the time.
+    fn hear_member(&mut self, repository: u8, moment: u64) -> Result<Turn, AllocError> {
         let moment = moment.min(1_000_000);
-        match (node.kind, node.number) {
-            (NodeKind::Broker, 1) => self.one.hear(moment),
-            (NodeKind::Broker, _) => self.two.hear(moment),
-            (NodeKind::Repository, 1) => self.first.hear(moment),
-            (NodeKind::Repository, 2) => self.second.hear(moment),
-            (NodeKind::Repository, _) => self.third.hear(moment),
+        match repository {
+            1 => self.first.hear(moment),
+            2 => self.second.hear(moment),
+            _ => self.third.hear(moment),
+        }
+    }
+
+    fn hear(&mut self, node: NodeId, moment: u64) -> Result<Turn, AllocError> {
+        match node.kind {
+            NodeKind::Broker => self.hear_poll(node.number, moment),
+            NodeKind::Repository => self.hear_member(node.number, moment),
+        }
+    }
+
+    // A poll takes a message.
+    fn take_by_poll(
+        &mut self,
+        broker: u8,
+        from: NodeId,
+        message: &Message,
+    ) -> Result<Turn, AllocError>
+        requires { IsMessage message.now }
+    {
+        if broker == 1 {
+            self.one.take(from, message)
+        } else {
+            self.two.take(from, message)
+        }
+    }
+
+    // A member takes a message.
+    fn take_by_member(
+        &mut self,
+        repository: u8,
+        from: NodeId,
+        message: &Message,
+    ) -> Result<Turn, AllocError>
+        requires { IsMessage message.now }
+    {
+        match repository {
+            1 => self.first.take(from, message),
+            2 => self.second.take(from, message),
+            _ => self.third.take(from, message),
         }
     }
 
     fn take(&mut self, node: NodeId, from: NodeId, message: &Message) -> Result<Turn, AllocError>
         requires { IsMessage message.now }
     {
-        match (node.kind, node.number) {
-            (NodeKind::Broker, 1) => self.one.take(from, message),
-            (NodeKind::Broker, _) => self.two.take(from, message),
-            (NodeKind::Repository, 1) => self.first.take(from, message),
-            (NodeKind::Repository, 2) => self.second.take(from, message),
-            (NodeKind::Repository, _) => self.third.take(from, message),
+        match node.kind {
+            NodeKind::Broker => self.take_by_poll(node.number, from, message),
+            NodeKind::Repository => self.take_by_member(node.number, from, message),
+        }
+    }
+
+    // What comes of a message to a node, `KIND N HEX..`.
+    fn taken(&mut self, alloc: Global, node: NodeId, words: &[&str]) -> Result<String, CaseFault> {
+        let (from, message) = arrival(alloc, words)?;
+        turn_text(alloc, &self.take(node, from, &message)?)
+    }
+
+    // What comes of the time that a node hears.
+    fn heard(&mut self, alloc: Global, node: NodeId, moment: &str) -> Result<String, CaseFault> {
+        turn_text(alloc, &self.hear(node, number(moment)?)?)
+    }
+
+    // What comes of a line about a node.
+    fn on_node(
+        &mut self,
+        alloc: Global,
+        node: NodeId,
+        verb: &str,
+        words: &[&str],
+    ) -> Result<String, CaseFault> {
+        match (verb, words) {
+            ("go", []) => turn_text(alloc, &self.go(node)?),
+            ("held", []) => told(alloc, &self.held(node)),
+            ("hear", [moment]) => self.heard(alloc, node, moment),
+            ("take", words) => self.taken(alloc, node, words),
+            _ => Err(CaseFault::Line),
         }
     }
 
     // What comes of a line in the room.
     fn carry_out(&mut self, alloc: Global, words: &[&str]) -> Result<String, CaseFault> {
-        let [verb, kind, place, rest @ ..] = words else {
-            return Err(CaseFault::Line);
-        };
-        let node = node(kind, place)?;
-        match (*verb, rest) {
-            ("go", []) => told(alloc, &self.go(node)?),
-            ("held", []) => Ok(format!(in alloc; "  {:?}\n", self.held(node))?),
-            ("hear", [moment]) => told(alloc, &self.hear(node, number(moment)?)?),
-            ("take", [kind, from, words @ ..]) => {
-                let message = message(alloc, words)?;
-                let from = crate::words::node(kind, from)?;
-                told(alloc, &self.take(node, from, &message)?)
-            }
+        match words {
+            [verb, kind, place, rest @ ..] => self.on_node(alloc, node(kind, place)?, verb, rest),
             _ => Err(CaseFault::Line),
         }
     }
 }
 
+/// Votes on the records of a stamp.
 #[derive(Drop)]
-pub enum Votes {
-    /// No votes; the log that the next first member finds.
-    Log(String),
-    Room(Room),
-}
-
-// Votes on the records of a stamp, over this log of the first member.
-fn begun(alloc: Global, name: &str, log: &str) -> Result<(Votes, String), CaseFault> {
-    let words: Vec<&str> = log.split_whitespace().collect(alloc)?;
-    let room = open_room(alloc, stamp(name)?, words.as_slice())?;
-    Ok((Votes::Room(room), String::new(alloc)))
+pub struct Votes {
+    /// The log that the next first member finds.
+    log: String,
+    room: Option<Room>,
 }
 
 impl Votes {
-    // The log that the next first member finds.
-    fn log(self, alloc: Global) -> String {
-        match self {
-            Votes::Log(log) => log,
-            Votes::Room(_) => String::new(alloc),
-        }
+    // Votes on the records of a stamp, over the log of the first member.
+    fn begin(&mut self, alloc: Global, name: &str) -> Result<String, CaseFault> {
+        let log = log_of(alloc, self.log.as_str())?;
+        let room = open_room(alloc, stamp(name)?, log.as_slice())?;
+        *self = Votes {
+            log: String::new(alloc),
+            room: Some(room),
+        };
+        Ok(String::new(alloc))
     }
 
-    // What comes of a line in the room.
-    fn in_room(self, alloc: Global, words: &[&str]) -> Result<(Votes, String), CaseFault> {
-        match self {
-            Votes::Room(room) => {
-                let mut room = room;
-                let said = room.carry_out(alloc, words)?;
-                Ok((Votes::Room(room), said))
-            }
-            Votes::Log(_) => Err(CaseFault::Subject),
-        }
+    // Takes the log that the next first member finds.
+    fn keep(&mut self, alloc: Global, words: &[&str]) -> Result<String, CaseFault> {
+        let log = joined(alloc, words)?;
+        *self = Votes { log, room: None };
+        Ok(String::new(alloc))
     }
 }
 
 impl Subject for Votes {
     fn nothing(alloc: Global) -> Votes {
-        Votes::Log(String::new(alloc))
+        Votes {
+            log: String::new(alloc),
+            room: None,
+        }
     }
 
     fn carry_out(
-        self,
+        &mut self,
         alloc: Global,
         _line: &str,
         words: &[&str],
-    ) -> Result<(Votes, String), CaseFault> {
+    ) -> Result<String, CaseFault> {
         match words {
-            ["log", words @ ..] => {
-                drop(self);
-                Ok((Votes::Log(joined(alloc, words)?), String::new(alloc)))
-            }
-            ["votes", name] => {
-                let log = self.log(alloc);
-                begun(alloc, name, log.as_str())
-            }
-            _ => self.in_room(alloc, words),
+            ["log", words @ ..] => return self.keep(alloc, words),
+            ["votes", name] => return self.begin(alloc, name),
+            _ => {}
+        }
+        match &mut self.room {
+            Some(room) => room.carry_out(alloc, words),
+            None => Err(CaseFault::Subject),
         }
     }
 }

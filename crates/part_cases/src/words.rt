@@ -80,15 +80,20 @@ pub fn object(word: &str) -> Result<ObjectId, CaseFault>
     Ok(ObjectId { repository, number })
 }
 
+// How a record ran out, from its deadline and the moment.
+fn expired(deadline: &str, moment: &str) -> Result<Decision, CaseFault> {
+    Ok(Decision::Expired {
+        deadline: number(deadline)?,
+        moment: number(moment)?,
+    })
+}
+
 /// A decision, `committed`, `withdrawn` or `expired DEADLINE MOMENT`.
 pub fn decision(words: &[&str]) -> Result<Decision, CaseFault> {
     match words {
-        [word] if *word == "committed" => Ok(Decision::Committed),
-        [word] if *word == "withdrawn" => Ok(Decision::Withdrawn),
-        [word, deadline, moment] if *word == "expired" => Ok(Decision::Expired {
-            deadline: number(deadline)?,
-            moment: number(moment)?,
-        }),
+        ["committed"] => Ok(Decision::Committed),
+        ["withdrawn"] => Ok(Decision::Withdrawn),
+        ["expired", deadline, moment] => expired(deadline, moment),
         _ => Err(CaseFault::Line),
     }
 }
@@ -126,6 +131,17 @@ pub fn message(alloc: Global, words: &[&str]) -> Result<Message, CaseFault>
     }
 }
 
+/// A message and the node that it comes from, `KIND N HEX..`.
+pub fn arrival(alloc: Global, words: &[&str]) -> Result<(NodeId, Message), CaseFault>
+    ensures { IfOk result (λ a. IsMessage a.1) }
+{
+    let [kind, from, words @ ..] = words else {
+        return Err(CaseFault::Line);
+    };
+    let message = message(alloc, words)?;
+    Ok((node(kind, from)?, message))
+}
+
 /// The effect whose bytes the word is, with no back place.
 pub fn effect(alloc: Global, word: &str) -> Result<Effect, CaseFault>
     ensures { IfOk result IsEffect }
@@ -147,4 +163,12 @@ pub fn effects(alloc: Global, words: &[&str]) -> Result<Vec<Effect>, CaseFault>
         all.push(more)?;
     }
     Ok(all)
+}
+
+/// The effects whose bytes the words of a text are.
+pub fn log_of(alloc: Global, text: &str) -> Result<Vec<Effect>, CaseFault>
+    ensures { IfOk result (λ v. AreEffects v.items) }
+{
+    let words: Vec<&str> = text.split_whitespace().collect(alloc)?;
+    effects(alloc, words.as_slice())
 }

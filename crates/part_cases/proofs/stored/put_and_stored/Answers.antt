@@ -2,7 +2,7 @@ use Rattle.std.proofs.Common.{rules, [], ◌∷◌, w64, to_z, of_z}
 use Rattle.effect_form.specs.declared.effects.Effect.TheVariants as effect
 use Rattle.value_form.specs.declared.values.Value.TheVariants as value
 use Rattle.object_header.specs.Tables.{ledger_of}
-use Rattle.part_cases.proofs.stores.put_and_stored.Goals as goal
+use Rattle.part_cases.proofs.stored.put_and_stored.Goals as goal
 
 -- what is late is the version that was put
 pub flush-requires-clause-late : goal.flush-requires-clause-late
