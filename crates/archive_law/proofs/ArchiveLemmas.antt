@@ -1,6 +1,5 @@
 -- What a past left of a repository's complete volumes is an archive of all that ever stood there.
-use Rattle.std.proofs.Common.{◌≡◌, ◌⊎◌, inl, inr, ℕ, Bool, List, [], ◌∷◌, reverse, sym, ◌∙◌, subst, Some}
-use Rattle.archive_law.proofs.Names.{Has, repository, StampParts, TimeParts, ObjectId, Value, Effect, settle_of, Gone, known, marks, own_reading, Earlier, TickedBy, replaced, EverStood, IsArchive, IsPast, WasDecided, archive, log_after, volumes_left}
+use Rattle.archive_law.proofs.Names.{Has, repository, StampParts, TimeParts, ObjectId, Value, Effect, settle_of, Gone, known, marks, own_reading, Earlier, TickedBy, replaced, EverStood, IsArchive, IsPast, WasDecided, archive, log_after, volumes_left, ◌≡◌, ◌⊎◌, inl, inr, ℕ, Bool, List, [], ◌∷◌, reverse, sym, ◌∙◌, subst, Some}
 use Rattle.effect_form.specs.declared.effects.Effect.TheVariants as effect
 use Rattle.object_history.specs.declared.marks.Mark.TheVariants as mark
 use Rattle.archive_law.proofs.CallLemmas.{last-stood, replaced-stood, stood-stands}

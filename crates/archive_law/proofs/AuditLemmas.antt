@@ -1,10 +1,6 @@
 -- An audit lists each version that ever stood, once, and tells the last volume that has it.
-use Rattle.std.proofs.Common.{◌≡◌, ◌+◌, ◌<◌, inl, inr, ℕ, zero, suc, Bool, true, false, List, [], ◌∷◌, ◌++◌, map, reverse, slice_get, refl, sym, ◌∙◌, ap, subst, Option, Some, None, arith}
-use Rattle.std.proofs.lemmas.Bool.{true≢false}
-use Rattle.archive_law.proofs.Names.{Has, repository, TimeParts, has-either, has-left, has-reverse, has-right, ObjectId, Value, Effect, Mark, listed, marks, put-logged, Version, version_of, has_start, own_reading, Earlier, replaced, has-map, map-has, EverStood, IsArchive, IsPast, archive, log_after, volumes_left}
+use Rattle.archive_law.proofs.Names.{Has, repository, TimeParts, has-either, has-left, has-reverse, has-right, ObjectId, Value, Effect, Mark, listed, marks, put-logged, Version, version_of, has_start, own_reading, Earlier, replaced, has-map, map-has, EverStood, IsArchive, IsPast, archive, log_after, volumes_left, ◌≡◌, ◌+◌, ◌<◌, inl, inr, ℕ, zero, suc, Bool, true, false, List, [], ◌∷◌, ◌++◌, map, reverse, slice_get, refl, sym, ◌∙◌, ap, subst, Option, Some, None, arith, true≢false, holder_of, later, HoldsLast, ListsAll}
 use Rattle.effect_form.specs.declared.effects.Effect.TheVariants as effect
-use Rattle.archive_store.specs.Joined.{holder_of, later}
-use Rattle.archive_law.specs.Audits.{HoldsLast, ListsAll}
 use Rattle.archive_law.proofs.ArchiveLemmas.{archive-is, same-put}
 use Rattle.archive_law.proofs.CallLemmas.{StandsIn, stood-stands}
 use Rattle.archive_law.proofs.JoinedLemmas.{has-start, start-has}
@@ -20,8 +16,7 @@ all-listed cs past r o = record {
       let same : version_of o q.0 ≡ record { object = o; start = x; value = v } = λ i. record { object = o; start = q.2 i; value = q.3 i } in
       subst (λ z. Has z (map (version_of o) (listed (λ x. true) o m))) same (has-map (version_of o) (listed (λ x. true) o m) q.0 q.1));
   only = λ v h. (let k = map-has (version_of o) (listed (λ x. true) o m) v h in
-      let s = listed-has (λ x. true) o m k.0 k.1 in
-      subst (λ (z : Version). (z.object ≡ o) × EverStood cs r (effect.Put o z.start z.value)) k.2 (refl, is.none o k.0.start k.0.value s.0));
+      subst (λ (z : Version). (z.object ≡ o) × EverStood cs r (effect.Put o z.start z.value)) k.2 (refl, is.none o k.0.start k.0.value (listed-has (λ x. true) o m k.0 k.1).0));
 }
   where
     m : List Mark
@@ -70,11 +65,7 @@ module _ (o : ObjectId) (x : TimeParts) where
 
   holder-is : (logs : List (List Effect)) → Holder logs (holder_of o x (map marks logs))
   unfolding holder_of
-  holder-is [] = λ place other e. nothing place other e
-    where
-      nothing : (place : ℕ) (other : List Effect) → slice_get [] place ≡ Some other → has_start o x (marks other) ≡ false
-      nothing zero other e = absurd (cc e)
-      nothing (suc n) other e = absurd (cc e)
+  holder-is [] = λ place other e. (elim place as (λ place. (other : List Effect) → slice_get [] place ≡ Some other → has_start o x (marks other) ≡ false) [ zero ↦ λ other e. absurd (cc e) | suc n ↦ λ other e. absurd (cc e) ]) other e
   holder-is (log ∷ logs) = holder-with (has_start o x (marks log)) log logs (holder_of o x (map marks logs)) refl (holder-is logs)
 
   -- what stands in a list has a place there
@@ -127,8 +118,4 @@ version-held cs past r o x v stood =
     to log (inr h) = has-left (reverse olds) (last ∷ []) log (has-reverse olds log h)
 
     from : (log : List Effect) → Has log (reverse olds ++ last ∷ []) → Has log (last ∷ olds)
-    from log h = elim (has-either (reverse olds) (last ∷ []) log h) [
-      | inl k ↦ inr (unturned olds log k)
-      | inr (inl e) ↦ inl e
-      | inr (inr k) ↦ absurd k
-    ]
+    from log h = elim (has-either (reverse olds) (last ∷ []) log h) [ inl k ↦ inr (unturned olds log k) | inr (inl e) ↦ inl e | inr (inr k) ↦ absurd k ]

@@ -1,12 +1,8 @@
 -- What a call leaves of a repository's log: a run adds to it, and a retirement puts nothing into it.
-use Rattle.std.proofs.Common.{◌≡◌, inl, inr, ℕ, Bool, true, false, List, [], ◌∷◌, ◌++◌, take, reverse, if◌then◌else◌, refl, sym, ◌∙◌, ap, subst, Option, Some, None, is_some, append_assoc}
 use Rattle.std.specs.Option.{unwrap_or}
-use Rattle.std.proofs.lemmas.List.{reverse-reverse}
-use Rattle.archive_law.proofs.Names.{Has, repository, same_node, NodeId, has-left, has-reverse, Effect, TimeParts, forward, forwarded, forwarded-has, base_of, in_plan, Call, log_left, own_reading, walk_from, AreEarlier, Earlier, replaced, Running, Retiring, EverStood, log_after, log_there}
+use Rattle.archive_law.proofs.Names.{Has, repository, same_node, NodeId, has-left, has-reverse, Effect, TimeParts, forward, forwarded, forwarded-has, base_of, in_plan, Call, log_left, own_reading, walk_from, AreEarlier, Earlier, replaced, Running, Retiring, EverStood, log_after, log_there, ◌≡◌, inl, inr, ℕ, Bool, true, false, List, [], ◌∷◌, ◌++◌, take, reverse, if◌then◌else◌, refl, sym, ◌∙◌, ap, subst, Option, Some, None, is_some, append_assoc, reverse-reverse, IsCall, Life, opened_log, walk}
 use Rattle.effect_form.specs.declared.effects.Effect.TheVariants as effect
 use Rattle.world_core.specs.declared.entries.Entry.{Entry}
-use Rattle.world_core.specs.Pasts.{IsCall}
-use Rattle.world_core.specs.Walks.{Life, opened_log, walk}
 use Rattle.world_core.proofs.Lives.{gated-grows}
 
 -- ---- a run adds to a log
@@ -35,9 +31,8 @@ module _ (c : Call) (n : NodeId) where
   pub call-left : (logs : NodeId → List Effect) → IsCall own_reading logs c → in_plan c.plan n ≡ true → Grown (logs n) (log_left own_reading c n)
   unfolding walk_from
   call-left logs is inside =
-      let first : (life []).gated ≡ logs n = found-log logs n (opened_log c.trace.opened n) (is.agrees n) (is.legal.nodes.just n ∙ inside) in
       let h : Grown (life []).gated (log_left own_reading c n) = place-left [] c.trace.entries refl in
-      (h.0, h.1 ∙ ap (λ l. l ++ h.0) first)
+      (h.0, h.1 ∙ ap (λ l. l ++ h.0) (found-log logs n (opened_log c.trace.opened n) (is.agrees n) (is.legal.nodes.just n ∙ inside)))
 
 -- ---- one call
 
@@ -86,8 +81,7 @@ pub stood-stands : (cs : List Earlier) (r : ℕ) (f : Effect) → AreEarlier own
 stood-stands [] r f are h = absurd h
 stood-stands (Running c ∷ cs) r f are (inl h) = (log_after (Running c ∷ cs) (repository r), inl refl, h)
 stood-stands (Running c ∷ cs) r f are (inr (inl h)) =
-    let p = place-left c (repository r) h.1.0 h.1.1 h.1.2 in
-    let there : Has f (log_left own_reading c (repository r)) = grown-has (log_there c h.1.0 (repository r)) (log_left own_reading c (repository r)) f p h.1.3 in
+    let there : Has f (log_left own_reading c (repository r)) = grown-has (log_there c h.1.0 (repository r)) (log_left own_reading c (repository r)) f (place-left c (repository r) h.1.0 h.1.1 h.1.2) h.1.3 in
     (log_after (Running c ∷ cs) (repository r), inl refl, subst (λ b. Has f (if b then log_left own_reading c (repository r) else log_after cs (repository r))) (sym h.0) there)
 stood-stands (Running c ∷ cs) r f are (inr (inr h)) = go (stood-stands cs r f are.0 h)
   where

@@ -1,17 +1,8 @@
 -- What a call adds to a repository's log lies above what is committed there, and what was decided stays so.
-use Rattle.std.proofs.Common.{◌≡◌, ◌⊎◌, inl, inr, ℕ, Bool, true, false, List, [], ◌∷◌, ◌++◌, map, reverse, if◌then◌else◌, refl, sym, ◌∙◌, ap, subst, Option, Some, append_assoc}
-use Rattle.std.proofs.lemmas.Bool.{true≢false}
-use Rattle.std.proofs.lemmas.List.{reverse-append, reverse-reverse}
-use Rattle.archive_law.proofs.Names.{Has, repository, same_node, lt, StampParts, TimeParts, has-either, has-left, has-reverse, has-right, lt-irreflexive, lt-split, ObjectId, Value, Effect, Mark, floor_of, settle_of, forward, forwarded, Gone, forwarded-has, starts-has, known, marks, Tree, Call, log_left, own_reading, Earlier, replaced, Running, Retiring, node_facts, marks-append, EverStood, IsPast, WasDecided, log_after, log_there}
+use Rattle.archive_law.proofs.Names.{Has, repository, same_node, lt, StampParts, TimeParts, has-either, has-left, has-reverse, has-right, lt-irreflexive, lt-split, ObjectId, Value, Effect, Mark, floor_of, settle_of, forward, forwarded, Gone, forwarded-has, starts-has, known, marks, Tree, Call, log_left, own_reading, Earlier, replaced, Running, Retiring, node_facts, marks-append, EverStood, IsPast, WasDecided, log_after, log_there, ◌≡◌, ◌⊎◌, inl, inr, ℕ, Bool, true, false, List, [], ◌∷◌, ◌++◌, map, reverse, if◌then◌else◌, refl, sym, ◌∙◌, ap, subst, Option, Some, append_assoc, true≢false, reverse-append, reverse-reverse, alive, is_alive, top, Fits, puts-below, settled-kept, put-on-floor, decide-forwarded, known-carried, FitsLog}
 use Rattle.effect_form.specs.declared.effects.Effect.TheVariants as effect
 use Rattle.message_form.specs.Growth.{Grew}
 use Rattle.object_history.specs.declared.marks.Mark.TheVariants as mark
-use Rattle.object_history.specs.History.{alive, is_alive, top}
-use Rattle.object_history.specs.Views.{Fits}
-use Rattle.object_history.proofs.ScanLemmas.{puts-below, settled-kept}
-use Rattle.object_retirement.proofs.ChainLemmas.{put-on-floor}
-use Rattle.object_retirement.proofs.ForwardLemmas.{decide-forwarded, known-carried}
-use Rattle.repository_laws.specs.Facts.{FitsLog}
 use Rattle.serial_law.specs.Rules.{GrownFrom}
 use Rattle.serial_law.specs.Soft.{Lineage}
 use Rattle.archive_law.proofs.ArchiveLemmas.{here-or-gone}
@@ -33,19 +24,13 @@ floor-more x e r (z, is, h) = go (lt x z) refl
   where
     go : (b : Bool) → lt x z ≡ b → (y : TimeParts) × (top x r ≡ Some y) × (lt y e ≡ false)
     go true l = (z, ap (top x) is ∙ ap (λ b. if b then Some z else Some x) l, h)
-    go false l = (x, ap (top x) is ∙ ap (λ b. if b then Some z else Some x) l, above (lt x e) refl)
-      where
-        above : (b : Bool) → lt x e ≡ b → lt x e ≡ false
-        above false k = k
-        above true k = absurd (true≢false (sym (lt-split x z e k h) ∙ l))
+    go false l = (x, ap (top x) is ∙ ap (λ b. if b then Some z else Some x) l, (elim (lt x e) as (λ b. lt x e ≡ b → lt x e ≡ false) [ false ↦ λ k. k | true ↦ λ k. absurd (true≢false (sym (lt-split x z e k h) ∙ l)) ]) refl)
 
 floor-rises : (a m : List Mark) (e : TimeParts) → floor_of m ≡ Some e → Floored (a ++ m) e
 unfolding floor_of
 floor-rises [] m e h = (e, h, lt-irreflexive e)
-floor-rises (mark.Put o x v ∷ a) m e h = floor-rises a m e h
-floor-rises (mark.Stretch o x ∷ a) m e h = floor-rises a m e h
-floor-rises (mark.Settle s c ∷ a) m e h = floor-rises a m e h
 floor-rises (mark.Floor x ∷ a) m e h = floor-more x e (floor_of (a ++ m)) (floor-rises a m e h)
+floor-rises (_ ∷ a) m e h = floor-rises a m e h
 
 -- what is put lies above a committed version that stands below, or was given up
 pub put-above : (a m : List Mark) (o : ObjectId) (x c : TimeParts) (v u : Value) → Fits (a ++ m) (mark.Put o x v) → settle_of m c.stamp ≡ Some true → Has (mark.Put o c u) m ⊎ Gone m o c → lt c x ≡ true
@@ -82,11 +67,7 @@ base-of script r [] log k = (k.0, (λ f lasts h. absurd (subst (Has f) k.1 h)), 
 base-of script r (old ∷ olds) log k = (k.1.0, (λ f lasts h. (old, inl refl, before k.1.1.0 f lasts (subst (Has f) k.1.1.2 h))), k.1.2)
   where
     before : (at : TimeParts) (f : Effect) → IsLasting f → Has f (forwarded old at) → Has f old
-    before at f lasts h = elim (forwarded-has old at f h) [
-      | inl e ↦ absurd (subst IsLasting e lasts)
-      | inr (inl e) ↦ absurd (subst IsLasting e lasts)
-      | inr (inr j) ↦ j
-    ]
+    before at f lasts h = elim (forwarded-has old at f h) [ inl e ↦ absurd (subst IsLasting e lasts) | inr (inl e) ↦ absurd (subst IsLasting e lasts) | inr (inr j) ↦ j ]
 
 -- ---- a run
 
@@ -119,8 +100,7 @@ module _ (c : Call) (cs : List Earlier) (past : IsPast (Running c ∷ cs)) (r : 
       later : (late : List Effect) → reverse new ≡ late ++ reverse old → ((front below : List Effect) × (late ≡ front ++ f ∷ below)) → Added o x v
       later late is (front, below, e) =
           let base = base-of (facts-of (Running c ∷ cs) past).script r (map reverse (replaced own_reading cs (repository r))) (reverse new) ((facts-of (Running c ∷ cs) past).facts.lineage (repository r)) in
-          let whole : reverse new ≡ front ++ f ∷ (below ++ reverse old) = is ∙ ap (λ z. z ++ reverse old) e ∙ append_assoc front (f ∷ below) (reverse old) in
-          by base below (grew-at (FitsLog r) base.0 base.2.early front (below ++ reverse old) f base.2.grew (sym base.2.is ∙ whole))
+          by base below (grew-at (FitsLog r) base.0 base.2.early front (below ++ reverse old) f base.2.grew (sym base.2.is ∙ (is ∙ ap (λ z. z ++ reverse old) e ∙ append_assoc front (f ∷ below) (reverse old))))
         where
           in-old : (ls : List (List Effect)) → ((l : List Effect) → Has l ls → Has f l → EverStood cs r f) → (log : List Effect) → Has log (map reverse ls) → Has f log → EverStood cs r f
           in-old [] t log j k = absurd j

@@ -1,18 +1,12 @@
 -- The facts of a run without acts over what a past left; and so its archive tells the map.
-use Rattle.std.proofs.Common.{◌≡◌, ◌⊎◌, ◌≤◌, inl, inr, ℕ, Bool, true, false, List, [], ◌∷◌, ◌++◌, map, filter, reverse, if◌then◌else◌, refl, sym, ◌∙◌, ap, subst, nat_le, ◌&&◌}
-use Rattle.std.proofs.lemmas.Bool.{false≢true, le-leb}
-use Rattle.archive_law.proofs.Names.{Has, repository, StampParts, Decision, NodeId, Effect, Post, settle_of, Distinct, is_commit, marks, RestsOn, decide-home, decided-once, put-logged, Tree, RunLogs, before, in_run, log_of, own_reading, Base, Earlier, TickedBy, replaced, node_facts, OlderFacts, each-has, map-has, RunFacts, whole_log, put-asked, IsPast, archive, log_after, volumes_left, TellsMap}
+use Rattle.archive_law.proofs.Names.{Has, repository, StampParts, Decision, NodeId, Effect, Post, settle_of, Distinct, is_commit, marks, RestsOn, decide-home, decided-once, put-logged, Tree, RunLogs, before, in_run, log_of, own_reading, Base, Earlier, TickedBy, replaced, node_facts, OlderFacts, each-has, map-has, RunFacts, whole_log, put-asked, IsPast, archive, log_after, volumes_left, TellsMap, ◌≡◌, ◌⊎◌, ◌≤◌, inl, inr, ℕ, Bool, true, false, List, [], ◌∷◌, ◌++◌, map, filter, reverse, if◌then◌else◌, refl, sym, ◌∙◌, ap, subst, nat_le, ◌&&◌, false≢true, le-leb, learn-home, Said, whole_run, idle_run}
 use Rattle.pseudo_time.specs.declared.decisions.Decision.TheVariants as decision
 use Rattle.effect_form.specs.declared.effects.Effect.TheVariants as effect
 use Rattle.message_form.specs.declared.messages.Message.{Message}
 use Rattle.message_form.specs.declared.messages.Message.TheVariants as message
 use Rattle.object_history.specs.declared.marks.Mark.TheVariants as mark
-use Rattle.repository_laws.proofs.Logs.{learn-home}
-use Rattle.serial_law.specs.Facts.{Said}
-use Rattle.serial_law.specs.Wholes.{whole_run}
 use Rattle.serial_law.proofs.RunFacts.{said-of}
 use Rattle.serial_law.proofs.WholeLemmas.{marks-whole, other-whole, put-once, settle-whole, whole-has}
-use Rattle.archive_law.specs.AsOf.{idle_run}
 use Rattle.archive_law.proofs.MapLemmas.{Archives, tells-map}
 use Rattle.archive_law.proofs.PastReadings.{Facts, facts-of, no_base}
 use Rattle.archive_law.proofs.VolumeLemmas.{all-here, archive-from, archive-has, archive-settles, put-home, put-marked, put-step, unturned}
@@ -123,11 +117,7 @@ module _ (script : List ℕ → Tree) (b : Base) (logs : NodeId → List Effect)
 pub idle-tells : (cs : List Earlier) (r n : ℕ) (s : StampParts) → IsPast cs → 1 ≤ r → r ≤ n → TellsMap r (archive (volumes_left cs r)) s (before (idle_run cs n) s)
 idle-tells cs r n s past low high =
     let its : Facts cs = facts-of cs past in
-    let inside : in_run (idle_run cs n) r ≡ true = both (nat_le 1 r) (nat_le r n) (le-leb 1 r low) (le-leb r n high) in
+    let inside : in_run (idle_run cs n) r ≡ true = (elim (nat_le 1 r) as (λ a. (b : Bool) → a ≡ true → b ≡ true → (a && b) ≡ true) [ true ↦ λ b h k. k | false ↦ λ b h k. absurd (false≢true h) ]) (nat_le r n) (le-leb 1 r low) (le-leb r n high) in
     tells-map (idle_run cs n) (requests (its.past ++ []))
     (idle-facts its.script (no_base its.script) (log_after cs) (replaced own_reading cs) its.past [] (TickedBy cs []) its.facts n) r (archive (volumes_left cs r))
     (archives its.script (no_base its.script) (log_after cs) (replaced own_reading cs) its.past [] (TickedBy cs []) its.facts (idle_run cs n) r inside refl) s
-  where
-    both : (a b : Bool) → a ≡ true → b ≡ true → (a && b) ≡ true
-    both true b h k = k
-    both false b h k = absurd (false≢true h)

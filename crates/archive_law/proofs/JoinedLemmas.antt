@@ -1,13 +1,6 @@
 -- The joined marks of volumes: which versions they have, each once, and how they settle attempts.
-use Rattle.std.proofs.Common.{◌≡◌, ◌≢◌, Bool, true, false, List, [], ◌∷◌, ◌++◌, filter, reverse, refl, sym, ◌∙◌, ap, subst, Option, None, ◌&&◌, not, if◌then◌else◌, ◌⊎◌, inl, inr, append_assoc}
-use Rattle.std.proofs.lemmas.Bool.{true≢false, false≢true, or_left, or_right, or_cases}
-use Rattle.std.proofs.lemmas.List.{reverse-append, reverse-reverse}
 use Rattle.std.proofs.lemmas.List.Elements.{filter-append}
-use Rattle.archive_law.proofs.Names.{Every, Has, same_stamp, same_time, StampParts, TimeParts, has-either, has-left, has-reverse, has-right, ObjectId, Value, Mark, Put, Stretch, Settle, Floor, same_object, floor_of, settle_of, Distinct, Starts, and-both, and-left, and-right, same_object-is, same_object-of, starts-has, is_under, all_firsts, firsts, has_start, joined, last_log, met_after}
-use Rattle.pseudo_time.proofs.ListLemmas.{every-reverse}
-use Rattle.pseudo_time.proofs.OrderLemmas.{same_time-is, same_time-of}
-use Rattle.object_history.specs.History.{or_else}
-use Rattle.archive_store.specs.Joined.{given_up, is_floor, is_new}
+use Rattle.archive_law.proofs.Names.{Every, Has, same_stamp, same_time, StampParts, TimeParts, has-either, has-left, has-reverse, has-right, ObjectId, Value, Mark, Put, Stretch, Settle, Floor, same_object, floor_of, settle_of, Distinct, Starts, and-both, and-left, and-right, same_object-is, same_object-of, starts-has, is_under, all_firsts, firsts, has_start, joined, last_log, met_after, ◌≡◌, ◌≢◌, Bool, true, false, List, [], ◌∷◌, ◌++◌, filter, reverse, refl, sym, ◌∙◌, ap, subst, Option, None, ◌&&◌, not, if◌then◌else◌, ◌⊎◌, inl, inr, append_assoc, true≢false, false≢true, or_left, or_right, or_cases, reverse-append, reverse-reverse, every-reverse, same_time-is, same_time-of, or_else, given_up, is_floor, is_new}
 
 -- ---- versions apart
 
@@ -19,9 +12,7 @@ Away a b = (o : ObjectId) (x : TimeParts) (v w : Value) → Has (Put o x v) a �
 pub starts-from : (P : TimeParts → Type 0) (o : ObjectId) (m : List Mark) → ((x : TimeParts) (w : Value) → Has (Put o x w) m → P x) → Starts P o m
 starts-from P o [] h = tt
 starts-from P o (Put a x v ∷ m) h = (λ e. h x v (inl (ap (λ z. Put z x v) e)), starts-from P o m (λ y w j. h y w (inr j)))
-starts-from P o (Stretch a x ∷ m) h = starts-from P o m (λ y w j. h y w (inr j))
-starts-from P o (Settle s c ∷ m) h = starts-from P o m (λ y w j. h y w (inr j))
-starts-from P o (Floor x ∷ m) h = starts-from P o m (λ y w j. h y w (inr j))
+starts-from P o (_ ∷ m) h = starts-from P o m (λ y w j. h y w (inr j))
 
 distinct-append : (a b : List Mark) → Distinct a → Distinct b → Away a b → Distinct (a ++ b)
 distinct-append [] b d e h = e
@@ -32,9 +23,7 @@ distinct-append (Put o x v ∷ a) b d e h = (
   ]),
   distinct-append a b d.1 e (λ p y u w j k. h p y u w (inr j) k),
 )
-distinct-append (Stretch o x ∷ a) b d e h = distinct-append a b d e (λ p y u w j k. h p y u w (inr j) k)
-distinct-append (Settle s c ∷ a) b d e h = distinct-append a b d e (λ p y u w j k. h p y u w (inr j) k)
-distinct-append (Floor z ∷ a) b d e h = distinct-append a b d e (λ p y u w j k. h p y u w (inr j) k)
+distinct-append (_ ∷ a) b d e h = distinct-append a b d e (λ p y u w j k. h p y u w (inr j) k)
 
 starts-left : (P : TimeParts → Type 0) (o : ObjectId) (a b : List Mark) → Starts P o (a ++ b) → Starts P o a
 starts-left P o a b h = starts-from P o a (λ x w j. starts-has P o (a ++ b) x w h (has-left a b (Put o x w) j))
@@ -42,9 +31,7 @@ starts-left P o a b h = starts-from P o a (λ x w j. starts-has P o (a ++ b) x w
 distinct-left : (a b : List Mark) → Distinct (a ++ b) → Distinct a
 distinct-left [] b d = tt
 distinct-left (Put o x v ∷ a) b d = (starts-left (λ y. y ≢ x) o a b d.0, distinct-left a b d.1)
-distinct-left (Stretch o x ∷ a) b d = distinct-left a b d
-distinct-left (Settle s c ∷ a) b d = distinct-left a b d
-distinct-left (Floor z ∷ a) b d = distinct-left a b d
+distinct-left (_ ∷ a) b d = distinct-left a b d
 
 away-of : (a b : List Mark) → Distinct (a ++ b) → Away a b
 away-of [] b d p y u w j k = j
@@ -53,12 +40,8 @@ away-of (Put o x v ∷ a) b d p y u w (inl e) k =
     let t : x ≡ y = cc e in
     starts-has (λ z. z ≢ x) p (a ++ b) y w (subst (λ z. Starts (λ i. i ≢ x) z (a ++ b)) q d.0) (has-right a b (Put p y w) k) (sym t)
 away-of (Put o x v ∷ a) b d p y u w (inr j) k = away-of a b d.1 p y u w j k
-away-of (Stretch o x ∷ a) b d p y u w (inl e) k = absurd (cc e)
-away-of (Stretch o x ∷ a) b d p y u w (inr j) k = away-of a b d p y u w j k
-away-of (Settle s c ∷ a) b d p y u w (inl e) k = absurd (cc e)
-away-of (Settle s c ∷ a) b d p y u w (inr j) k = away-of a b d p y u w j k
-away-of (Floor z ∷ a) b d p y u w (inl e) k = absurd (cc e)
-away-of (Floor z ∷ a) b d p y u w (inr j) k = away-of a b d p y u w j k
+away-of (_ ∷ a) b d p y u w (inl e) k = absurd (cc e)
+away-of (_ ∷ a) b d p y u w (inr j) k = away-of a b d p y u w j k
 
 -- ---- without floors
 
@@ -67,51 +50,35 @@ plain m = filter (λ f. not (is_floor f)) m
 
 plain-has : (m : List Mark) (o : ObjectId) (x : TimeParts) (v : Value) → Has (Put o x v) m → Has (Put o x v) (plain m)
 plain-has [] o x v h = h
-plain-has (Put a y w ∷ m) o x v (inl e) = inl e
-plain-has (Put a y w ∷ m) o x v (inr j) = inr (plain-has m o x v j)
-plain-has (Stretch a y ∷ m) o x v (inl e) = inl e
-plain-has (Stretch a y ∷ m) o x v (inr j) = inr (plain-has m o x v j)
-plain-has (Settle s c ∷ m) o x v (inl e) = inl e
-plain-has (Settle s c ∷ m) o x v (inr j) = inr (plain-has m o x v j)
 plain-has (Floor z ∷ m) o x v (inl e) = absurd (cc e)
 plain-has (Floor z ∷ m) o x v (inr j) = plain-has m o x v j
+plain-has (_ ∷ m) o x v (inl e) = inl e
+plain-has (_ ∷ m) o x v (inr j) = inr (plain-has m o x v j)
 
 has-plain : (m : List Mark) (f : Mark) → Has f (plain m) → Has f m
 has-plain [] f h = h
-has-plain (Put a y w ∷ m) f (inl e) = inl e
-has-plain (Put a y w ∷ m) f (inr j) = inr (has-plain m f j)
-has-plain (Stretch a y ∷ m) f (inl e) = inl e
-has-plain (Stretch a y ∷ m) f (inr j) = inr (has-plain m f j)
-has-plain (Settle s c ∷ m) f (inl e) = inl e
-has-plain (Settle s c ∷ m) f (inr j) = inr (has-plain m f j)
 has-plain (Floor z ∷ m) f j = inr (has-plain m f j)
+has-plain (_ ∷ m) f (inl e) = inl e
+has-plain (_ ∷ m) f (inr j) = inr (has-plain m f j)
 
 distinct-plain : (m : List Mark) → Distinct m → Distinct (plain m)
 distinct-plain [] d = tt
 distinct-plain (Put o x v ∷ m) d = (starts-from (λ y. y ≢ x) o (plain m) (λ y w j. starts-has (λ z. z ≢ x) o m y w d.0 (has-plain m (Put o y w) j)), distinct-plain m d.1)
-distinct-plain (Stretch o x ∷ m) d = distinct-plain m d
-distinct-plain (Settle s c ∷ m) d = distinct-plain m d
-distinct-plain (Floor z ∷ m) d = distinct-plain m d
+distinct-plain (_ ∷ m) d = distinct-plain m d
 
 settle-plain : (m : List Mark) (s : StampParts) → settle_of (plain m) s ≡ settle_of m s
 unfolding settle_of
 settle-plain [] s = refl
-settle-plain (Put o x v ∷ m) s = settle-plain m s
-settle-plain (Stretch o x ∷ m) s = settle-plain m s
 settle-plain (Settle p c ∷ m) s = ap (λ u. if same_stamp p s then or_else u c else u) (settle-plain m s)
-settle-plain (Floor z ∷ m) s = settle-plain m s
+settle-plain (_ ∷ m) s = settle-plain m s
 
 reverse-plain : (m : List Mark) → reverse (plain m) ≡ plain (reverse m)
 reverse-plain [] = refl
 reverse-plain (f ∷ m) = go (not (is_floor f)) refl ∙ sym (ap plain (reverse-append (f ∷ []) m) ∙ filter-append (λ g. not (is_floor g)) (reverse m) (f ∷ []) ∙ ap (λ z. z ++ plain (f ∷ [])) (sym (reverse-plain m)))
   where
     go : (b : Bool) → not (is_floor f) ≡ b → reverse (plain (f ∷ m)) ≡ reverse (plain m) ++ plain (f ∷ [])
-    go b e = ap reverse (split f m) ∙ reverse-append (plain (f ∷ [])) (plain m) ∙ ap (λ z. reverse (plain m) ++ z) (one f)
+    go b e = ap reverse ((elim f as (λ f. (m : List Mark) → plain (f ∷ m) ≡ plain (f ∷ []) ++ plain m) [ Put o x v ↦ λ m. refl | _ ↦ λ m. refl ]) m) ∙ reverse-append (plain (f ∷ [])) (plain m) ∙ ap (λ z. reverse (plain m) ++ z) (one f)
       where
-        split : (f : Mark) (m : List Mark) → plain (f ∷ m) ≡ plain (f ∷ []) ++ plain m
-        split (Put o x v) m = refl
-        split _ m = refl
-
         one : (f : Mark) → reverse (plain (f ∷ [])) ≡ plain (f ∷ [])
         one (Put o x v) = refl
         one _ = refl
@@ -128,21 +95,15 @@ start-has o x (Put a y v ∷ m) e = elim (or_cases (same_object a o && same_time
       (v, inl (ap (λ z. Put z y v) p ∙ ap (λ z. Put o z v) q))
   | inr k ↦ let r = start-has o x m k in (r.0, inr r.1)
 ]
-start-has o x (Stretch a y ∷ m) e = let r = start-has o x m e in (r.0, inr r.1)
-start-has o x (Settle s c ∷ m) e = let r = start-has o x m e in (r.0, inr r.1)
-start-has o x (Floor z ∷ m) e = let r = start-has o x m e in (r.0, inr r.1)
+start-has o x (_ ∷ m) e = let r = start-has o x m e in (r.0, inr r.1)
 
 pub has-start : (o : ObjectId) (x : TimeParts) (v : Value) (m : List Mark) → Has (Put o x v) m → has_start o x m ≡ true
 unfolding has_start
 has-start o x v [] h = absurd h
 has-start o x v (Put a y w ∷ m) (inl e) = or_left (same_object a o && same_time y x) (has_start o x m) (and-both (same_object a o) (same_time y x) (same_object-of a o (cc e)) (same_time-of y x (cc e)))
 has-start o x v (Put a y w ∷ m) (inr j) = or_right (same_object a o && same_time y x) (has_start o x m) (has-start o x v m j)
-has-start o x v (Stretch a y ∷ m) (inl e) = absurd (cc e)
-has-start o x v (Stretch a y ∷ m) (inr j) = has-start o x v m j
-has-start o x v (Settle s c ∷ m) (inl e) = absurd (cc e)
-has-start o x v (Settle s c ∷ m) (inr j) = has-start o x v m j
-has-start o x v (Floor z ∷ m) (inl e) = absurd (cc e)
-has-start o x v (Floor z ∷ m) (inr j) = has-start o x v m j
+has-start o x v (_ ∷ m) (inl e) = absurd (cc e)
+has-start o x v (_ ∷ m) (inr j) = has-start o x v m j
 
 start-more : (o : ObjectId) (x : TimeParts) (f : Mark) (m : List Mark) → has_start o x m ≡ true → has_start o x (f ∷ m) ≡ true
 start-more o x f m h = let k = start-has o x m h in has-start o x k.0 (f ∷ m) (inr k.1)
@@ -180,9 +141,7 @@ new-distinct floor met (Put o x v) h d = (
       true≢false (sym (has-start o x w met (subst (λ z. Has (Put o z w) met) same j)) ∙ not-yes (has_start o x met) (and-right (is_under floor x) _ h))),
   d,
 )
-new-distinct floor met (Stretch o x) h d = absurd (false≢true h)
-new-distinct floor met (Settle s c) h d = absurd (false≢true h)
-new-distinct floor met (Floor z) h d = absurd (false≢true h)
+new-distinct floor met _ h d = absurd (false≢true h)
 
 turned : (f : Mark) (fs m : List Mark) → reverse (f ∷ fs) ++ m ≡ reverse fs ++ (f ∷ m)
 turned f fs m = ap (λ z. z ++ m) (reverse-append (f ∷ []) fs) ∙ append_assoc (reverse fs) (f ∷ []) m
@@ -207,17 +166,13 @@ settle-puts : (fs : List Mark) (s : StampParts) → Every IsPut fs → settle_of
 unfolding settle_of
 settle-puts [] s h = refl
 settle-puts (Put o x v ∷ fs) s h = settle-puts fs s h.1
-settle-puts (Stretch o x ∷ fs) s h = absurd h.0
-settle-puts (Settle p c ∷ fs) s h = absurd h.0
-settle-puts (Floor z ∷ fs) s h = absurd h.0
+settle-puts (_ ∷ fs) s h = absurd h.0
 
 settle-front : (a b : List Mark) (s : StampParts) → settle_of b s ≡ None → settle_of (a ++ b) s ≡ settle_of a s
 unfolding settle_of
 settle-front [] b s h = h
-settle-front (Put o x v ∷ a) b s h = settle-front a b s h
-settle-front (Stretch o x ∷ a) b s h = settle-front a b s h
 settle-front (Settle p c ∷ a) b s h = ap (λ u. if same_stamp p s then or_else u c else u) (settle-front a b s h)
-settle-front (Floor z ∷ a) b s h = settle-front a b s h
+settle-front (_ ∷ a) b s h = settle-front a b s h
 
 -- ---- where it came from
 
@@ -353,11 +308,7 @@ module _ (front : List (List Mark)) (last : List Mark) where
   -- a version of the joined marks stands in one of the logs
   pub joined-from : (o : ObjectId) (x : TimeParts) (v : Value) → Has (Put o x v) (reverse (joined (front ++ last ∷ []))) → (log : List Mark) × Has log (front ++ last ∷ []) × Has (Put o x v) log
   joined-from o x v h = elim (has-either (plain now) (reverse gone) (Put o x v) (subst (Has (Put o x v)) joined-is h)) [
-    | inl k ↦ (
-      last,
-      has-right front (last ∷ []) last (inl refl),
-      subst (Has (Put o x v)) (reverse-reverse last) (has-reverse now (Put o x v) (has-plain now (Put o x v) k)),
-    )
+    | inl k ↦ (last, has-right front (last ∷ []) last (inl refl), subst (Has (Put o x v)) (reverse-reverse last) (has-reverse now (Put o x v) (has-plain now (Put o x v) k)))
     | inr k ↦
         all-from (floor_of now) now (front ++ last ∷ []) (Put o x v) (subst (Has (Put o x v)) (reverse-reverse gone) (has-reverse (reverse gone) (Put o x v) k))
   ]

@@ -1,14 +1,6 @@
 -- Listings of versions, by what stands in them.
-use Rattle.std.proofs.Common.{◌≡◌, ◌≢◌, Bool, true, false, List, [], ◌∷◌, ◌++◌, map, filter, refl, sym, ◌∙◌, ap, subst, Option, Some, None, ◌&&◌, ◌||◌, not, if◌then◌else◌, ◌⊎◌, inl, inr}
-use Rattle.std.specs.Prelude.{Result, Ok, Err}
-use Rattle.std.proofs.lemmas.Bool.{true≢false, false≢true}
-use Rattle.archive_law.proofs.Names.{Every, Has, lt, TimeParts, lt-irreflexive, ObjectId, Value, Mark, Put, Stretch, Settle, Floor, same_object, Seen, version_count, some_put, insert, listed, Distinct, Starts, and-both, and-left, and-right, same_object-is, same_object-of, WatchFault, Moved, Version, moved_over, version_of, Rises}
-use Rattle.pseudo_time.proofs.ListLemmas.{every-has, every-map}
-use Rattle.pseudo_time.proofs.OrderLemmas.{lt-asymmetric, lt-total, lt-trans}
-use Rattle.object_history.proofs.BoolLemmas.{not-true}
+use Rattle.archive_law.proofs.Names.{Every, Has, lt, TimeParts, lt-irreflexive, ObjectId, Value, Mark, Put, Stretch, Settle, Floor, same_object, Seen, version_count, some_put, insert, listed, Distinct, Starts, and-both, and-left, and-right, same_object-is, same_object-of, WatchFault, Moved, Version, moved_over, version_of, Rises, ◌≡◌, ◌≢◌, Bool, true, false, List, [], ◌∷◌, ◌++◌, map, filter, refl, sym, ◌∙◌, ap, subst, Option, Some, None, ◌&&◌, ◌||◌, not, if◌then◌else◌, ◌⊎◌, inl, inr, Result, Ok, Err, true≢false, false≢true, every-has, every-map, lt-asymmetric, lt-total, lt-trans, not-true, and_then, moved_to, total_of}
 use Rattle.object_history.proofs.SettledLemmas.{listed-passes}
-use Rattle.commit_watch.specs.Folds.{and_then, moved_to}
-use Rattle.commit_watch.specs.Lists.{total_of}
 
 -- ---- what is listed
 
@@ -57,9 +49,7 @@ module _ (f : TimeParts → Bool) (o : ObjectId) where
         )
         | inr j ↦ deeper (rest j)
       ]
-  listed-has (Stretch a x ∷ m) q h = let k = listed-has m q h in (inr k.0, k.1)
-  listed-has (Settle s c ∷ m) q h = let k = listed-has m q h in (inr k.0, k.1)
-  listed-has (Floor z ∷ m) q h = let k = listed-has m q h in (inr k.0, k.1)
+  listed-has (_ ∷ m) q h = let k = listed-has m q h in (inr k.0, k.1)
 
   abbrev Listed : List Mark → TimeParts → Value → Type 0
   Listed m x v = (q : Seen) × Has q (listed f o m) × (q.start ≡ x) × (q.value ≡ v)
@@ -82,12 +72,8 @@ module _ (f : TimeParts → Bool) (o : ObjectId) where
       go : (b : Bool) → Listed m x v → (q : Seen) × Has q (if b then insert (record { place = version_count o m; start = y; value = w }) (listed f o m) else listed f o m) × (q.start ≡ x) × (q.value ≡ v)
       go true k = (k.0, has-insert k.0 (record { place = version_count o m; start = y; value = w }) (listed f o m) (inr k.1), k.2, k.3)
       go false k = k
-  has-listed (Stretch a y ∷ m) x v (inl e) p = absurd (cc e)
-  has-listed (Stretch a y ∷ m) x v (inr h) p = has-listed m x v h p
-  has-listed (Settle s c ∷ m) x v (inl e) p = absurd (cc e)
-  has-listed (Settle s c ∷ m) x v (inr h) p = has-listed m x v h p
-  has-listed (Floor z ∷ m) x v (inl e) p = absurd (cc e)
-  has-listed (Floor z ∷ m) x v (inr h) p = has-listed m x v h p
+  has-listed (_ ∷ m) x v (inl e) p = absurd (cc e)
+  has-listed (_ ∷ m) x v (inr h) p = has-listed m x v h p
 
 -- ---- rising
 
@@ -98,11 +84,7 @@ Strict (q ∷ qs) = Every (λ p. lt q.start p.start ≡ true) qs × Strict qs
 every-insert : (P : Seen → Type 0) (q : Seen) (ps : List Seen) → P q → Every P ps → Every P (insert q ps)
 unfolding insert
 every-insert P q [] h k = (h, tt)
-every-insert P q (p ∷ ps) h k = go (lt q.start p.start) (every-insert P q ps h k.1)
-  where
-    go : (b : Bool) → Every P (insert q ps) → Every P (if b then q ∷ p ∷ ps else p ∷ insert q ps)
-    go true rest = (h, k)
-    go false rest = (k.0, rest)
+every-insert P q (p ∷ ps) h k = (elim (lt q.start p.start) as (λ b. Every P (insert q ps) → Every P (if b then q ∷ p ∷ ps else p ∷ insert q ps)) [ true ↦ λ rest. (h, k) | false ↦ λ rest. (k.0, rest) ]) (every-insert P q ps h k.1)
 
 strict-insert : (q : Seen) (ps : List Seen) → Every (λ p. p.start ≢ q.start) ps → Strict ps → Strict (insert q ps)
 unfolding insert
@@ -124,9 +106,7 @@ strict-listed f o (Put a x v ∷ m) d = go (same_object a o && f x) refl (strict
         (every-map (λ q. (q.start ≢ x) × (f q.start ≡ true)) (λ q. q.start ≢ x) (λ q h. h.0) (listed f o m)
         (listed-passes (λ y. y ≢ x) f o m (subst (λ z. Starts (λ y. y ≢ x) z m) (same_object-is a o (and-left (same_object a o) (f x) e)) d.0))) rest
     go false e rest = rest
-strict-listed f o (Stretch a x ∷ m) d = strict-listed f o m d
-strict-listed f o (Settle s c ∷ m) d = strict-listed f o m d
-strict-listed f o (Floor z ∷ m) d = strict-listed f o m d
+strict-listed f o (_ ∷ m) d = strict-listed f o m d
 
 pub strict-rises : (o : ObjectId) (qs : List Seen) → Strict qs → Rises (map (version_of o) qs)
 strict-rises o [] h = tt
@@ -154,13 +134,11 @@ same-rising (u ∷ us) (v ∷ vs) a b f g = λ i. same i ∷ same-rising us vs a
 
     left : (w : Version) → Has w us → Has w (v ∷ vs) → Has w vs
     left w h (inr k) = k
-    left w h (inl e) =
-        absurd (true≢false (sym (every-has (λ (z : Version). lt u.start z.start ≡ true) us w a.0 h) ∙ subst (λ (z : Version). lt u.start z.start ≡ false) (same ∙ e) (lt-irreflexive u.start)))
+    left w h (inl e) = absurd (true≢false (sym (every-has (λ (z : Version). lt u.start z.start ≡ true) us w a.0 h) ∙ subst (λ (z : Version). lt u.start z.start ≡ false) (same ∙ e) (lt-irreflexive u.start)))
 
     right : (w : Version) → Has w vs → Has w (u ∷ us) → Has w us
     right w h (inr k) = k
-    right w h (inl e) =
-        absurd (true≢false (sym (every-has (λ (z : Version). lt v.start z.start ≡ true) vs w b.0 h) ∙ subst (λ (z : Version). lt v.start z.start ≡ false) (sym same ∙ e) (lt-irreflexive v.start)))
+    right w h (inl e) = absurd (true≢false (sym (every-has (λ (z : Version). lt v.start z.start ≡ true) vs w b.0 h) ∙ subst (λ (z : Version). lt v.start z.start ≡ false) (sym same ∙ e) (lt-irreflexive v.start)))
 
 -- ---- puts that pass
 
@@ -186,9 +164,7 @@ module _ (ok : TimeParts → Bool) (o : ObjectId) where
   none-passes [] h = refl
   none-passes (Put a x v ∷ m) h =
       or-no (same_object a o && ok x) (some_put ok o m) (and-no (same_object a o) (ok x) (λ e. h x v (inl (ap (λ z. Put z x v) (same_object-is a o e))))) (none-passes m (λ y w k. h y w (inr k)))
-  none-passes (Stretch a x ∷ m) h = none-passes m (λ y w k. h y w (inr k))
-  none-passes (Settle s c ∷ m) h = none-passes m (λ y w k. h y w (inr k))
-  none-passes (Floor z ∷ m) h = none-passes m (λ y w k. h y w (inr k))
+  none-passes (_ ∷ m) h = none-passes m (λ y w k. h y w (inr k))
 
   pub passes-none : (m : List Mark) (x : TimeParts) (v : Value) → some_put ok o m ≡ false → Has (Put o x v) m → ok x ≡ false
   unfolding some_put
@@ -198,12 +174,8 @@ module _ (ok : TimeParts → Bool) (o : ObjectId) where
       let start : y ≡ x = cc e in
       subst (λ z. ok z ≡ false) start (and-none (same_object a o) (ok y) (same_object-of a o at) (or-none (same_object a o && ok y) (some_put ok o m) h).0)
   passes-none (Put a y w ∷ m) x v h (inr k) = passes-none m x v (or-none (same_object a o && ok y) (some_put ok o m) h).1 k
-  passes-none (Stretch a y ∷ m) x v h (inl e) = absurd (cc e)
-  passes-none (Stretch a y ∷ m) x v h (inr k) = passes-none m x v h k
-  passes-none (Settle s c ∷ m) x v h (inl e) = absurd (cc e)
-  passes-none (Settle s c ∷ m) x v h (inr k) = passes-none m x v h k
-  passes-none (Floor z ∷ m) x v h (inl e) = absurd (cc e)
-  passes-none (Floor z ∷ m) x v h (inr k) = passes-none m x v h k
+  passes-none (_ ∷ m) x v h (inl e) = absurd (cc e)
+  passes-none (_ ∷ m) x v h (inr k) = passes-none m x v h k
 
 -- ---- folds
 
@@ -234,10 +206,7 @@ module _ {T : Type 0} (first : T) (next : T → Version → Option T) (o : Objec
     where
       go : (t : Option T) → ((z : Option (Moved T)) → over z vs ≡ Ok (Some w) → CursorIn z vs w) → and_then (moved_to first next o v t) (λ z. over z vs) ≡ Ok (Some w) → CursorIn u (v ∷ vs) w
       go None rest k = absurd (false≢true (ap is_fine k))
-      go (Some t) rest k = elim (rest (Some (record { object = o; cursor = v.start; total = t })) k) [
-        | inl e ↦ inr (v, inl refl, ap (λ z. cursor_or z v.start) e)
-        | inr j ↦ inr (j.0, inr j.1, j.2)
-      ]
+      go (Some t) rest k = elim (rest (Some (record { object = o; cursor = v.start; total = t })) k) [ inl e ↦ inr (v, inl refl, ap (λ z. cursor_or z v.start) e) | inr j ↦ inr (j.0, inr j.1, j.2) ]
 
   pub cursor-in : (vs : List Version) (w : Moved T) → over None vs ≡ Ok (Some w) → (v : Version) × Has v vs × (v.start ≡ w.cursor)
   cursor-in vs w h = elim (cursor-over None vs w h) [ inl e ↦ absurd (cc e) | inr k ↦ k ]

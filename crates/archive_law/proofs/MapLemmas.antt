@@ -1,22 +1,12 @@
 -- The archive tells the plain map before a stamp, where the facts hold that keep a run serial.
-use Rattle.std.proofs.Common.{◌≡◌, ◌==◌, ◌≤◌, ℕ, nat_lt, Bool, true, false, List, if◌then◌else◌, refl, sym, ◌∙◌, ap, subst, Option, Some, None, ◌&&◌, not, arith}
-use Rattle.std.proofs.lemmas.Bool.{true≢false, false≢true}
 use Rattle.std.proofs.lemmas.Bool.Decides.{nat_tests}
-use Rattle.archive_law.proofs.Names.{Has, lt, StampParts, TimeParts, ObjectId, Value, Nothing, Post, Mark, Seen, is_committed, is_settled, scan, settle_of, value_of, marks, last_below, first_open, RunLogs, before, in_run, log_of, RunFacts, TellsMap}
-use Rattle.pseudo_time.specs.Order.{stamp_lt}
-use Rattle.pseudo_time.proofs.OrderLemmas.{lt-own, lt-stamps, lt-steps}
+use Rattle.archive_law.proofs.Names.{Has, lt, StampParts, TimeParts, ObjectId, Value, Nothing, Post, Mark, Seen, is_committed, is_settled, scan, settle_of, value_of, marks, last_below, first_open, RunLogs, before, in_run, log_of, RunFacts, TellsMap, ◌≡◌, ◌==◌, ◌≤◌, ℕ, nat_lt, Bool, true, false, List, if◌then◌else◌, refl, sym, ◌∙◌, ap, subst, Option, Some, None, ◌&&◌, not, arith, true≢false, false≢true, stamp_lt, lt-own, lt-stamps, lt-steps, eq-from, Standing, same-scan, standing, stands-has, same-found, same-values, committed, marks_at, marks-in, first_of, value_in}
 use Rattle.value_form.specs.Objects.{value_at}
 use Rattle.object_history.specs.declared.marks.Mark.TheVariants as mark
-use Rattle.object_history.proofs.ObjectLemmas.{eq-from}
-use Rattle.object_history.proofs.ScanLemmas.{Standing, same-scan, standing, stands-has}
 use Rattle.object_retirement.specs.Retired.{Same}
-use Rattle.object_retirement.proofs.RetiredLemmas.{same-found, same-values}
 use Rattle.archive_store.proofs.ArchiveLemmas.{closed-by}
-use Rattle.world_core.specs.Deeds.{committed, marks_at}
 use Rattle.serial_law.proofs.Before.{before-holds}
-use Rattle.serial_law.proofs.LogLemmas.{marks-in}
 use Rattle.serial_law.proofs.Settled.{sure-no, sure-yes}
-use Rattle.archive_law.specs.AsOf.{first_of, value_in}
 use Rattle.archive_law.proofs.JoinedLemmas.{starts-from}
 use Rattle.archive_law.proofs.ListedLemmas.{passes-none}
 
@@ -37,11 +27,7 @@ below-first x s one = same-tests (lt x (first_of s)) (stamp_lt x.stamp s) lower 
         grind (arith, nat_tests)
 
     lower : lt x (first_of s) ≡ true → stamp_lt x.stamp s ≡ true
-    lower h = go (stamp_lt x.stamp s) refl
-      where
-        go : (b : Bool) → stamp_lt x.stamp s ≡ b → stamp_lt x.stamp s ≡ true
-        go true e = e
-        go false e = absurd (own h (lt-own x (first_of s) h e))
+    lower h = (elim (stamp_lt x.stamp s) as (λ b. stamp_lt x.stamp s ≡ b → stamp_lt x.stamp s ≡ true) [ true ↦ λ e. e | false ↦ λ e. absurd (own h (lt-own x (first_of s) h e)) ]) refl
 
 -- ---- an archive of a repository of the run
 
@@ -96,9 +82,8 @@ module _ (k : RunLogs) (ever : List Post) (f : RunFacts k ever) (r : ℕ) (m : L
         let here : in_run k o.repository ≡ true = ap (in_run k) home ∙ a.inside in
         let same : marks_at k o ≡ log = sym (marks-in k o here) ∙ ap (λ z. marks (log_of k z)) home in
         let held : value_at (before k s) o ≡ value_of (scan sure o log) = subst (λ z. value_at (before k s) o ≡ value_of (scan sure o z)) same (before-holds k ever f s o) in
-        let found : Same (scan sure o m) (scan sure o log) = same-found sure o log m (f.distinct r a.inside) (a.from o) (λ q e. a.has o q.start q.value (stood log (scan sure o log) (standing sure o log) q e)) in
         ap value_of (same-scan told sure o m (starts-from (λ x. told x ≡ sure x) o m (tests o)))
-        ∙ same-values (scan sure o log) (scan sure o m) found ∙ sym held
+        ∙ same-values (scan sure o log) (scan sure o m) (same-found sure o log m (f.distinct r a.inside) (a.from o) (λ q e. a.has o q.start q.value (stood log (scan sure o log) (standing sure o log) q e))) ∙ sym held
       where
         stood : (log : List Mark) (res : Option Seen) → Standing o log res → (q : Seen) → res ≡ Some q → Has (mark.Put o q.start q.value) log
         stood log None t q e = absurd (cc e)

@@ -1,14 +1,8 @@
 -- One reading of the scripts of all runs of a past, and the facts of the logs that it left.
-use Rattle.std.proofs.Common.{◌≡◌, ◌⊎◌, inl, inr, ℕ, Bool, true, false, nat_le, ◌&&◌, List, [], ◌∷◌, reverse, if◌then◌else◌, refl, sym, ◌∙◌, ap, subst, arith}
-use Rattle.std.proofs.lemmas.Bool.{leb-true}
-use Rattle.archive_law.proofs.Names.{repository, same_node, NodeId, Post, Tree, Plan, IsOfLanguage, forward, Asked, Trace, base_of, alike, own_reading, IsLegal, Base, walk_from, AreEarlier, Earlier, TickedBy, WereLeftOrRetired, replaced, sent_earlier, Running, Retiring, node_facts, OlderFacts, IsPast, log_after}
+use Rattle.archive_law.proofs.Names.{repository, same_node, NodeId, Post, Tree, Plan, IsOfLanguage, forward, Asked, Trace, base_of, alike, own_reading, IsLegal, Base, walk_from, AreEarlier, Earlier, TickedBy, WereLeftOrRetired, replaced, sent_earlier, Running, Retiring, node_facts, OlderFacts, IsPast, log_after, ◌≡◌, ◌⊎◌, inl, inr, ℕ, Bool, true, false, nat_le, ◌&&◌, List, [], ◌∷◌, reverse, if◌then◌else◌, refl, sym, ◌∙◌, ap, subst, arith, leb-true, Ends, MayRetire, Legal, Meets, is_within, most_of, AreOfLanguage, logs_left}
 use Rattle.pseudo_time.specs.declared.nodes.NodeKind.{NodeKind}
 use Rattle.pseudo_time.specs.declared.nodes.NodeKind.TheVariants.{Repository, Broker}
 use Rattle.value_form.specs.declared.endings.Ending.TheVariants as ending
-use Rattle.serial_model.specs.Questions.{Ends}
-use Rattle.object_retirement.specs.Forward.{MayRetire}
-use Rattle.world_core.specs.Legal.{Legal, Meets, is_within, most_of}
-use Rattle.serial_law.specs.Earlier.{AreOfLanguage, logs_left}
 use Rattle.serial_law.proofs.EarlierLemmas.{older-facts}
 use Rattle.serial_law.proofs.OlderReading.{OneReading, older-reading}
 
@@ -48,8 +42,7 @@ module _ (s : List ℕ → Tree) where
   unread-replaced : (cs : List Earlier) → NoRuns cs → (n : NodeId) → replaced own_reading cs n ≡ replaced (alike s) cs n
   unread-replaced [] h n = refl
   unread-replaced (Running c ∷ cs) h n = absurd h
-  unread-replaced (Retiring r at ∷ cs) h n =
-      λ i. if same_node (repository r) n then unread-logs cs h n i ∷ unread-replaced cs h n i else unread-replaced cs h n i
+  unread-replaced (Retiring r at ∷ cs) h n = λ i. if same_node (repository r) n then unread-logs cs h n i ∷ unread-replaced cs h n i else unread-replaced cs h n i
 
   unread-are : (cs : List Earlier) → NoRuns cs → AreEarlier own_reading cs → AreEarlier (alike s) cs
   unread-are [] h e = tt

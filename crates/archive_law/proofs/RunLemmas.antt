@@ -1,18 +1,10 @@
 -- The archive at the end of a run tells the map that the run's committed scripts leave, each carried out alone.
-use Rattle.std.proofs.Common.{◌≡◌, ℕ, nat_le, true, ◌&&◌, List, [], ◌∷◌, ◌++◌, map, reverse, refl, sym, ◌∙◌, ap, subst}
-use Rattle.std.proofs.lemmas.List.{reverse-reverse}
-use Rattle.archive_law.proofs.Names.{repository, StampParts, NodeId, Effect, Asked, Plan, IsOfLanguage, Trace, before, base_of, in_plan, alike, own_reading, IsLegal, WereLeftOrRetired, replaced, sent_earlier, whole_log, archive, TellsMap}
-use Rattle.world_core.specs.Deeds.{Try}
-use Rattle.world_core.specs.Pasts.{OpenedWith}
-use Rattle.world_core.specs.Readings.{gated_log}
-use Rattle.world_core.specs.Walks.{sent_by}
-use Rattle.serial_law.specs.Refines.{logs_at}
+use Rattle.archive_law.proofs.Names.{repository, StampParts, NodeId, Effect, Asked, Plan, IsOfLanguage, Trace, before, base_of, in_plan, alike, own_reading, IsLegal, WereLeftOrRetired, replaced, sent_earlier, whole_log, archive, TellsMap, ◌≡◌, ℕ, nat_le, true, ◌&&◌, List, [], ◌∷◌, ◌++◌, map, reverse, refl, sym, ◌∙◌, ap, subst, reverse-reverse, Try, OpenedWith, gated_log, sent_by, logs_at, volumes_with}
 use Rattle.serial_law.specs.Runs.{Position, TickedBefore, log_at, olds_at, run_at, sent_before, whole_at, world_at}
 use Rattle.serial_law.specs.Serials.{run_in, whole_in}
 use Rattle.serial_law.proofs.SameRuns.{before-same}
 use Rattle.serial_law.proofs.SerialRuns.{Placed, placed}
 use Rattle.serial_law.proofs.Traces.{place-facts, place-serial-facts}
-use Rattle.archive_law.specs.Archives.{volumes_with}
 use Rattle.archive_law.proofs.IdleLemmas.{archives}
 use Rattle.archive_law.proofs.MapLemmas.{tells-map}
 
@@ -46,14 +38,11 @@ run-tells plan asked t logs left r s whole legal agrees inside =
             twice [] = refl
             twice (z ∷ zs) = λ i. reverse-reverse z i ∷ twice zs i
 
-        old-same : replaced (alike k.place.script) k.place.past.0 (repository r) ≡ replaced own_reading left.0 (repository r)
-        old-same = unturn (replaced (alike k.place.script) k.place.past.0 (repository r)) (replaced own_reading left.0 (repository r)) (k.olds (repository r))
-
         log-same : logs_at k.place.logs (world_at k.place) (repository r) ≡ gated_log plan t (repository r)
         log-same = sym (reverse-reverse (logs_at k.place.logs (world_at k.place) (repository r))) ∙ ap reverse (k.logs r inside) ∙ reverse-reverse (gated_log plan t (repository r))
 
         volumes-same : volumes_at k.place r ≡ volumes_with left.0 r (gated_log plan t (repository r))
-        volumes-same = λ i. reverse (old-same i) ++ log-same i ∷ []
+        volumes-same = λ i. reverse ((unturn (replaced (alike k.place.script) k.place.past.0 (repository r)) (replaced own_reading left.0 (repository r)) (k.olds (repository r))) i) ++ log-same i ∷ []
 
         wholes : NodeId → List Effect
         wholes n = whole_log (olds_at k.place n) (log_at k.place n)

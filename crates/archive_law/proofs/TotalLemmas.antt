@@ -1,16 +1,8 @@
 -- Each total that a watch left is of all committed versions that ever stood up to its cursor, whatever calls come after it.
-use Rattle.std.proofs.Common.{◌≡◌, ◌⊎◌, inl, inr, ℕ, Bool, true, false, List, [], ◌∷◌, map, filter, reverse, refl, sym, ◌∙◌, ap, subst, Option, Some, None, ◌&&◌, not, if◌then◌else◌}
-use Rattle.std.specs.Prelude.{Result, Ok, Err}
-use Rattle.std.proofs.lemmas.Bool.{true≢false, false≢true}
-use Rattle.std.proofs.lemmas.List.{map-append}
-use Rattle.archive_law.proofs.Names.{Has, repository, lt, TimeParts, lt-irreflexive, lt-split, ObjectId, Value, Mark, Seen, floor_of, is_committed, is_settled, settle_of, listed, and-both, and-left, and-right, known, WatchFault, Moved, Version, advanced, moved_over, version_of, Earlier, has-map, map-has, EverStood, IsArchive, IsPast, WasDecided, archive, log_after, volumes_left, Rises}
+use Rattle.archive_law.proofs.Names.{Has, repository, lt, TimeParts, lt-irreflexive, lt-split, ObjectId, Value, Mark, Seen, floor_of, is_committed, is_settled, settle_of, listed, and-both, and-left, and-right, known, WatchFault, Moved, Version, advanced, moved_over, version_of, Earlier, has-map, map-has, EverStood, IsArchive, IsPast, WasDecided, archive, log_after, volumes_left, Rises, ◌≡◌, ◌⊎◌, inl, inr, ℕ, Bool, true, false, List, [], ◌∷◌, map, filter, reverse, refl, sym, ◌∙◌, ap, subst, Option, Some, None, ◌&&◌, not, if◌then◌else◌, Result, Ok, Err, true≢false, false≢true, map-append, is_blocked, settled_versions, not-false, fresh, is_retired, unless_retired, cursor_of}
 use Rattle.effect_form.specs.declared.effects.Effect.TheVariants as effect
 use Rattle.object_history.specs.declared.marks.Mark.TheVariants as mark
-use Rattle.object_history.specs.Settled.{is_blocked, settled_versions}
 use Rattle.object_history.proofs.AnswerLemmas.{committed}
-use Rattle.object_history.proofs.BoolLemmas.{not-false}
-use Rattle.commit_watch.specs.Folds.{fresh, is_retired, unless_retired}
-use Rattle.commit_watch.specs.Lists.{cursor_of}
 use Rattle.commit_watch.specs.Totals.{IsTotal, folded_so_far}
 use Rattle.commit_watch.proofs.StandingLemmas.{filter-listed}
 use Rattle.commit_watch.proofs.TotalLemmas.{total-advanced}
@@ -83,18 +75,16 @@ module _ (cs : List Earlier) (past : IsPast cs) (r : ℕ) (o : ObjectId) where
       free : (x : TimeParts) → lt cursor x ≡ false → is_blocked m o x ≡ false
       free x low = none-passes (λ y. not (is_settled (settle_of m y.stamp)) && not (lt x y)) o m (λ y v h. not-false _ (λ t.
           let within : lt cursor y ≡ false = not-false (lt cursor y) (λ l. true≢false (sym (lt-split cursor x y l (not-yes (lt x y) (and-right _ (not (lt x y)) t))) ∙ low)) in
-          let d = closed y v (is.none o y v h) within in
-          true≢false (sym (ap is_settled (is.known_so y.stamp ∙ d.1)) ∙ not-yes _ (and-left (not (is_settled (settle_of m y.stamp))) _ t))))
+          true≢false (sym (ap is_settled (is.known_so y.stamp ∙ (closed y v (is.none o y v h) within).1)) ∙ not-yes _ (and-left (not (is_settled (settle_of m y.stamp))) _ t))))
 
       pub versions-all : (v : Version) → IsCounted cs r o cursor v → Has v versions
       versions-all v c =
-          let there : Has (mark.Put o v.start v.value) m = is.all o v.start v.value c.stood in
           let d = closed v.start v.value c.stood c.within in
           let how : settle_of m v.start.stamp ≡ Some d.0 = is.known_so v.start.stamp ∙ d.1 in
           let sure : d.0 ≡ true = one-decision cs past v.start.stamp d.0 true (is.decided v.start.stamp d.0 how) c.committed in
           let passes : counted v.start ≡ true = and-both (settled v.start) (not (lt cursor v.start))
           (and-both (is_committed (settle_of m v.start.stamp)) (not (is_blocked m o v.start)) (ap is_committed (how ∙ ap Some sure)) (yes-not _ (free v.start c.within))) (yes-not _ c.within) in
-          let q = has-listed counted o m v.start v.value there passes in
+          let q = has-listed counted o m v.start v.value (is.all o v.start v.value c.stood) passes in
           let same : version_of o q.0 ≡ v = λ i. record { object = sym c.its_object i; start = q.2 i; value = q.3 i } in
           subst (λ z. Has z versions) same (has-map (version_of o) (listed counted o m) q.0 q.1)
 
@@ -124,8 +114,7 @@ module _ {T : Type 0} (first : T) (next : T → Version → Option T) (r : ℕ) 
         let start : k.0.start ≡ w.cursor = ap (λ (z : Version). z.start) k.2 ∙ c.2 in
         let passes : (not (is_settled (settle_of here x.stamp)) && not (lt k.0.start x)) ≡ false =
         passes-none (λ y. not (is_settled (settle_of here y.stamp)) && not (lt k.0.start y)) o here x v unblocked ((archive-is cs past r).all o x v stood) in
-        let sure : is_settled (settle_of here x.stamp) ≡ true = settled-below (is_settled (settle_of here x.stamp)) k.0.start w.cursor x start low passes in
-        let d = settled-some (settle_of here x.stamp) sure in
+        let d = settled-some (settle_of here x.stamp) (settled-below (is_settled (settle_of here x.stamp)) k.0.start w.cursor x start low passes) in
         (d.0, subst (λ u. u ≡ Some d.0) ((archive-is cs past r).known_so x.stamp) d.1)
 
     total-held : (w : Moved T) → IsTotal first next (archive (volumes_left cs r)) o (Some w) → Held cs o w
@@ -200,12 +189,9 @@ module _ {T : Type 0} (first : T) (next : T → Version → Option T) (r : ℕ) 
 
   -- ---- all of them
 
-  past-before : (k : Earlier) (es : List (Event T)) → IsPast (calls_of (Calling k ∷ es)) → IsPast (calls_of es)
-  past-before k es past = earlier-past k (calls_of es) past
-
   pub all-held : (es : List (Event T)) → IsPast (calls_of es) → AreWatches first next r es → (o : ObjectId) → HeldOr (calls_of es) o (totals_of es o)
   all-held [] past are o = tt
-  all-held (Calling k ∷ es) past are o = held-or-on k (calls_of es) past o (totals_of es o) (all-held es (past-before k es past) are o)
+  all-held (Calling k ∷ es) past are o = held-or-on k (calls_of es) past o (totals_of es o) (all-held es (earlier-past k (calls_of es) past) are o)
   all-held (Watching new ∷ es) past are o = go (are.1 o) (all-held es past are.0 o)
     where
       go : (new o ≡ totals_of es o) ⊎ (advanced first next o (archive_then r es) None (totals_of es o) ≡ Ok (new o)) → HeldOr (calls_of es) o (totals_of es o) → HeldOr (calls_of es) o (new o)

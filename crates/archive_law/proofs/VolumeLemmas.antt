@@ -1,28 +1,17 @@
 -- The archive of a repository's volumes has each version of its logs, older and last, once; and it settles attempts as the last log does.
-use Rattle.std.proofs.Common.{◌≡◌, ◌⊎◌, ◌≤◌, inl, inr, ℕ, Bool, true, List, [], ◌∷◌, ◌++◌, map, reverse, refl, sym, ◌∙◌, ap, subst, Some}
-use Rattle.std.proofs.lemmas.List.{map-append, reverse-append, reverse-reverse}
-use Rattle.archive_law.proofs.Names.{Has, repository, StampParts, TimeParts, Decision, NodeId, has-either, has-left, has-reverse, has-right, ObjectId, Value, Effect, Post, Mark, floor_of, settle_of, Distinct, Gone, is_commit, known, marks, RestsOn, decide-home, decided-once, put-logged, is_under, joined, put-asked, Tree, Base, node_facts, OlderFacts, each-has, has-map, map-has, marks-append, archive}
+use Rattle.archive_law.proofs.Names.{Has, repository, StampParts, TimeParts, Decision, NodeId, has-either, has-left, has-reverse, has-right, ObjectId, Value, Effect, Post, Mark, floor_of, settle_of, Distinct, Gone, is_commit, known, marks, RestsOn, decide-home, decided-once, put-logged, is_under, joined, put-asked, Tree, Base, node_facts, OlderFacts, each-has, has-map, map-has, marks-append, archive, ◌≡◌, ◌⊎◌, ◌≤◌, inl, inr, ℕ, Bool, true, List, [], ◌∷◌, ◌++◌, map, reverse, refl, sym, ◌∙◌, ap, subst, Some, map-append, reverse-append, reverse-reverse, chain-distinct, chain-given, some-given, one-value, SettledBy, put-marks, settle-marks, its-all, its-chain, some-history}
 use Rattle.effect_form.specs.declared.effects.Effect.TheVariants as effect
 use Rattle.object_history.specs.declared.marks.Mark.TheVariants as mark
 use Rattle.object_retirement.specs.Chains as chains
 use Rattle.object_retirement.specs.Stood.{all_stood}
-use Rattle.object_retirement.proofs.ChainLemmas.{chain-distinct, chain-given, some-given}
-use Rattle.object_retirement.proofs.RetiredLemmas.{one-value}
-use Rattle.serial_law.proofs.LogLemmas.{SettledBy, put-marks, settle-marks}
 use Rattle.serial_law.proofs.Puts.{stands-put}
-use Rattle.serial_law.proofs.WholeFacts.{its-all, its-chain}
-use Rattle.serial_law.proofs.OldChains.{some-history}
 use Rattle.archive_law.proofs.JoinedLemmas.{joined-distinct, joined-from, joined-settles, joined-some}
 
 pub marks-reverse : (l : List Effect) → marks (reverse l) ≡ reverse (marks l)
 marks-reverse [] = refl
 marks-reverse (f ∷ l) =
     ap marks (reverse-append (f ∷ []) l) ∙ marks-append (reverse l) (f ∷ []) ∙ ap (λ m. m ++ marks (f ∷ [])) (marks-reverse l)
-    ∙ ap (λ m. reverse (marks l) ++ m) (one f) ∙ sym (ap reverse (marks-append (f ∷ []) l) ∙ reverse-append (marks (f ∷ [])) (marks l))
-  where
-    one : (f : Effect) → marks (f ∷ []) ≡ reverse (marks (f ∷ []))
-    one (effect.Put o x v) = refl
-    one _ = refl
+    ∙ ap (λ m. reverse (marks l) ++ m) (elim f as (λ f. marks (f ∷ []) ≡ reverse (marks (f ∷ []))) [ effect.Put o x v ↦ refl | _ ↦ refl ]) ∙ sym (ap reverse (marks-append (f ∷ []) l) ∙ reverse-append (marks (f ∷ [])) (marks l))
 
 -- a Put of a log is one of its marks
 pub put-marked : (l : List Effect) (o : ObjectId) (x : TimeParts) (v : Value) → Has (effect.Put o x v) l → Has (mark.Put o x v) (marks l)
@@ -160,11 +149,6 @@ module _ (script : List ℕ → Tree) (b : Base) (logs : NodeId → List Effect)
     pub known-home : (s : StampParts) (c : Bool) → known now s ≡ Some c → Decided s c
     known-home s c h = by (settle-marks now s c h)
       where
-        rests : (e : Effect) → Has e now → RestsOn (past ++ sent) (λ k. reverse (logs (repository k))) f.ticks r e
-        rests e k = (each-has _ now e (f.proofs (repository r)) k).1
-
         by : SettledBy now s c → Decided s c
-        by (inl k) =
-            let home : s.home ≡ r = decide-home r now s k.0 (f.tidy (repository r)) k.1 in
-            (k.0, subst (λ z. Has (effect.Decide s k.0) (logs (repository z))) (sym home) (unturned log (effect.Decide s k.0) k.1), k.2)
-        by (inr k) = let d = rests (effect.Learn s c) k in (d.0, unturned (logs (repository s.home)) (effect.Decide s d.0) d.1, d.2)
+        by (inl k) = (k.0, subst (λ z. Has (effect.Decide s k.0) (logs (repository z))) (sym (decide-home r now s k.0 (f.tidy (repository r)) k.1)) (unturned log (effect.Decide s k.0) k.1), k.2)
+        by (inr k) = let d = ((each-has _ now (effect.Learn s c) (f.proofs (repository r)) k).1) in (d.0, unturned (logs (repository s.home)) (effect.Decide s d.0) d.1, d.2)

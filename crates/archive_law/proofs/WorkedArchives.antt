@@ -1,14 +1,9 @@
 -- A past worked by hand: a run of three acts, a retirement at 3.1.1/1, and a run of one act more. The definitions compute what they come to.
-use Rattle.std.proofs.Common.{◌≡◌, ℕ, true, List, [], ◌∷◌, ◌++◌, reverse, if◌then◌else◌, refl, ◌∙◌, ap, Some, None}
-use Rattle.std.specs.Prelude.{ℤ, pos, Ok}
-use Rattle.archive_law.proofs.Names.{repository, lt, same_stamp, same_time, StampParts, TimeParts, ObjectId, Value, Nothing, Effect, Mark, some_put, floor_of, scan, settle_of, version_count, same_object, insert, listed, value_of, forwarded, Moved, advanced, moved_over, all_firsts, firsts, has_start, last_log, met_after, last_below, first_open, in_plan, Call, log_left, own_reading, replaced, Running, Retiring, archive, log_after, volumes_left}
+use Rattle.archive_law.proofs.Names.{repository, lt, same_stamp, same_time, StampParts, TimeParts, ObjectId, Value, Nothing, Effect, Mark, some_put, floor_of, scan, settle_of, version_count, same_object, insert, listed, value_of, forwarded, Moved, advanced, moved_over, all_firsts, firsts, has_start, last_log, met_after, last_below, first_open, in_plan, Call, log_left, own_reading, replaced, Running, Retiring, archive, log_after, volumes_left, ◌≡◌, ℕ, true, List, [], ◌∷◌, ◌++◌, reverse, if◌then◌else◌, refl, ◌∙◌, ap, Some, None, ℤ, pos, Ok, Number, pick, first_among}
 use Rattle.pseudo_time.specs.declared.decisions.Decision.TheVariants.{Committed}
-use Rattle.value_form.specs.declared.values.Value.TheVariants.{Number}
 use Rattle.effect_form.specs.declared.effects.Effect.TheVariants as effect
 use Rattle.object_history.specs.declared.marks.Mark.TheVariants as mark
-use Rattle.object_history.specs.History.{pick}
 use Rattle.commit_watch.specs.Rules.{sum_next}
-use Rattle.archive_store.specs.Opens.{first_among}
 
 -- the stamp c.1.1, and its first pseudotime
 abbrev stamp : ℕ → StampParts
@@ -54,11 +49,8 @@ module _ (a b : Call) (inside-a : in_plan a.plan (repository 1) ≡ true) (insid
 
   -- volume 0 has the first run's log, and volume 1 what was carried forward and the second run's
   two-volumes : volumes_left (Running b ∷ (Retiring 1 (first 3) ∷ (Running a ∷ []))) 1 ≡ reverse three ∷ reverse four ∷ []
-  two-volumes = λ i. reverse (old i) ++ last i ∷ []
+  two-volumes = λ i. reverse ((ap (λ log. log ∷ []) run-left) i) ++ last i ∷ []
     where
-      old : replaced own_reading (Running b ∷ (Retiring 1 (first 3) ∷ (Running a ∷ []))) (repository 1) ≡ reverse three ∷ []
-      old = ap (λ log. log ∷ []) run-left
-
       last : log_after (Running b ∷ (Retiring 1 (first 3) ∷ (Running a ∷ []))) (repository 1) ≡ reverse four
       last = ap (λ t. if t then log_left own_reading b (repository 1) else log_after (Retiring 1 (first 3) ∷ (Running a ∷ [])) (repository 1)) inside-b ∙ left-b
 

@@ -1,7 +1,5 @@
 -- Each request that a repository takes is answered, but for a read that is held; and the broker heeds each of these answers while the request stands.
-use Rattle.std.proofs.Common.{◌≡◌, ◌⊎◌, ℕ, ◌+◌, Bool, true, false, List, refl, subst, Option, Some, None, inl, inr}
-use Rattle.std.proofs.lemmas.Bool.{false≢true}
-use Rattle.complete_law.proofs.Names.{Has, StampParts, TimeParts, same_stamp, same_time, same_stamp-self, same_time-of, Decision, NodeId, RecordState, ObjectId, Value, Effect, Message, ToRead, ToWrite, Tree, WriteStep, is_settled, stands_written, write_step, Hand, note, now, send, is_commit, known, marks, record_of, begin_as, close_as, on_begin, on_close, on_write, tell_askers, write_as, Heard, Reply, Adds, Hears, Ignored, Try, time_of, stop_of, news, row, when, Asking, Closing, Finishing, Opening, is_finished, Answers}
+use Rattle.complete_law.proofs.Names.{Has, StampParts, TimeParts, same_stamp, same_time, same_stamp-self, same_time-of, Decision, NodeId, RecordState, ObjectId, Value, Effect, Message, ToRead, ToWrite, Tree, WriteStep, is_settled, stands_written, write_step, Hand, note, now, send, is_commit, known, marks, record_of, begin_as, close_as, on_begin, on_close, on_write, tell_askers, write_as, Heard, Reply, Adds, Hears, Ignored, Try, time_of, stop_of, news, row, when, Asking, Closing, Finishing, Opening, is_finished, Answers, ◌≡◌, ◌⊎◌, ℕ, ◌+◌, Bool, true, false, List, refl, subst, Option, Some, None, inl, inr, false≢true}
 use Rattle.pseudo_time.specs.declared.decisions.Decision.TheVariants as decision
 use Rattle.commit_record.specs.declared.states.RecordState.TheVariants as state
 use Rattle.effect_form.specs.declared.effects.Effect.TheVariants as effect

@@ -1,14 +1,7 @@
 -- Held reads, and the attempts that a repository may still ask for: what a read that is held adds, and what one takes away that leaves.
-use Rattle.std.proofs.Common.{◌≡◌, ◌⊎◌, ℕ, ◌+◌, ◌≤◌, Bool, true, false, ◌||◌, not, cond, List, [], ◌∷◌, refl, sym, ◌∙◌, ap, subst, Option, Some, None, if◌then◌else◌, inl, inr, arith}
 use Rattle.std.specs.Map.{remove_entry}
-use Rattle.std.specs.BTreeMap.{insert_entry}
-use Rattle.std.specs.Ordering.{match_ordering}
-use Rattle.std.specs.declared.cmp.Ordering.{Ordering}
-use Rattle.std.specs.declared.cmp.Ordering.TheVariants.{Less, Equal, Greater}
-use Rattle.complete_law.proofs.Names.{time_cmp, Has, same_stamp, same_stamp-is, same_stamp-self, StampParts, TimeParts, ObjectId, Value, Effect, is_settled, HeldRead, known, waits_for, settled-log, Waits}
-use Rattle.std.proofs.lemmas.Bool.{false≢true, true≢false, or_right}
+use Rattle.complete_law.proofs.Names.{time_cmp, Has, same_stamp, same_stamp-is, same_stamp-self, StampParts, TimeParts, ObjectId, Value, Effect, is_settled, HeldRead, known, waits_for, settled-log, Waits, ◌≡◌, ◌⊎◌, ℕ, ◌+◌, ◌≤◌, Bool, true, false, ◌||◌, not, cond, List, [], ◌∷◌, refl, sym, ◌∙◌, ap, subst, Option, Some, None, if◌then◌else◌, inl, inr, arith, insert_entry, match_ordering, Ordering, Less, Equal, Greater, false≢true, true≢false, or_right, filter}
 use Rattle.effect_form.specs.declared.effects.Effect.TheVariants as effect
-use Rattle.std.specs.List.{filter}
 
 abbrev pub times : {X : Type 0} → ℕ → List X → ℕ
 times k [] = 0
@@ -54,9 +47,8 @@ total-more f g q w (x ∷ ss) k h l = go (same_stamp w x) refl (total-more f g q
 total-less : (f g : StampParts → ℕ) (q : ℕ) (w : StampParts) (ss : List StampParts) → Single ss → Has w ss → ((s : StampParts) → f s ≤ g s) → f w + q ≤ g w → total f ss + q ≤ total g ss
 total-less f g q w [] k i h l = absurd i
 total-less f g q w (x ∷ ss) k (inl e) h l =
-    let a = total-mono f g ss h in
     let b : f x + q ≤ g x = subst (λ z. f z + q ≤ g z) (sym e) l in
-    omega (arith, a, b)
+    omega (arith, total-mono f g ss h, b)
 total-less f g q w (x ∷ ss) k (inr i) h l = let a = total-less f g q w ss k.1 i h l in let b = h x in omega (arith, a, b)
 
 -- ---- the stamps that have a Put in the log, each once
@@ -152,15 +144,12 @@ module _ (q : ℕ) where
   -- an effect that is no Put adds nothing
   pub noted-free : (f : Effect) (log : List Effect) (held : List (TimeParts × HeldRead)) → putters (f ∷ log) ≡ putters log → free (f ∷ log) held ≤ free log held
   noted-free f log held e =
-      let k = total-mono (unasked (f ∷ log) held) (unasked log held) (putters log) (unasked-more f log held) in
       let j : free (f ∷ log) held ≡ total (unasked (f ∷ log) held) (putters log) = ap (total (unasked (f ∷ log) held)) e in
-      omega (arith, k, j)
+      omega (arith, total-mono (unasked (f ∷ log) held) (unasked log held) (putters log) (unasked-more f log held), j)
 
   pub put-free : (o : ObjectId) (x : TimeParts) (v : Value) (log : List Effect) (held : List (TimeParts × HeldRead)) → free (effect.Put o x v ∷ log) held ≤ free log held + q
   put-free o x v log held =
-      let k = total-mono (unasked (effect.Put o x v ∷ log) held) (unasked log held) (putters log) (unasked-more (effect.Put o x v) log held) in
-      let j = go (has-stamp x.stamp (putters log)) in
-      omega (arith, k, j)
+      omega (arith, total-mono (unasked (effect.Put o x v ∷ log) held) (unasked log held) (putters log) (unasked-more (effect.Put o x v) log held), go (has-stamp x.stamp (putters log)))
     where
       go : (c : Bool) → total (unasked (effect.Put o x v ∷ log) held) (with-stamp c x.stamp (putters log)) ≤ total (unasked (effect.Put o x v ∷ log) held) (putters log) + q
       go true = omega arith
@@ -263,10 +252,7 @@ module _ (q : ℕ) where
     held-free t x log held = go (insert_entry time_cmp held t x) (inserted-joined t x held)
       where
         go : (later : List (TimeParts × HeldRead)) → Joined x.waits held later → free log later + times k later ≤ (free log held + times k held) + k
-        go later (mid, f, n, l, own) =
-            let a = fewer-free log mid held f in
-            let b = total-mono (unasked log later) (unasked log mid) (putters log) (λ s. more-waits log mid later s (l s)) in
-            omega (arith, a, b, n)
+        go later (mid, f, n, l, own) = omega (arith, fewer-free log mid held f, total-mono (unasked log later) (unasked log mid) (putters log) (λ s. more-waits log mid later s (l s)), n)
 
     -- and leaves less to be asked for where none waited for its attempt
     pub asked-free : (t : TimeParts) (x : HeldRead) (log : List Effect) (held : List (TimeParts × HeldRead)) → Waits log (t, x) → waits_for x.waits held ≡ false →
@@ -276,9 +262,8 @@ module _ (q : ℕ) where
         go : (later : List (TimeParts × HeldRead)) → Joined x.waits held later → (free log later + q) + times k later ≤ (free log held + times k held) + k
         go later (mid, f, n, l, own) =
             let put : Has x.waits (putters log) = subst (λ s. Has s (putters log)) waits.own (put-stands log x.object waits.start waits.value waits.put) in
-            let a = fewer-free log mid held f in
             let b = total-less (unasked log later) (unasked log mid) q x.waits (putters log) (putters-single log) put (λ s. more-waits log mid later s (l s)) (less (waits_for x.waits mid) refl) in
-            omega (arith, a, b, n)
+            omega (arith, fewer-free log mid held f, b, n)
           where
             less : (c : Bool) → waits_for x.waits mid ≡ c → unasked log later x.waits + q ≤ unasked log mid x.waits
             less true e = absurd (false≢true (sym off ∙ f.0 x.waits e))

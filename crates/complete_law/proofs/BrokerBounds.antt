@@ -1,10 +1,5 @@
 -- A calm broker's log has no more effects than its acts allow, and fills no more pages.
-use Rattle.std.proofs.Common.{◌≡◌, ℕ, ◌+◌, ◌*◌, ◌≤◌, ◌==◌, nat_lt, Bool, true, false, length, List, [], ◌∷◌, ◌++◌, reverse, refl, sym, ◌∙◌, ap, subst, append-nil, arith}
-use Rattle.complete_law.proofs.Names.{Every, every-left, every-right, ActSpec, Effect, Tree, stop, Act, Book, Try, book, tries_of, broker, Task, task_of, tasks, state, Started, IsPlayed, TurnHolds, kept, played, acts_of, Base, Life, World, sent_by, AskAtMost, AsksAtMost, CalmPlace, filled_by, log_at, tries_in, world_at, every-at, every-filter}
-use Rattle.plan_form.specs.PlanTexts.{EachAct}
-use Rattle.broker_core.specs.Sound.{OfAct}
-use Rattle.broker_laws.proofs.Found.{kin}
-use Rattle.broker_laws.proofs.Kept.{started}
+use Rattle.complete_law.proofs.Names.{Every, every-left, every-right, ActSpec, Effect, Tree, stop, Act, Book, Try, book, tries_of, broker, Task, task_of, tasks, state, Started, IsPlayed, TurnHolds, kept, played, acts_of, Base, Life, World, sent_by, AskAtMost, AsksAtMost, CalmPlace, filled_by, log_at, tries_in, world_at, every-at, every-filter, ◌≡◌, ℕ, ◌+◌, ◌*◌, ◌≤◌, ◌==◌, nat_lt, Bool, true, false, length, List, [], ◌∷◌, ◌++◌, reverse, refl, sym, ◌∙◌, ap, subst, append-nil, arith, EachAct, OfAct, kin, started}
 use Rattle.world_core.specs.Walks as walks
 use Rattle.complete_law.proofs.BrokerMoves.{turn-there}
 use Rattle.complete_law.proofs.BrokerRuns.{only-runs}
@@ -84,14 +79,11 @@ module _ (p : CalmPlace) (most : ℕ) (asks : AskAtMost p.run most) where
     allowed = allowed-tasks base.script most (acts_of n base.acts)
         (every-filter (λ a. IsAllowed base.script most (task_of a)) (λ (a : ActSpec). a.broker == n) base.acts (allowed-acts base.script most p.run.plan.repositories p.run.plan.brokers 1 base.acts p.run.whole.acts asks))
 
-    front-of : (as' past : List Act) → Every IsSpare (as' ++ past) → Every IsSpare as'
-    front-of as' past h = every-left IsSpare as' past h
-
     in-run : (book (log n)).run ≡ base.run → Every (IsLed base.script most) (book (log n)).acts × (tries-allowed (book (log n)).acts ≤ tries-given (tasks_of base n))
     in-run same =
         let s : Started (tasks_of base n) (book (log n)).acts = started base.script n base.run (tasks_of base n) (log n) turn.desk.tidy turn.ready.same_plan same in (
           led base.script most (book (log n)).run (tasks_of base n) (book (log n)).acts allowed s
-              (front-of (book (log n)).acts (book (log n)).past (spare base.script n (log n) turn.desk.tidy)) (kin (log n))
+              (every-left IsSpare (book (log n)).acts (book (log n)).past (spare base.script n (log n) turn.desk.tidy)) (kin (log n))
               (own-tries (IsPlayed base.script) (book (log n)).acts (book (log n)).past (played base.script n (log n) turn.desk.tidy)),
           started-few (tasks_of base n) (book (log n)).acts s,
         )
@@ -112,31 +104,16 @@ module _ (p : CalmPlace) (most : ℕ) (asks : AskAtMost p.run most) where
         let join : size-acts ((book (log n)).acts ++ (book (log n)).past) ≡ size-acts (book (log n)).acts = ap (λ past. size-acts ((book (log n)).acts ++ past)) no-past ∙ ap size-acts (append-nil (book (log n)).acts) in
         let share : size-acts (book (log n)).acts ≤ tries-allowed (book (log n)).acts * (most + 3) =
         acts-share size-act (most + 3) (book (log n)).acts (led-sizes base.script most (book (log n)).acts all-led.0) size-acts refl (λ a more. refl) in
-        let few : tries-given (tasks_of base n) ≤ tries_in base.acts = tasks-few (λ (a : ActSpec). a.broker == n) base.acts in
-        let mine : tries-allowed (book (log n)).acts ≤ tries-given (tasks_of base n) = all-led.1 in
-        let all = mul-mono (tries-allowed (book (log n)).acts) (tries_in base.acts) (most + 3) (omega (arith, few, mine)) in
-        omega (arith, join, share, all)
+        omega (arith, join, share, mul-mono (tries-allowed (book (log n)).acts) (tries_in base.acts) (most + 3) (omega (arith, tasks-few (λ (a : ActSpec). a.broker == n) base.acts, all-led.1)))
 
     one-run : begun-run base.run (book (log n)) ≤ 1
-    one-run = at-most-one ((book (log n)).run == base.run)
-      where
-        at-most-one : (c : Bool) → one-if c ≤ 1
-        at-most-one true = omega arith
-        at-most-one false = omega arith
+    one-run = elim ((book (log n)).run == base.run) as (λ c. one-if c ≤ 1) [ true ↦ omega arith | false ↦ omega arith ]
 
     pub known-few : length (log n) ≤ 1 + tries_in base.acts * (most + 3)
-    known-few =
-        let long : length (log n) ≤ begun-run base.run (book (log n)) + size-acts ((book (log n)).acts ++ (book (log n)).past) = log-size base.script n base.run (log n) turn.desk.tidy (only-runs p n) in
-        let acts = acts-few in
-        let one = one-run in
-        omega (arith, long, acts, one)
+    known-few = omega (arith, log-size base.script n base.run (log n) turn.desk.tidy (only-runs p n), acts-few, one-run)
 
     pub known-pages : filled_by (log n) ≤ 1 + 17 * (tries_in base.acts * (most + 3))
-    known-pages =
-        let long : filled_by (log n) ≤ begun-run base.run (book (log n)) + 17 * size-acts ((book (log n)).acts ++ (book (log n)).past) = log-pages base.script n base.run (log n) turn.desk.tidy (only-runs p n) in
-        let acts = acts-few in
-        let one = one-run in
-        omega (arith, long, acts, one)
+    known-pages = omega (arith, log-pages base.script n base.run (log n) turn.desk.tidy (only-runs p n), acts-few, one-run)
 
   unknown-log : (m : _) → (w.flags m).known ≡ false → log_at p m ≡ []
   unknown-log m off = ap (λ (l : Life). reverse (walks.all_effects l)) ((calm-there p).outside m off)

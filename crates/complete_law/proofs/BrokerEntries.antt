@@ -1,16 +1,9 @@
 -- An entry at which a broker takes a turn keeps what always holds.
-use Rattle.std.proofs.Common.{◌≡◌, ◌≢◌, ◌⊎◌, ℕ, ◌==◌, true, false, List, [], ◌∷◌, ◌++◌, map, reverse, refl, sym, ◌∙◌, ap, subst, Option, Some, None, inl, inr}
-use Rattle.std.proofs.lemmas.Bool.{true≢false}
-use Rattle.complete_law.proofs.Names.{Has, every-map, has-right, has-either, StampParts, TimeParts, Decision, NodeId, Effect, Outcome, Message, Out, Grew, Post, post, Tree, HeldRead, Asker, waits_for, Heard, Ignored, Act, Book, Try, book, find, last_try, tries, tries_of, is_none, row, news, stage, standing, repository, broker, Task, Desk, desk_at, desk_turn, state, FitsLog, IsTidy, IsRested, grown, same_stamp-self, Base, Life, Sending, World, sent_by, all_effects, Waits, standing_at, read_to, older, BookSound, HasSettled, Trail, DeskSound, ask_of, tell_of}
+use Rattle.complete_law.proofs.Names.{Has, every-map, has-right, has-either, StampParts, TimeParts, Decision, NodeId, Effect, Outcome, Message, Out, Grew, Post, post, Tree, HeldRead, Asker, waits_for, Heard, Ignored, Act, Book, Try, book, find, last_try, tries, tries_of, is_none, row, news, stage, standing, repository, broker, Task, Desk, desk_at, desk_turn, state, FitsLog, IsTidy, IsRested, grown, same_stamp-self, Base, Life, Sending, World, sent_by, all_effects, Waits, standing_at, read_to, older, BookSound, HasSettled, Trail, DeskSound, ask_of, tell_of, ◌≡◌, ◌≢◌, ◌⊎◌, ℕ, ◌==◌, true, false, List, [], ◌∷◌, ◌++◌, map, reverse, refl, sym, ◌∙◌, ap, subst, Option, Some, None, inl, inr, true≢false, IsLater, last-first, later-kept, HasStarted, OutSound, standing-sound, stands-to}
 use Rattle.pseudo_time.specs.declared.nodes.NodeKind.TheVariants as kind
 use Rattle.effect_form.specs.declared.effects.Effect.TheVariants as effect
 use Rattle.message_form.specs.declared.messages.Message.TheVariants as message
 use Rattle.broker_core.specs.Turns as desks
-use Rattle.broker_laws.specs.Posts.{IsLater}
-use Rattle.broker_laws.proofs.Desks.{last-first}
-use Rattle.broker_laws.proofs.Moves.{later-kept}
-use Rattle.broker_laws.proofs.BookSteps.{HasStarted}
-use Rattle.broker_laws.proofs.BookTurns.{OutSound, standing-sound, stands-to}
 use Rattle.complete_law.proofs.Places.{log_of, held_of, IsBegun, IsDecided, Flying, AskedFor, tasks_of, desk_of, standing_in, Placed, SaidOf, CalmWorld}
 use Rattle.complete_law.proofs.Frames.{OneTurn, life-with, turn-flies}
 
@@ -35,11 +28,7 @@ module _ (script : List ℕ → Tree) (me run : ℕ) (acts : List Task) (Begun D
 -- a try that has ended has ended later too
 module _ (script : List ℕ → Tree) (me : ℕ) where
   ended-later : (t u : Try) → IsLater t u → is_none t.end ≡ false → is_none u.end ≡ false
-  ended-later t u l e = go t.end refl e
-    where
-      go : (o : Option Outcome) → t.end ≡ o → is_none o ≡ false → is_none u.end ≡ false
-      go None q e = absurd (true≢false e)
-      go (Some o) q e = ap is_none (l.ended o q)
+  ended-later t u l e = (elim t.end as (λ o. t.end ≡ o → is_none o ≡ false → is_none u.end ≡ false) [ None ↦ λ q e. absurd (true≢false e) | Some o ↦ λ q e. ap is_none (l.ended o q) ]) refl e
 
   pub found-ended : (log fresh : List Effect) (s : StampParts) (t : Try) → IsTidy script me log → Grew (FitsLog script me) log fresh → find s (tries (book log)) ≡ Some t → is_none t.end ≡ false →
       (u : Try) × (find s (tries (book (fresh ++ log))) ≡ Some u) × (is_none u.end ≡ false)

@@ -1,7 +1,5 @@
 -- What a broker has sent and owes is paid by its attempts, and those have no more than the plan allows.
-use Rattle.std.proofs.Common.{◌≡◌, ℕ, ◌+◌, ◌*◌, ◌≤◌, max, Bool, true, false, length, List, [], ◌∷◌, ◌++◌, reverse, refl, sym, ◌∙◌, ap, Option, Some, None, inl, inr, if◌then◌else◌, arith}
-use Rattle.std.proofs.lemmas.Bool.{true≢false}
-use Rattle.complete_law.proofs.Names.{Every, Effect, Outcome, Answer, Stop, Asks, Over, Tree, Heard, Act, Book, Try, book, tries_of, keep, stop_of, broker, Desk, desk_at, desk_turn, state, ToRead, ToWrite, EndsBy, IsPlayed, Entry, Going, Taking, Base, Life, World, opened_life, sent_by, start_world, step, after_input, Rule, MayGo, MayTake, AskAtMost, CalmPlace, CalmRun, IsUnstopped, log_at, world_at}
+use Rattle.complete_law.proofs.Names.{Every, Effect, Outcome, Answer, Stop, Asks, Over, Tree, Heard, Act, Book, Try, book, tries_of, keep, stop_of, broker, Desk, desk_at, desk_turn, state, ToRead, ToWrite, EndsBy, IsPlayed, Entry, Going, Taking, Base, Life, World, opened_life, sent_by, start_world, step, after_input, Rule, MayGo, MayTake, AskAtMost, CalmPlace, CalmRun, IsUnstopped, log_at, world_at, ◌≡◌, ℕ, ◌+◌, ◌*◌, ◌≤◌, max, Bool, true, false, length, List, [], ◌∷◌, ◌++◌, reverse, refl, sym, ◌∙◌, ap, Option, Some, None, inl, inr, if◌then◌else◌, arith, true≢false}
 use Rattle.effect_form.specs.declared.outcomes.Outcome.TheVariants as outcome
 use Rattle.broker_core.specs.Turns as desks
 use Rattle.world_core.specs.Walks as walks
@@ -43,10 +41,9 @@ module _ (u v z : ℕ) (r : CalmRun) where
     kept-paid : Kept w w' (broker n) → IsPaid w' n
     kept-paid same =
         let sent = same.issued (weight u v z) in
-        let due = k.1 in
         let p : paid-of n (log_of w' (broker n)) (w'.life (broker n)).mind.heard ≡ paid-of n (log_of w (broker n)) (w.life (broker n)).mind.heard =
         ap (λ log. paid-of n log (w'.life (broker n)).mind.heard) same.log ∙ ap (λ m. paid-of n (log_of w (broker n)) m.heard) same.mind in
-        ((λ g. let x = k.0 (sym same.gone ∙ g) in let y = x.1 in (same.log ∙ x.0, omega (arith, sent, y))), omega (arith, sent, due, p))
+        ((λ g. let x = k.0 (sym same.gone ∙ g) in let y = x.1 in (same.log ∙ x.0, omega (arith, sent, y))), omega (arith, sent, k.1, p))
 
     -- a turn pays what it says
     turn-paid : (i : desks.Input) (l : Life) → l ≡ life-with b (w.life (broker n)) (turned b w n i) → Fed w w' (broker n) l →
@@ -127,12 +124,8 @@ module _ (u v z most : ℕ) (script : List ℕ → Tree) where
   try-fee : (t : Try) → IsPlayed script t → length t.answers + asking-one (stop_of script t) ≤ most → pos u v z script true t ≤ fee
   try-fee t played h = go t.end refl
     where
-      opened : (f : Bool) → (if f then u else at-stop u v z script t (stop_of script t)) ≤ fee
-      opened true = omega arith
-      opened false = stop-fee t (stop_of script t) h
-
       go : (e : Option Outcome) → t.end ≡ e → pos-by u v z script e true t ≤ fee
-      go None e = opened (is-fresh u v z script true t)
+      go None e = elim (is-fresh u v z script true t) as (λ f. (if f then u else at-stop u v z script t (stop_of script t)) ≤ fee) [ true ↦ omega arith | false ↦ stop-fee t (stop_of script t) h ]
       go (Some o) e = let k = refused-fee t o played e h in omega (arith, k)
 
   old-append : (ts us : List Try) → old u v z script (ts ++ us) ≡ old u v z script ts + old u v z script us
@@ -144,12 +137,7 @@ module _ (u v z most : ℕ) (script : List ℕ → Tree) where
   tries-fee a (t ∷ ts) allowed h = let k = tries-fee a ts allowed h.1 in let j = try-fee t h.0.0 (few-answers script most a t allowed h.0.0 h.0.1) in omega (arith, k, j)
 
   act-fee : (a : Act) → IsLed script most a → old u v z script a.tries ≤ a.task.tries * fee
-  act-fee a k =
-      let x = tries-fee a a.tries k.0 k.2 in
-      let s : length a.tries + spent-one a.spent ≤ max 1 a.task.tries = k.1 in
-      let low : 1 ≤ a.task.tries = k.0.0 in
-      let m = mul-mono (length a.tries) a.task.tries fee (omega (arith, s, low)) in
-      omega (arith, x, m)
+  act-fee a k = omega (arith, tries-fee a a.tries k.0 k.2, mul-mono (length a.tries) a.task.tries fee (omega (arith, k.1, k.0.0)))
 
   acts-fee : (as' : List Act) → Every (IsLed script most) as' → Every (λ (a : Act). old u v z script a.tries ≤ a.task.tries * fee) as'
   acts-fee [] h = tt
@@ -157,9 +145,8 @@ module _ (u v z most : ℕ) (script : List ℕ → Tree) where
 
   pub few-paid : (h : Heard) (as' : List Act) → Every (IsLed script most) as' → rank u v z script h (tries_of as') ≤ tries-allowed as' * fee
   few-paid h as' led =
-      let x = acts-share (λ a. old u v z script a.tries) fee as' (acts-fee as' led) (λ bs. old u v z script (tries_of bs)) refl (λ a more. old-append a.tries (tries_of more)) in
       let y = costs.rank-old u v z script h (tries_of as') in
-      omega (arith, x, y)
+      omega (arith, acts-share (λ a. old u v z script a.tries) fee as' (acts-fee as' led) (λ bs. old u v z script (tries_of bs)) refl (λ a more. old-append a.tries (tries_of more)), y)
 
 -- a broker sends no more than its acts allow
 pub broker-issues : (u v z : ℕ) (p : CalmPlace) (most : ℕ) → AskAtMost p.run most → (n : ℕ) → issued (weight u v z) (world_at p) (broker n) ≤ tries-given (tasks_of (steps.b p.run) n) * fee u v z most (steps.b p.run).script
@@ -169,11 +156,9 @@ broker-issues u v z p most asks n = go ((world_at p).flags (broker n)).known ref
     go true known =
         let led = all-led p most asks n known in
         let paid = (all-paid u v z p n).1 in
-        let k = few-paid u v z most (steps.b p.run).script ((world_at p).life (broker n)).mind.heard (book (log_at p (broker n))).acts led.0 in
         let m = mul-mono (tries-allowed (book (log_at p (broker n))).acts) (tries-given (tasks_of (steps.b p.run) n)) (fee u v z most (steps.b p.run).script) led.1 in
         let same = ap (λ (x : Book). rank u v z (steps.b p.run).script ((world_at p).life (broker n)).mind.heard (tries_of x.acts)) (state-is p most asks n known) in
-        omega (arith, paid, k, m, same)
+        omega (arith, paid, few-paid u v z most (steps.b p.run).script ((world_at p).life (broker n)).mind.heard (book (log_at p (broker n))).acts led.0, m, same)
     go false off =
         let paid = (all-paid u v z p n).1 in
-        let none = empty-paid u v z p.run n (log_at p (broker n)) ((world_at p).life (broker n)).mind.heard (ap (λ (l : Life). reverse (walks.all_effects l)) ((steps.calm-there p).outside (broker n) off)) in
-        omega (arith, paid, none)
+        omega (arith, paid, empty-paid u v z p.run n (log_at p (broker n)) ((world_at p).life (broker n)).mind.heard (ap (λ (l : Life). reverse (walks.all_effects l)) ((steps.calm-there p).outside (broker n) off)))

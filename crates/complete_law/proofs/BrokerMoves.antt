@@ -1,16 +1,10 @@
 -- The entries at which a broker takes a turn: it takes a message, or it goes.
-use Rattle.std.proofs.Common.{◌≡◌, ◌≢◌, ◌⊎◌, ℕ, ◌==◌, true, ◌&&◌, List, [], ◌∷◌, ◌++◌, reverse, refl, sym, ◌∙◌, ap, subst, Some, if◌then◌else◌, inl, inr}
-use Rattle.std.proofs.lemmas.List.{reverse-append}
-use Rattle.complete_law.proofs.Names.{Has, has-left, NodeId, NodeKind, Message, Out, Grew, Fate, Reply, Ignored, book, row, news, stage, broker, Desk, desk_at, desk_turn, reply, state, FitsLog, IsReady, IsTidy, TurnHolds, kept, grown, turn-added, Base, Flags, Life, World, sent_by, step, went, all_effects, MayTake, MayGo, Refines, logs_at, soft_of, node_turns, node_facts, NodeOk, around, happened, node-laws, facts-of, DeskSound, Tells, standing_at}
+use Rattle.complete_law.proofs.Names.{Has, has-left, NodeId, NodeKind, Message, Out, Grew, Fate, Reply, Ignored, book, row, news, stage, broker, Desk, desk_at, desk_turn, reply, state, FitsLog, IsReady, IsTidy, TurnHolds, kept, grown, turn-added, Base, Flags, Life, World, sent_by, step, went, all_effects, MayTake, MayGo, Refines, logs_at, soft_of, node_turns, node_facts, NodeOk, around, happened, node-laws, facts-of, DeskSound, Tells, standing_at, ◌≡◌, ◌≢◌, ◌⊎◌, ℕ, ◌==◌, true, ◌&&◌, List, [], ◌∷◌, ◌++◌, reverse, refl, sym, ◌∙◌, ap, subst, Some, if◌then◌else◌, inl, inr, reverse-append, HaveCauses, desk-ok, turn-rests, go-rests, take-sound, go-sound, heard-says, go-says, take-stands, go-stands}
 use Rattle.pseudo_time.specs.declared.nodes.NodeKind.TheVariants as kind
 use Rattle.message_form.specs.declared.messages.Message.TheVariants as message
 use Rattle.broker_core.specs.Turns as desks
-use Rattle.broker_laws.specs.Posts.{HaveCauses}
-use Rattle.broker_laws.proofs.Desks.{desk-ok}
-use Rattle.broker_laws.proofs.TurnLemmas.{turn-rests, go-rests}
 use Rattle.world_core.specs.declared.entries.Entry.TheVariants as entry
 use Rattle.serial_law.proofs.Keeps.{inv-reached}
-use Rattle.broker_laws.proofs.BookTurns.{take-sound, go-sound, heard-says, go-says, take-stands, go-stands}
 use Rattle.complete_law.proofs.BrokerEntries.{Moved, moved-asked, moved-askers, moved-placed, moved-rested, moved-said, moved-sound, moved-waits, ignored-placed, owed-placed, PlacedAt}
 use Rattle.complete_law.proofs.Frames.{came-sent, desk-after, goes, life-with, one-turn, take-turn, takes, turn-outside, turn-shut, turn-ups, turned}
 use Rattle.complete_law.proofs.Hearings.{tells-so}

@@ -1,13 +1,11 @@
 -- The only Run in a calm broker's log is that of its run. So its log has no more effects than its acts and their attempts may have.
-use Rattle.std.proofs.Common.{◌≡◌, ℕ, zero, suc, nat_lt, Bool, true, false, ◌&&◌, length, List, [], ◌∷◌, ◌++◌, reverse, refl, sym, ap, subst, Option, Some, None, if◌then◌else◌, append-nil, slice_get}
-use Rattle.complete_law.proofs.Names.{Every, Decision, Effect, same_stamp, same_time, Got, Stored, ToRead, ToWrite, Tree, Heard, Reply, Adds, Hears, Ignored, Act, Book, Try, time_of, another, next_clock, shown_to, stop_of, after_act, after_tries, by_clock, by_stage, due, owed, start, try_or_spent, ends, News, Begun, Answered, Refusal, Over_there, Decided, row, news, when, decided_commit, decided_early, Stage, Refused, Opening, Asking, Finishing, Stopping, Closing, is_closed, is_finished, stage, standing, broker, Task, Desk, desk_at, desk_turn, fuel, hears, note_if, reply, say, settle_up, state, Out, Entry, gives, Learning, Base, Life, Sending, World, gated_life, lives_on, names, numbered, opened_life, start_world, step, after_input, took, all_effects, CalmPlace, IsUnstopped, world_at}
+use Rattle.complete_law.proofs.Names.{Every, Decision, Effect, same_stamp, same_time, Got, Stored, ToRead, ToWrite, Tree, Heard, Reply, Adds, Hears, Ignored, Act, Book, Try, time_of, another, next_clock, shown_to, stop_of, after_act, after_tries, by_clock, by_stage, due, owed, start, try_or_spent, ends, News, Begun, Answered, Refusal, Over_there, Decided, row, news, when, decided_commit, decided_early, Stage, Refused, Opening, Asking, Finishing, Stopping, Closing, is_closed, is_finished, stage, standing, broker, Task, Desk, desk_at, desk_turn, fuel, hears, note_if, reply, say, settle_up, state, Out, Entry, gives, Learning, Base, Life, Sending, World, gated_life, lives_on, names, numbered, opened_life, start_world, step, after_input, took, all_effects, CalmPlace, IsUnstopped, world_at, ◌≡◌, ℕ, zero, suc, nat_lt, Bool, true, false, ◌&&◌, length, List, [], ◌∷◌, ◌++◌, reverse, refl, sym, ap, subst, Option, Some, None, if◌then◌else◌, append-nil, slice_get, Hearing}
 use Rattle.pseudo_time.specs.declared.decisions.Decision.TheVariants as decision
 use Rattle.effect_form.specs.declared.effects.Effect.TheVariants as effect
 use Rattle.effect_form.specs.declared.outcomes.Outcome.TheVariants as outcome
 use Rattle.broker_core.specs.Turns as desks
 use Rattle.broker_core.specs.Turns.{note, send}
 use Rattle.world_core.specs.declared.entries.Entry.TheVariants as entry
-use Rattle.world_core.specs.Nodes.Input.{Hearing}
 use Rattle.world_core.specs.Walks as walks
 use Rattle.complete_law.proofs.Frames.{desk-after, goes, life-with, takes, turned}
 use Rattle.complete_law.proofs.Places.{desk_of, log_of, tasks_of}
@@ -49,11 +47,7 @@ module _ (script : List ℕ → Tree) (me run : ℕ) (acts : List Task) where
   stage-of h b x = due-of h b b.acts
 
   owed-of : (b : Book) (h : Heard) → OptOf (owed script me run acts b h)
-  owed-of b h = go (nat_lt b.run run)
-    where
-      go : (c : Bool) → OptOf (if c then Some (effect.Run run) else by_stage me acts h b (stage script run b h))
-      go true = refl
-      go false = stage-of h b (stage script run b h)
+  owed-of b h = elim (nat_lt b.run run) as (λ c. OptOf (if c then Some (effect.Run run) else by_stage me acts h b (stage script run b h))) [ true ↦ refl | false ↦ stage-of h b (stage script run b h) ]
 
   abbrev OfRun : Desk → Type 0
   OfRun d = Every (IsOfRun run) (desks.all_effects d)
@@ -68,11 +62,7 @@ module _ (script : List ℕ → Tree) (me run : ℕ) (acts : List Task) where
       go again (Some f) i = again (note f d) (i, k)
 
   say-of : (d : Desk) → OfRun d → OfRun (say script me run acts d)
-  say-of d k = go (standing (stage script run (state script me run acts d) d.heard))
-    where
-      go : (o : Option Out) → OfRun (send o d)
-      go None = k
-      go (Some o) = k
+  say-of d k = elim (standing (stage script run (state script me run acts d) d.heard)) as (λ o. OfRun (send o d)) [ None ↦ k | Some o ↦ k ]
 
   abbrev ReplyOf : Reply → Type 0
   ReplyOf (Adds f) = IsOfRun run f
@@ -143,11 +133,7 @@ module _ (p : CalmPlace) where
   one-life w (entry.Learn m s c) n q only =
       let l : Life = w.life (broker n) in
       same-log w n (after_input base (broker n) l (Learning s c)) (ap (λ z. reverse (l.gated ++ z)) (append-nil l.fresh)) only
-  one-life w (entry.Hear m) n q only = go w.last
-    where
-      go : (t : Option ℕ) → Every (IsOfRun base.run) (reverse (all_effects (walks.hears base (broker n) (w.life (broker n)) t)))
-      go None = only n
-      go (Some t) = turn-log w n (desks.Hear t) _ (hear-turn w n t) only
+  one-life w (entry.Hear m) n q only = elim w.last as (λ t. Every (IsOfRun base.run) (reverse (all_effects (walks.hears base (broker n) (w.life (broker n)) t)))) [ None ↦ only n | Some t ↦ turn-log w n (desks.Hear t) _ (hear-turn w n t) only ]
   one-life w (entry.Gate m) n q only = same-log w n (gated_life (w.life (broker n))) (ap reverse (append-nil (all_effects (w.life (broker n))))) only
   one-life w e n q only = absurd q
 

@@ -1,16 +1,11 @@
 -- A request that stands and is taken by its repository is answered, and heeded, or held.
-use Rattle.std.proofs.Common.{◌≡◌, ℕ, ◌==◌, Bool, true, false, [], ◌∷◌, ◌++◌, reverse, refl, sym, ◌∙◌, ap, subst, Some, None, if◌then◌else◌, inl, inr}
-use Rattle.std.proofs.lemmas.List.{reverse-append}
 use Rattle.std.proofs.lemmas.Option.{same_Some}
-use Rattle.complete_law.proofs.Names.{Has, has-right, StampParts, TimeParts, same_stamp-self, Decision, NodeId, ObjectId, Message, Out, Grew, ToRead, ToWrite, HeldRead, Hand, record_of, accepts, on_message, hand_at, tidy-through, Heard, Ignored, Book, Try, book, find, open_try, time_of, tries, keep, news, row, Stage, Idle, Refused, Opening, Asking, Finishing, Stopping, Closing, is_finished, nothing_heard, stage, standing, repository, broker, state, FitsLog, IsTidy, Clocks, IsBelow, PostHolds, TurnHolds, StageOk, open-first, stage-ok, each-found, kept, clocks, Base, Life, World, sent_by, all_effects, Refines, logs_at, soft_of, node_turns, node_facts, NodeOk, around, happened, node-laws, facts-of, read_to, standing_at, has-record, StageSound, stage-sound, Keeps, Serves, each-has}
+use Rattle.complete_law.proofs.Names.{Has, has-right, StampParts, TimeParts, same_stamp-self, Decision, NodeId, ObjectId, Message, Out, Grew, ToRead, ToWrite, HeldRead, Hand, record_of, accepts, on_message, hand_at, tidy-through, Heard, Ignored, Book, Try, book, find, open_try, time_of, tries, keep, news, row, Stage, Idle, Refused, Opening, Asking, Finishing, Stopping, Closing, is_finished, nothing_heard, stage, standing, repository, broker, state, FitsLog, IsTidy, Clocks, IsBelow, PostHolds, TurnHolds, StageOk, open-first, stage-ok, each-found, kept, clocks, Base, Life, World, sent_by, all_effects, Refines, logs_at, soft_of, node_turns, node_facts, NodeOk, around, happened, node-laws, facts-of, read_to, standing_at, has-record, StageSound, stage-sound, Keeps, Serves, each-has, ◌≡◌, ℕ, ◌==◌, Bool, true, false, [], ◌∷◌, ◌++◌, reverse, refl, sym, ◌∙◌, ap, subst, Some, None, if◌then◌else◌, inl, inr, reverse-append, decided-stands, PostOk, standing-ok, on-message-serves}
 use Rattle.commit_record.specs.declared.states.RecordState.TheVariants as records
 use Rattle.effect_form.specs.declared.effects.Effect.TheVariants as effect
 use Rattle.message_form.specs.declared.messages.Message.TheVariants as message
 use Rattle.repository_laws.specs.Facts as repositories
-use Rattle.repository_laws.proofs.Logs.{decided-stands}
-use Rattle.broker_laws.proofs.Desks.{PostOk, standing-ok}
 use Rattle.complete_law.proofs.BrokerMoves.{node-there, turn-there}
-use Rattle.repository_laws.proofs.ReadSteps.{on-message-serves}
 use Rattle.complete_law.proofs.Answering.{heeds-read}
 use Rattle.complete_law.proofs.Hearings.{open-closed}
 use Rattle.complete_law.proofs.Places.{log_of, gated_of, Heeds, IsBegun, IsDecided, desk_of, standing_in, tasks_of, CalmWorld}
@@ -32,11 +27,7 @@ module _ (b : Base) (w : World) (calm : CalmWorld b w) (f : Refines (node_turns 
 
   blank-stands : standing_at b.script i b.run (tasks_of b i) [] nothing_heard ≡ None
   unfolding keep book
-  blank-stands = go (0 == b.run)
-    where
-      go : (c : Bool) → standing (if c then Idle else Idle) ≡ None
-      go true = refl
-      go false = refl
+  blank-stands = elim (0 == b.run) as (λ c. standing (if c then Idle else Idle) ≡ None) [ true ↦ refl | false ↦ refl ]
 
   known-i : (w.flags (broker i)).known ≡ true
   known-i = go (w.flags (broker i)).known refl
@@ -59,15 +50,9 @@ module _ (b : Base) (w : World) (calm : CalmWorld b w) (f : Refines (node_turns 
   ok : StageOk b.script i b.run (tasks_of b i) the-book st
   ok = stage-ok b.script i b.run (tasks_of b i) the-book heard
 
-  of : StageSound b.script i b.run (tasks_of b i) (IsBegun w) (IsDecided w) st
-  of = stage-sound b.script i b.run (tasks_of b i) (IsBegun w) (IsDecided w) heard the-book (calm.sound i)
-
   holds : PostHolds b.script i (tries the-book) (repository n) o.message
   holds = subst (λ z. PostHolds b.script i (tries the-book) z o.message) at-n
       (subst (PostOk b.script i b.run (tasks_of b i) (tries the-book)) stands (standing-ok b.script i b.run (tasks_of b i) the-book (subst (Clocks i) (sym counts) clock) st ok))
-
-  accept : accepts n (broker i) o.message ≡ true
-  accept = accepted b.script i n (tries the-book) o.message holds
 
   node-n : NodeOk (node_facts b.script) (around (happened (node_turns b.script) f.events)) (repository n) (soft_of (w.life (repository n)))
   node-n = node-there b w calm f (repository n) known-n
@@ -110,7 +95,7 @@ module _ (b : Base) (w : World) (calm : CalmWorld b w) (f : Refines (node_turns 
         answered r.0 (subst (λ (x : Out). Has (record { to = broker i; message = r.0 }) (on_message old (broker i) x.message).outs) is r.1) (subst (λ x. row b.script x heard (news r.0) ≡ Ignored → ⊥) (sym q) r.2)
 
     accept-of : (z : Out) → z ≡ o → accepts n (broker i) z.message ≡ true
-    accept-of z is = subst (λ (x : Out). accepts n (broker i) x.message ≡ true) (sym is) accept
+    accept-of z is = subst (λ (x : Out). accepts n (broker i) x.message ≡ true) (sym is) (accepted b.script i n (tries the-book) o.message holds)
 
     home-of : (z : Out) → z ≡ o → z.to ≡ repository n
     home-of z is = ap (λ (x : Out). x.to) is ∙ at-n
@@ -119,7 +104,6 @@ module _ (b : Base) (w : World) (calm : CalmWorld b w) (f : Refines (node_turns 
     number-of r e = ap (λ (x : NodeId). x.number) e
 
     serve : (s : Stage) → st ≡ s → StageOk b.script i b.run (tasks_of b i) the-book s → StageSound b.script i b.run (tasks_of b i) (IsBegun w) (IsDecided w) s → standing s ≡ Some o → P
-    serve Idle q k g e = absurd (cc e)
     serve (Refused t) q k g e = absurd g
     serve (Opening t) q k g e =
         let z : Out = record { to = repository t.stamp.home; message = message.Begin t.stamp t.task.timeout } in
@@ -143,11 +127,11 @@ module _ (b : Base) (w : World) (calm : CalmWorld b w) (f : Refines (node_turns 
         let is : z ≡ o = same_Some z o e in
         let home : t.stamp.home ≡ n = number-of t.stamp.home (home-of z is) in
         by-answer (Finishing t) z q is (commit-served b.script heard old i t (accept-of z is) (recorded t.stamp g home) (decided-so t k.0 home))
-    serve (Stopping t p) q k g e = absurd (cc e)
     serve (Closing t) q k g e =
         let z : Out = record { to = repository t.stamp.home; message = message.Withdraw t.stamp } in
         let is : z ≡ o = same_Some z o e in
         by-answer (Closing t) z q is (withdraw-served b.script heard old i t (accept-of z is) (recorded t.stamp g.0 (number-of t.stamp.home (home-of z is))))
+    serve _ q k g e = absurd (cc e)
 
     pub serves-broker : P
-    serves-broker = serve st refl ok of stands
+    serves-broker = serve st refl ok (stage-sound b.script i b.run (tasks_of b i) (IsBegun w) (IsDecided w) heard the-book (calm.sound i)) stands

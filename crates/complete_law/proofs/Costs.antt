@@ -1,24 +1,14 @@
 -- What a broker's messages cost, by its book: each attempt pays u to begin, v for each request, and z to end. What it has sent is never more than its attempts have paid.
-use Rattle.std.proofs.Common.{◌≡◌, ℕ, zero, suc, ◌+◌, ◌≤◌, ◌==◌, max, nat_lt, Bool, true, false, ◌&&◌, ◌||◌, length, List, [], ◌∷◌, ◌++◌, refl, sym, ◌∙◌, ap, subst, Option, Some, None, if◌then◌else◌, arith, slice_get}
-use Rattle.std.proofs.lemmas.Grind.{common_steps}
-use Rattle.std.proofs.lemmas.Bool.{false≢true}
-use Rattle.complete_law.proofs.Names.{StampParts, TimeParts, same_stamp, same_time, same_stamp-self, Decision, Effect, Outcome, Message, Out, Answer, Got, Stored, Request, ToRead, ToWrite, Stop, Asks, Over, Tree, Heard, Reply, Adds, Hears, Ignored, Act, Book, Try, enter, finish, front, gain, last_try, new_try, on_act, on_front, on_try, open_front, open_of, open_try, time_of, tries_of, is_none, next_clock, shown_to, another, stop_of, after_act, after_tries, by_clock, by_stage, due, owed, start, try_or_spent, ends, News, Begun, Answered, Refusal, Over_there, Decided, row, news, when, decided_commit, decided_early, Stage, Idle, Refused, Opening, Asking, Finishing, Stopping, Closing, by_last, by_stop, is_asking, is_closed, is_finished, no_answer, of_open, stage, stage_of, standing, Task, is_stamp, is_time, Desk, desk_at, desk_turn, fuel, hears, note_if, reply, say, settle_up, state, StageOk, stage-ok, if-open, Post, NodeId, BookSound, StageSound, stage-sound, Tells}
+use Rattle.complete_law.proofs.Names.{StampParts, TimeParts, same_stamp, same_time, same_stamp-self, Decision, Effect, Outcome, Message, Out, Answer, Got, Stored, Request, ToRead, ToWrite, Stop, Asks, Over, Tree, Heard, Reply, Adds, Hears, Ignored, Act, Book, Try, enter, finish, front, gain, last_try, new_try, on_act, on_front, on_try, open_front, open_of, open_try, time_of, tries_of, is_none, next_clock, shown_to, another, stop_of, after_act, after_tries, by_clock, by_stage, due, owed, start, try_or_spent, ends, News, Begun, Answered, Refusal, Over_there, Decided, row, news, when, decided_commit, decided_early, Stage, Idle, Refused, Opening, Asking, Finishing, Stopping, Closing, by_last, by_stop, is_asking, is_closed, is_finished, no_answer, of_open, stage, stage_of, standing, Task, is_stamp, is_time, Desk, desk_at, desk_turn, fuel, hears, note_if, reply, say, settle_up, state, StageOk, stage-ok, if-open, Post, NodeId, BookSound, StageSound, stage-sound, Tells, ◌≡◌, ℕ, zero, suc, ◌+◌, ◌≤◌, ◌==◌, max, nat_lt, Bool, true, false, ◌&&◌, ◌||◌, length, List, [], ◌∷◌, ◌++◌, refl, sym, ◌∙◌, ap, subst, Option, Some, None, if◌then◌else◌, arith, slice_get, common_steps, false≢true, Ending, if_open, Good, OwedOk, Stops, owed-ok, HasCome, ReplyOk, news-came, row-ok, enter-sound, ReplySound, owed-allowed, reply-sounds, settle-outs, state-note}
 use Rattle.pseudo_time.specs.declared.decisions.Decision.TheVariants as decision
 use Rattle.value_form.specs.declared.endings.Ending.TheVariants as ending
-use Rattle.value_form.specs.declared.endings.Ending.{Ending}
 use Rattle.effect_form.specs.declared.effects.Effect.TheVariants as effect
 use Rattle.effect_form.specs.declared.outcomes.Outcome.TheVariants as outcome
 use Rattle.message_form.specs.declared.messages.Message.TheVariants as message
-use Rattle.broker_core.specs.Book.{if_open}
 use Rattle.broker_core.specs.Stages.{is_settled}
 use Rattle.broker_core.specs.Turns.{note, send}
 use Rattle.complete_law.proofs.Loads.{load, load-append}
-use Rattle.broker_laws.proofs.Desks.{Good, OwedOk, Stops, owed-ok}
-use Rattle.broker_laws.specs.Posts.{HasCome}
-use Rattle.broker_laws.proofs.Desks.{ReplyOk, news-came, row-ok}
 use Rattle.broker_core.specs.Turns as desks
-use Rattle.broker_laws.proofs.BookSteps.{enter-sound}
-use Rattle.broker_laws.proofs.BookTurns.{ReplySound, owed-allowed, reply-sounds, settle-outs, state-note}
 
 -- the open attempt is the newest
 split : (g : Try → Try) (as' : List Act) (t : Try) → open_of as' ≡ Some t →
@@ -95,19 +85,11 @@ module _ (u v z : ℕ) (script : List ℕ → Tree) where
   stop-most t (Over e) = omega arith
 
   pos-more : (c : Bool) (t : Try) → pos c t ≤ pos true t
-  pos-more c t = by t.end
+  pos-more c t = elim t.end as (λ e. pos-by e c t ≤ pos-by e true t) [ None ↦ by-fresh (no_answer t) (stop_of script t) | Some o ↦ omega arith ]
     where
       by-fresh : (n : Bool) (s : Stop) → (if n && (if c then false else true) then u else at-stop t s) ≤ (if n && false then u else at-stop t s)
       by-fresh false s = omega arith
-      by-fresh true s = go c
-        where
-          go : (d : Bool) → (if (if d then false else true) then u else at-stop t s) ≤ at-stop t s
-          go true = omega arith
-          go false = stop-most t s
-
-      by : (e : Option Outcome) → pos-by e c t ≤ pos-by e true t
-      by None = by-fresh (no_answer t) (stop_of script t)
-      by (Some o) = omega arith
+      by-fresh true s = elim c as (λ d. (if (if d then false else true) then u else at-stop t s) ≤ at-stop t s) [ true ↦ omega arith | false ↦ stop-most t s ]
 
   pub rank-old : (h : Heard) (ts : List Try) → rank h ts ≤ old ts
   rank-old h [] = omega arith
@@ -205,40 +187,26 @@ module _ (u v z : ℕ) (script : List ℕ → Tree) where
         omega (arith, room, j)
 
     spent-pays : (h : Heard) (b : Book) (i c : ℕ) → Pays h b (effect.End i (outcome.Spent c))
-    spent-pays h b i c n = go b.acts
-      where
-        go : (as' : List Act) → RoomBy n h (b.run == run) as' → RoomBy n h (b.run == run) (on_act (λ a. record a { spent = Some c }) as')
-        go [] k = k
-        go (a ∷ as') k = k
+    spent-pays h b i c n = elim b.acts as (λ as'. RoomBy n h (b.run == run) as' → RoomBy n h (b.run == run) (on_act (λ a. record a { spent = Some c }) as')) [ [] ↦ λ k. k | a ∷ as' ↦ λ k. k ]
 
     try-pays : (h : Heard) (b : Book) (i : ℕ) (s : StampParts) → h.ended ≡ None → Pays h b (effect.Try i s)
     try-pays h b i s none n = go b.acts
       where
         go : (as' : List Act) → RoomBy n h (b.run == run) as' → RoomBy n h (b.run == run) (on_act (λ a. record a { tries = new_try a s ∷ a.tries }) as')
         go [] room = room
-        go (a ∷ as') room =
-            let k = need-open h (new_try a s) none refl in
-            let j = rank-old h (a.tries ++ tries_of as') in
-            let l = need-if (b.run == run) (of_open script h (new_try a s)) in
-            omega (arith, k, j, l, room)
+        go (a ∷ as') room = omega (arith, need-open h (new_try a s) none refl, rank-old h (a.tries ++ tries_of as'), need-if (b.run == run) (of_open script h (new_try a s)), room)
 
     -- what stands after an End is paid
     last-most : (h : Heard) (o : Option Try) → need (by_last h o) ≤ z
     last-most h None = omega arith
-    last-most h (Some t) = go (is_none t.end || is_closed h t)
-      where
-        go : (c : Bool) → need (if c then Idle else Closing t) ≤ z
-        go true = omega arith
-        go false = omega arith
+    last-most h (Some t) = elim (is_none t.end || is_closed h t) as (λ c. need (if c then Idle else Closing t) ≤ z) [ true ↦ omega arith | false ↦ omega arith ]
 
     -- the open attempt ends
     abbrev ended-acts : Book → Outcome → List Act
     ended-acts b o = on_try (finish o) b.acts
 
     ended-need : (h : Heard) (b : Book) (t : Try) (o : Outcome) → open_try b ≡ Some t → needed h (ended-acts b o) ≤ z
-    ended-need h b t o e =
-        let s = split (finish o) b.acts t e in
-        subst (λ x. need (stage_of script h x (front (tries_of (ended-acts b o)))) ≤ z) (sym s.4) (last-most h (front (tries_of (ended-acts b o))))
+    ended-need h b t o e = subst (λ x. need (stage_of script h x (front (tries_of (ended-acts b o)))) ≤ z) (sym (split (finish o) b.acts t e).4) (last-most h (front (tries_of (ended-acts b o))))
 
     -- an End that the home gave leaves nothing to be said
     settled-need : (h : Heard) (b : Book) (t : Try) (o : Outcome) → open_try b ≡ Some t → is_settled (Some o) ≡ true → needed h (ended-acts b o) ≡ 0
@@ -254,14 +222,12 @@ module _ (u v z : ℕ) (script : List ℕ → Tree) where
         let s = split (finish o) b.acts t e in
         let x : rank-in h b ≡ pos (is_stamp h.begun t.stamp) t + old s.0 = ap (rank h) s.1 in
         let y : rank h (tries_of (ended-acts b o)) ≡ u + (ac t.answers + (refused o + z)) + old s.0 = ap (rank h) s.2 in
-        let l = need-if (b.run == run) (stage_of script h (open_of (ended-acts b o)) (front (tries_of (ended-acts b o)))) in
-        omega (arith, x, y, l, less, paid, k)
+        omega (arith, x, y, need-if (b.run == run) (stage_of script h (open_of (ended-acts b o)) (front (tries_of (ended-acts b o)))), less, paid, k)
 
     stop-room : (c : ℕ) (h : Heard) (b : Book) (t : Try) (o : Outcome) (x : Ending) → stage script run b h ≡ Stopping t o → open_try b ≡ Some t → stop_of script t ≡ Over x → Room c h b → RoomBy c h (b.run == run) (ended-acts b o)
     stop-room c h b t o x st e stops room =
-        let p = pos-stop (is_stamp h.begun t.stamp) t (Over x) (split (λ x. x) b.acts t e).3 stops in
         let y : need-in h b ≡ z = ap need st in
-        end-room c 0 z h b t o e (ended-need h b t o e) (omega (arith, p)) (omega (arith, y, room))
+        end-room c 0 z h b t o e (ended-need h b t o e) (omega (arith, pos-stop (is_stamp h.begun t.stamp) t (Over x) (split (λ x. x) b.acts t e).3 stops)) (omega (arith, y, room))
 
     stop-pays : (h : Heard) (b : Book) (t : Try) (i : ℕ) (o : Outcome) → stage script run b h ≡ Stopping t o → open_try b ≡ Some t → Stops script me run acts t o → Pays h b (effect.End i o)
     stop-pays h b t i (outcome.Withdrawn l) st e stops c room = stop-room c h b t (outcome.Withdrawn l) (ending.Withdrawn l) st e stops room
@@ -306,8 +272,7 @@ module _ (u v z : ℕ) (script : List ℕ → Tree) where
     run-pays : (h : Heard) (b : Book) → b.acts ≡ [] → Pays h b (effect.Run run)
     run-pays h b none c room =
         let r : rank-in h b ≡ 0 = ap (λ as'. rank h (tries_of as')) none in
-        let n = need-if (run == run) Idle in
-        omega (arith, r, n, room)
+        omega (arith, r, need-if (run == run) Idle, room)
 
     owed-pays : (h : Heard) (b : Book) → h.ended ≡ None → (nat_lt b.run run ≡ true → b.acts ≡ []) → OptPays h b (owed script me run acts b h)
     owed-pays h b none early = go (nat_lt b.run run) refl
@@ -355,11 +320,7 @@ module _ (u v z : ℕ) (script : List ℕ → Tree) where
     pos-fresh c t n f = subst (λ (e : Option Outcome). pos-by e c t ≡ u) (sym n) (subst (λ (x : Bool). (if x then u else at-stop t (stop_of script t)) ≡ u) (sym f) refl)
 
     under-begun : (c : Bool) (t : Try) → c ≡ true → u ≤ under c t
-    under-begun c t e = subst (λ (x : Bool). u ≤ under x t) (sym e) (go (no_answer t))
-      where
-        go : (n : Bool) → u ≤ (if n && false then 0 else u + ac t.answers)
-        go true = omega arith
-        go false = omega arith
+    under-begun c t e = subst (λ (x : Bool). u ≤ under x t) (sym e) (elim (no_answer t) as (λ n. u ≤ (if n && false then 0 else u + ac t.answers)) [ true ↦ omega arith | false ↦ omega arith ])
 
     -- an open attempt goes on, and all that it had paid is under what it has paid now
     open-room : (c : ℕ) (h h' : Heard) (b : Book) (t t' : Try) (rest : List Try) (as' : List Act) → h'.ended ≡ None → t'.end ≡ None → tries_of b.acts ≡ t ∷ rest → tries_of as' ≡ t' ∷ rest → open_of as' ≡ Some t' →
@@ -367,40 +328,32 @@ module _ (u v z : ℕ) (script : List ℕ → Tree) where
     open-room c h h' b t t' rest as' none open' was is at paid k =
         let x : rank-in h b ≡ pos (is_stamp h.begun t.stamp) t + old rest = ap (rank h) was in
         let y : rank h' (tries_of as') ≡ pos (is_stamp h'.begun t'.stamp) t' + old rest = ap (rank h') is in
-        let j = need-open h' t' none open' in
-        let m = need-if (b.run == run) (stage_of script h' (open_of as') (front (tries_of as'))) in
         let o : needed h' as' ≡ need (of_open script h' t') = ap (λ w. need (stage_of script h' w (front (tries_of as')))) at in
-        omega (arith, paid, k, x, y, j, m, o)
+        omega (arith, paid, k, x, y, need-open h' t' none open', need-if (b.run == run) (stage_of script h' (open_of as') (front (tries_of as'))), o)
 
     begun-room : (c : ℕ) (h : Heard) (b : Book) (t : Try) → h.ended ≡ None → open_try b ≡ Some t → is-fresh (is_stamp h.begun t.stamp) t ≡ true → c ≤ rank-in h b → Room c (record h { begun = Some t.stamp }) b
     begun-room c h b t none e fresh k =
         let s = split (λ x. x) b.acts t e in
-        let f = pos-fresh (is_stamp h.begun t.stamp) t s.3 fresh in
         let l = under-begun (is_stamp (Some t.stamp) t.stamp) t (same_stamp-self t.stamp) in
-        open-room c h (record h { begun = Some t.stamp }) b t t s.0 b.acts none s.3 s.1 s.1 e (omega (arith, f, l)) k
+        open-room c h (record h { begun = Some t.stamp }) b t t s.0 b.acts none s.3 s.1 s.1 e (omega (arith, pos-fresh (is_stamp h.begun t.stamp) t s.3 fresh, l)) k
 
     gain-room : (c : ℕ) (h : Heard) (b : Book) (t : Try) (q : Request) (a : Answer) → h.ended ≡ None → open_try b ≡ Some t → stop_of script t ≡ Asks q → c ≤ rank-in h b → Room c h (record b { acts = on_try (gain a) b.acts })
     gain-room c h b t q a none e asks k =
         let s = split (gain a) b.acts t e in
-        let p = pos-stop (is_stamp h.begun t.stamp) t (Asks q) s.3 asks in
         let f : under (is_stamp h.begun t.stamp) (gain a t) ≡ u + ac (t.answers ++ a ∷ []) = ap (λ (w : Bool). if w then 0 else u + ac (t.answers ++ a ∷ [])) (gained-fresh (is_stamp h.begun t.stamp) t a) in
-        let n = ac-next t.answers a in
-        open-room c h h b t (gain a t) s.0 (on_try (gain a) b.acts) none s.3 s.1 s.2 (s.4 ∙ ap (if_open (gain a t)) s.3) (omega (arith, p, f, n)) k
+        open-room c h h b t (gain a t) s.0 (on_try (gain a) b.acts) none s.3 s.1 s.2 (s.4 ∙ ap (if_open (gain a t)) s.3) (omega (arith, pos-stop (is_stamp h.begun t.stamp) t (Asks q) s.3 asks, f, ac-next t.answers a)) k
 
     refused-room : (c : ℕ) (h : Heard) (b : Book) (t : Try) (q : Request) (o : Outcome) → open_try b ≡ Some t → stop_of script t ≡ Asks q → refused o ≡ v → c ≤ rank-in h b → RoomBy c h (b.run == run) (ended-acts b o)
-    refused-room c h b t q o e asks is k =
-        let p = pos-stop (is_stamp h.begun t.stamp) t (Asks q) (split (λ x. x) b.acts t e).3 asks in
-        end-room c z z h b t o e (ended-need h b t o e) (omega (arith, p, is)) (omega (arith, k))
+    refused-room c h b t q o e asks is k = end-room c z z h b t o e (ended-need h b t o e) (omega (arith, pos-stop (is_stamp h.begun t.stamp) t (Asks q) (split (λ x. x) b.acts t e).3 asks, is)) (omega (arith, k))
 
     settled-room : (c : ℕ) (h : Heard) (b : Book) (t : Try) (o : Outcome) → open_try b ≡ Some t → is_settled (Some o) ≡ true → pos (is_stamp h.begun t.stamp) t ≤ u + (ac t.answers + z) → c ≤ rank-in h b → RoomBy c h (b.run == run) (ended-acts b o)
     settled-room c h b t o e settled p k = let n = settled-need h b t o e settled in end-room c 0 0 h b t o e (omega (arith, n)) (omega (arith, p)) (omega (arith, k))
 
     closed-room : (c : ℕ) (h : Heard) (b : Book) (t : Try) → open_try b ≡ None → last_try b ≡ Some t → c ≤ rank-in h b → Room c (record h { closed = Some t.stamp }) b
     closed-room c h b t none last k =
-        let m = need-if (b.run == run) (stage_of script (record h { closed = Some t.stamp }) (open_try b) (last_try b)) in
         let n : need (stage_of script (record h { closed = Some t.stamp }) (open_try b) (last_try b)) ≡ 0 =
         subst (λ o. need (stage_of script (record h { closed = Some t.stamp }) o (last_try b)) ≡ 0) (sym none) (subst (λ o. need (by_last (record h { closed = Some t.stamp }) o) ≡ 0) (sym last) (shut (is_none t.end) (is_settled t.end))) in
-        omega (arith, k, m, n)
+        omega (arith, k, need-if (b.run == run) (stage_of script (record h { closed = Some t.stamp }) (open_try b) (last_try b)), n)
       where
         shut : (n s : Bool) → need (if n || (if n then false else (s || is_stamp (Some t.stamp) t.stamp)) then Idle else Closing t) ≡ 0
         shut true s = refl
@@ -497,11 +450,8 @@ module _ (u v z : ℕ) (script : List ℕ → Tree) where
 
       say-paid : (c : ℕ) (d : Desk) → d.outs ≡ [] → DeskRoom c d → c + load (weight u v z) (say script me run acts d).outs ≤ paid (say script me run acts d)
       say-paid c d none k =
-          let x = send-load d (standing (stage script run (At d) d.heard)) in
-          let l = stands (stage script run (At d) d.heard) in
           let y : load (weight u v z) d.outs ≡ 0 = ap (load (weight u v z)) none in
-          let p = send-paid d (standing (stage script run (At d) d.heard)) in
-          omega (arith, k, x, y, p, l)
+          omega (arith, k, send-load d (standing (stage script run (At d) d.heard)), y, send-paid d (standing (stage script run (At d) d.heard)), stands (stage script run (At d) d.heard))
 
       settled-paid : (c : ℕ) (d : Desk) → d.outs ≡ [] → Sound d.heard (At d) → DeskRoom c d → c + load (weight u v z) (say script me run acts (settle_up script me run acts (fuel acts) d)).outs ≤ paid (say script me run acts (settle_up script me run acts (fuel acts) d))
       settled-paid c d none sound k = say-paid c (settle_up script me run acts (fuel acts) d) (settle-outs script me run acts IsBegun IsDecided (fuel acts) d ∙ none) (settle-room c (fuel acts) d sound k)
@@ -529,8 +479,7 @@ module _ (u v z : ℕ) (script : List ℕ → Tree) where
           let g : Heard = record d.heard { gone = true } in
           let idle : need (stage_of script (record d.heard { gone = true }) (open_try (At d)) (last_try (At d))) ≡ 0 =
           subst (λ as'. need (stage_of script (record d.heard { gone = true }) (open_of as') (front (tries_of as'))) ≡ 0) (sym no-acts) refl in
-          let m = need-if ((At d).run == run) (stage_of script (record d.heard { gone = true }) (open_try (At d)) (last_try (At d))) in
           let k = settled-paid 0 (hears (record d.heard { gone = true }) d) none
           (record { past = sound.past; early = sound.early; trail = sound.trail; settled = sound.settled; started = sound.started; ended = sound.ended; begun = sound.begun; closed = sound.closed })
-          (omega (arith, idle, m)) in
+          (omega (arith, idle, need-if ((At d).run == run) (stage_of script (record d.heard { gone = true }) (open_try (At d)) (last_try (At d))))) in
           omega (arith, k)

@@ -1,16 +1,12 @@
 -- What a turn of one node leaves as it was, and how its log and life look after it.
-use Rattle.std.proofs.Common.{◌≡◌, ◌≢◌, ◌⊎◌, ℕ, ◌≤◌, ◌==◌, Bool, true, false, ◌&&◌, List, [], ◌∷◌, ◌++◌, reverse, cond, map, refl, sym, ◌∙◌, ap, subst, Some, None, if◌then◌else◌, inl, inr, append_assoc, arith}
-use Rattle.std.proofs.lemmas.Bool.{false≢true, true≢false}
-use Rattle.std.proofs.lemmas.List.{reverse-append, reverse-reverse}
-use Rattle.complete_law.proofs.Names.{Has, NodeId, NodeKind, Effect, Message, Out, Post, post, same_node, same_is, same_node-refl, eq-from, Fate, broker, Desk, turn-added, gives, Going, Taking, count, Base, Flags, Life, Sending, World, after_input, all_effects, flagged, lives_on, names, numbered, opened_life, sent_by, step, took, MayTake, times_taken, numbered-has, Entry}
+use Rattle.complete_law.proofs.Names.{Has, NodeId, NodeKind, Effect, Message, Out, Post, post, same_node, same_is, same_node-refl, eq-from, Fate, broker, Desk, turn-added, gives, Going, Taking, count, Base, Flags, Life, Sending, World, after_input, all_effects, flagged, lives_on, names, numbered, opened_life, sent_by, step, took, MayTake, times_taken, numbered-has, Entry, ◌≡◌, ◌≢◌, ◌⊎◌, ℕ, ◌≤◌, ◌==◌, Bool, true, false, ◌&&◌, List, [], ◌∷◌, ◌++◌, reverse, cond, map, refl, sym, ◌∙◌, ap, subst, Some, None, if◌then◌else◌, inl, inr, append_assoc, arith, false≢true, true≢false, reverse-append, reverse-reverse}
 use Rattle.broker_core.specs.Turns as desks
 use Rattle.world_core.specs.declared.entries.Entry.TheVariants as entry
 use Rattle.complete_law.proofs.Places.{CalmWorld, Flying, all-off, both-on, desk_of, log_of, tasks_of}
 
 -- the log of a life with a turn's effects
 pub grown-log : (gated fresh : List Effect) (new : List Effect) → reverse (gated ++ (fresh ++ reverse new)) ≡ new ++ reverse (gated ++ fresh)
-grown-log gated fresh new =
-    ap reverse (sym (append_assoc gated fresh (reverse new))) ∙ reverse-append (gated ++ fresh) (reverse new) ∙ ap (λ z. z ++ reverse (gated ++ fresh)) (reverse-reverse new)
+grown-log gated fresh new = ap reverse (sym (append_assoc gated fresh (reverse new))) ∙ reverse-append (gated ++ fresh) (reverse new) ∙ ap (λ z. z ++ reverse (gated ++ fresh)) (reverse-reverse new)
 
 module _ (b : Base) where
   -- the desk of a broker after a turn
@@ -44,18 +40,10 @@ other-copies : (k j : ℕ) (ts : List ℕ) → (k == j) ≡ false → count j (k
 other-copies k j ts e = let one : Bool → ℕ = λ b. cond b 1 0 in let x : ◌≡◌ {A = ℕ} (one (k == j)) 0 = ap one e in omega (arith, x)
 
 pub parted : (n m : NodeId) → (m ≡ n) ⊎ (m ≢ n)
-parted n m = go (same_node n m) refl
-  where
-    go : (t : Bool) → same_node n m ≡ t → (m ≡ n) ⊎ (m ≢ n)
-    go true e = inl (sym (same_is n m e))
-    go false e = inr (λ q. false≢true (sym e ∙ subst (λ z. same_node n z ≡ true) (sym q) (same_node-refl n)))
+parted n m = (elim (same_node n m) as (λ t. same_node n m ≡ t → (m ≡ n) ⊎ (m ≢ n)) [ true ↦ λ e. inl (sym (same_is n m e)) | false ↦ λ e. inr (λ q. false≢true (sym e ∙ subst (λ z. same_node n z ≡ true) (sym q) (same_node-refl n))) ]) refl
 
 pub not-same : (n m : NodeId) → m ≢ n → same_node n m ≡ false
-not-same n m ne = go (same_node n m) refl
-  where
-    go : (t : Bool) → same_node n m ≡ t → t ≡ false
-    go true e = absurd (ne (sym (same_is n m e)))
-    go false e = refl
+not-same n m ne = (elim (same_node n m) as (λ t. same_node n m ≡ t → t ≡ false) [ true ↦ λ e. absurd (ne (sym (same_is n m e))) | false ↦ λ e. refl ]) refl
 
 -- `l` is the node's life after it, and of a message that it took `Taken` holds
 pub record OneTurn (w w' : World) (n : NodeId) (l : Life) (Taken : Post → Type 0) : Type 0 where
@@ -115,10 +103,7 @@ module _ (b : Base) (w : World) (calm : CalmWorld b w) (n : NodeId) where
       ((k : ℕ) → numbered (step b w e).sendings k ≡ None → times_taken (step b w e) k ≡ 0) → OneTurn w (step b w e) n l Taken
   one-turn e named up keeps due sendings ticks l Taken lives outs copies untaken = record {
     here = both-on (names n e) (w.flags n).known (lives_on b w n (w.life n) e) (w.life n) (named n ∙ same_node-refl n) known ∙ lives;
-    there = λ m. elim (parted n m) [
-      | inl q ↦ inl q
-      | inr ne ↦ inr (ne, all-off (names m e) (w.flags m).known (lives_on b w m (w.life m) e) (w.life m) (others m ne))
-    ];
+    there = λ m. elim (parted n m) [ inl q ↦ inl q | inr ne ↦ inr (ne, all-off (names m e) (w.flags m).known (lives_on b w m (w.life m) e) (w.life m) (others m ne)) ];
     outs = outs;
     sendings = sendings;
     ticks = ticks;

@@ -1,14 +1,7 @@
 -- A gate moves what is open: messages that were owed were sent, and all else stands as it stood.
-use Rattle.std.proofs.Common.{◌≡◌, ◌⊎◌, ℕ, zero, suc, Bool, true, false, ◌||◌, not, List, [], ◌∷◌, ◌++◌, reverse, refl, sym, ◌∙◌, subst, Option, Some, None, slice_get, if◌then◌else◌, inl, inr}
-use Rattle.std.proofs.lemmas.Bool.{false≢true}
-use Rattle.complete_law.proofs.Names.{Has, StampParts, same_stamp, same_stamp-self, NodeId, Effect, Message, Out, Tree, or_else, settle_of, known, marks, Ignored, Heard, time_of, news, row, Stage, Idle, Refused, Opening, Asking, Finishing, Stopping, Closing, standing, repository, ToRead, ToWrite, decide-settles, settled-log, leaves, numbered}
-use Rattle.pseudo_time.proofs.ListLemmas.{has-reverse}
+use Rattle.complete_law.proofs.Names.{Has, StampParts, same_stamp, same_stamp-self, NodeId, Effect, Message, Out, Tree, or_else, settle_of, known, marks, Ignored, Heard, time_of, news, row, Stage, Idle, Refused, Opening, Asking, Finishing, Stopping, Closing, standing, repository, ToRead, ToWrite, decide-settles, settled-log, leaves, numbered, ◌≡◌, ◌⊎◌, ℕ, zero, suc, Bool, true, false, ◌||◌, not, List, [], ◌∷◌, ◌++◌, reverse, refl, sym, ◌∙◌, subst, Option, Some, None, slice_get, if◌then◌else◌, inl, inr, false≢true, has-reverse, knows, Nothing_new, has-at, Known, knows-has}
 use Rattle.effect_form.specs.declared.effects.Effect.TheVariants as effect
 use Rattle.message_form.specs.declared.messages.Message.TheVariants as message
-use Rattle.repository_log.specs.Logs.{knows}
-use Rattle.broker_core.specs.Rows.{Nothing_new}
-use Rattle.serial_law.proofs.Growths.{has-at}
-use Rattle.serial_law.proofs.LogLemmas.{Known, knows-has}
 
 -- ---- places in a list
 
@@ -21,14 +14,13 @@ at-end (z ∷ xs) ys x h = let k = at-end xs ys x h in (suc k.0, k.1, k.2)
 
 -- a request leaves
 pub request-leaves : (log : List Effect) (st : Stage) (o : Out) → standing st ≡ Some o → leaves log o ≡ true
-request-leaves log Idle o e = absurd (cc e)
 request-leaves log (Refused t) o e = let q : record { to = repository t.stamp.home; message = message.Withdraw t.stamp } ≡ o = cc e in subst (λ z. leaves log z ≡ true) q refl
 request-leaves log (Opening t) o e = let q : record { to = repository t.stamp.home; message = message.Begin t.stamp t.task.timeout } ≡ o = cc e in subst (λ z. leaves log z ≡ true) q refl
 request-leaves log (Asking t (ToRead a)) o e = let q : record { to = repository a.repository; message = message.Read (time_of t) a } ≡ o = cc e in subst (λ z. leaves log z ≡ true) q refl
 request-leaves log (Asking t (ToWrite a v)) o e = let q : record { to = repository a.repository; message = message.Write (time_of t) a v } ≡ o = cc e in subst (λ z. leaves log z ≡ true) q refl
 request-leaves log (Finishing t) o e = let q : record { to = repository t.stamp.home; message = message.Commit t.stamp } ≡ o = cc e in subst (λ z. leaves log z ≡ true) q refl
-request-leaves log (Stopping t p) o e = absurd (cc e)
 request-leaves log (Closing t) o e = let q : record { to = repository t.stamp.home; message = message.Withdraw t.stamp } ≡ o = cc e in subst (λ z. leaves log z ≡ true) q refl
+request-leaves log _ o e = absurd (cc e)
 
 -- nothing new is ignored
 nothing-new : (script : List ℕ → Tree) (st : Stage) (h : Heard) → row script st h Nothing_new ≡ Ignored
@@ -54,7 +46,7 @@ learn-settles (f ∷ l) s c (inl e) = subst (λ g. (x : Bool) × (settle_of (mar
 
 -- an Ask leaves where its stamp isn't known
 pub ask-leaves : (l : List Effect) (s : StampParts) (to : NodeId) → known (reverse l) s ≡ None → leaves l (record { to = to; message = message.Ask s }) ≡ true
-ask-leaves l s to none = go (knows l s) refl
+ask-leaves l s to none = (elim (knows l s) as (λ k. knows l s ≡ k → not k ≡ true) [ false ↦ λ e. refl | true ↦ λ e. absurd (by (knows-has l s e)) ]) refl
   where
     never : (x : Bool) → known (reverse l) s ≡ Some x → ⊥
     never x e = let no : Some x ≡ None = sym e ∙ none in cc no
@@ -62,10 +54,6 @@ ask-leaves l s to none = go (knows l s) refl
     by : Known l s → ⊥
     by (inl (d, h)) = let k = decide-settles (reverse l) s d (has-reverse l (effect.Decide s d) h) in never k.0 k.1
     by (inr (c, h)) = let k = learn-settles (reverse l) s c (has-reverse l (effect.Learn s c) h) in never k.0 k.1
-
-    go : (k : Bool) → knows l s ≡ k → not k ≡ true
-    go false e = refl
-    go true e = absurd (by (knows-has l s e))
 
 pub numbered-kept : {X : Type 0} (xs ys : List X) (k : ℕ) (x : X) → numbered xs k ≡ Some x → numbered (xs ++ ys) k ≡ Some x
 numbered-kept xs ys zero x e = absurd (cc e)

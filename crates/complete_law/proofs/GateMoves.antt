@@ -1,18 +1,13 @@
 -- The entry Gate keeps what always holds.
-use Rattle.std.proofs.Common.{◌≡◌, ◌⊎◌, ℕ, suc, ◌≤◌, ◌==◌, Bool, true, false, ◌&&◌, List, [], map, reverse, refl, sym, ◌∙◌, ap, subst, Some, None, if◌then◌else◌, inl, inr, append-nil, arith}
-use Rattle.std.proofs.lemmas.List.{reverse-append}
-use Rattle.std.specs.List.{filter}
-use Rattle.complete_law.proofs.Names.{Has, has-either, has-right, StampParts, TimeParts, Decision, NodeId, Effect, Message, Out, Post, post, posts, same_node, same_node-refl, HeldRead, Asker, known, waits_for, Heard, Try, book, find, tries, is_none, Ignored, row, news, stage, repository, broker, desk_at, state, IsRested, leaves, Base, Flags, Life, Sending, World, flagged, gated_life, leaving, lives_on, numbered, sent_by, step, all_effects, MayGate, times_taken, Refines, node_turns, node_facts, sent-gate, Waits, read_to, standing_at, DeskSound, filter-has, ask_of, tell_of, map-has}
+use Rattle.complete_law.proofs.Names.{Has, has-either, has-right, StampParts, TimeParts, Decision, NodeId, Effect, Message, Out, Post, post, posts, same_node, same_node-refl, HeldRead, Asker, known, waits_for, Heard, Try, book, find, tries, is_none, Ignored, row, news, stage, repository, broker, desk_at, state, IsRested, leaves, Base, Flags, Life, Sending, World, flagged, gated_life, leaving, lives_on, numbered, sent_by, step, all_effects, MayGate, times_taken, Refines, node_turns, node_facts, sent-gate, Waits, read_to, standing_at, DeskSound, filter-has, ask_of, tell_of, map-has, ◌≡◌, ◌⊎◌, ℕ, suc, ◌≤◌, ◌==◌, Bool, true, false, ◌&&◌, List, [], map, reverse, refl, sym, ◌∙◌, ap, subst, Some, None, if◌then◌else◌, inl, inr, append-nil, arith, reverse-append, filter, step-known, unknown-stays, has-filter, has-map}
 use Rattle.effect_form.specs.declared.effects.Effect.TheVariants as effect
 use Rattle.message_form.specs.declared.messages.Message.TheVariants as message
 use Rattle.world_core.specs.declared.entries.Entry.TheVariants as entry
-use Rattle.serial_law.proofs.Steps.{step-known, unknown-stays}
 use Rattle.complete_law.proofs.BrokerEntries.{sound-more}
 use Rattle.complete_law.proofs.Frames.{not-same, parted}
 use Rattle.complete_law.proofs.GateEntries.{answer-leaves, ask-leaves, at-end, numbered-before, numbered-kept, request-leaves}
 use Rattle.complete_law.proofs.Idles.{waits-has}
 use Rattle.complete_law.proofs.Places.{log_of, gated_of, held_of, IsBegun, IsDecided, Flying, AskedFor, tasks_of, desk_of, standing_in, Placed, SaidOf, CalmWorld, all-off, both-on}
-use Rattle.serial_law.proofs.Growths.{has-filter, has-map}
 
 module _ (b : Base) (w : World) (calm : CalmWorld b w) (f : Refines (node_turns b.script) (node_facts b.script) b (λ n. []) (λ n. []) [] (λ t. ⊥) w) (n : NodeId) (may : MayGate w n) where
   abbrev w' : World
@@ -28,16 +23,10 @@ module _ (b : Base) (w : World) (calm : CalmWorld b w) (f : Refines (node_turns 
   ]
 
   log-same : (m : NodeId) → log_of w' m ≡ log_of w m
-  log-same m = elim (lifes m) [
-    | inl e ↦ ap (λ (l : Life). reverse (all_effects l)) e
-    | inr e ↦ ap (λ (l : Life). reverse (all_effects l)) e.1 ∙ ap reverse (append-nil (all_effects (w.life m)))
-  ]
+  log-same m = elim (lifes m) [ inl e ↦ ap (λ (l : Life). reverse (all_effects l)) e | inr e ↦ ap (λ (l : Life). reverse (all_effects l)) e.1 ∙ ap reverse (append-nil (all_effects (w.life m))) ]
 
   mind-same : (m : NodeId) → (w'.life m).mind ≡ (w.life m).mind
-  mind-same m = elim (lifes m) [
-    | inl e ↦ ap (λ (l : Life). l.mind) e
-    | inr e ↦ ap (λ (l : Life). l.mind) e.1
-  ]
+  mind-same m = elim (lifes m) [ inl e ↦ ap (λ (l : Life). l.mind) e | inr e ↦ ap (λ (l : Life). l.mind) e.1 ]
 
   gated-more : (m : NodeId) (x : Effect) → Has x (gated_of w m) → Has x (gated_of w' m)
   gated-more m x h = elim (lifes m) [
@@ -61,10 +50,7 @@ module _ (b : Base) (w : World) (calm : CalmWorld b w) (f : Refines (node_turns 
   -- what was on its way stays so, where it leaves
   flies : (from : NodeId) (o : Out) → leaves (all_effects (w.life from)) o ≡ true → Flying w from o → Flying w' from o
   flies from o leave (inr (k, s, at, is, none)) = inr (k, s, numbered-kept w.sendings added k s at, is, none)
-  flies from o leave (inl h) = elim (lifes from) [
-    | inl e ↦ inl (subst (λ (l : Life). Has o l.outs) (sym e) h)
-    | inr e ↦ inr (sent e.0)
-  ]
+  flies from o leave (inl h) = elim (lifes from) [ inl e ↦ inl (subst (λ (l : Life). Has o l.outs) (sym e) h) | inr e ↦ inr (sent e.0) ]
     where
       sent : from ≡ n → (k : ℕ) × (s : Sending) × (numbered w'.sendings k ≡ Some s) × (s.post ≡ post from o) × (times_taken w' k ≡ 0)
       sent e =
@@ -77,10 +63,7 @@ module _ (b : Base) (w : World) (calm : CalmWorld b w) (f : Refines (node_turns 
           (suc k.0, x, k.1, ap (λ z. post z o) (sym e), calm.untaken (suc k.0) k.2)
 
   outs-less : (m : NodeId) (o : Out) → Has o (w'.life m).outs → Has o (w.life m).outs
-  outs-less m o h = elim (lifes m) [
-    | inl e ↦ subst (λ (l : Life). Has o l.outs) e h
-    | inr e ↦ absurd (subst (λ (l : Life). Has o l.outs) e.1 h)
-  ]
+  outs-less m o h = elim (lifes m) [ inl e ↦ subst (λ (l : Life). Has o l.outs) e h | inr e ↦ absurd (subst (λ (l : Life). Has o l.outs) e.1 h) ]
 
   -- ---- brokers
 

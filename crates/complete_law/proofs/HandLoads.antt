@@ -1,23 +1,13 @@
 -- What a repository's turn adds to what it owes, stores, may ask for, holds and keeps: no more than the price of the message that it took.
-use Rattle.std.proofs.Common.{◌≡◌, ℕ, ◌+◌, ◌≤◌, ◌==◌, Bool, true, false, ◌||◌, not, List, [], ◌∷◌, refl, sym, ◌∙◌, ap, subst, Option, Some, None, if◌then◌else◌, inl, arith}
-use Rattle.std.specs.List.{filter}
-use Rattle.std.specs.BTreeMap.{is_at}
 use Rattle.std.specs.BTreeSet.{insert_key}
-use Rattle.std.specs.Ordering.{match_ordering}
-use Rattle.std.specs.declared.cmp.Ordering.{Ordering}
-use Rattle.std.specs.declared.cmp.Ordering.TheVariants.{Greater}
-use Rattle.complete_law.proofs.Names.{StampParts, TimeParts, time_cmp, same_stamp, Decision, NodeId, ObjectId, Value, Effect, Message, RecordState, ReadStep, WriteStep, is_settled, read_step, write_step, stands_written, HeldRead, Asker, is_commit, marks, known, record_of, Hand, now, note, send, repository, unhold, hold, waits_for, ask_for, read_as, read_known, on_read, reread, release, tells, tell_askers, begin_as, on_begin, close_as, on_close, write_as, on_write, ask_as, on_ask, learn_as, on_learn, accepts, on_message, Waits, decide-settles}
-use Rattle.std.proofs.lemmas.Bool.{false≢true, true≢false}
+use Rattle.complete_law.proofs.Names.{StampParts, TimeParts, time_cmp, same_stamp, Decision, NodeId, ObjectId, Value, Effect, Message, RecordState, ReadStep, WriteStep, is_settled, read_step, write_step, stands_written, HeldRead, Asker, is_commit, marks, known, record_of, Hand, now, note, send, repository, unhold, hold, waits_for, ask_for, read_as, read_known, on_read, reread, release, tells, tell_askers, begin_as, on_begin, close_as, on_close, write_as, on_write, ask_as, on_ask, learn_as, on_learn, accepts, on_message, Waits, decide-settles, ◌≡◌, ℕ, ◌+◌, ◌≤◌, ◌==◌, Bool, true, false, ◌||◌, not, List, [], ◌∷◌, refl, sym, ◌∙◌, ap, subst, Option, Some, None, if◌then◌else◌, inl, arith, filter, is_at, match_ordering, Ordering, Greater, false≢true, true≢false, asker_cmp, waits-remove, read-waits}
 use Rattle.pseudo_time.specs.declared.decisions.Decision.TheVariants as decision
 use Rattle.effect_form.specs.declared.effects.Effect.TheVariants as effect
 use Rattle.message_form.specs.declared.messages.Message.TheVariants as message
 use Rattle.commit_record.specs.declared.states.RecordState.TheVariants as state
 use Rattle.object_history.specs.declared.steps.ReadStep.TheVariants as read
 use Rattle.object_history.specs.declared.steps.WriteStep.TheVariants as write
-use Rattle.repository_core.specs.Hands.{asker_cmp}
 use Rattle.repository_core.specs.Rows.{row}
-use Rattle.repository_laws.proofs.HeldLemmas.{waits-remove}
-use Rattle.repository_laws.proofs.ReadSteps.{read-waits}
 use Rattle.complete_law.proofs.AskLoads.{asked-free, free, held-free, noted-free, put-free, putters, released-free, removed-free, times}
 use Rattle.complete_law.proofs.GateEntries.{learn-settles}
 use Rattle.complete_law.proofs.Loads.{if-from, load, load-append}
@@ -109,9 +99,8 @@ module _ (a t s q : ℕ) where
       go : (c : Bool) → ((e.waits.home == h.number) || waits_for e.waits before) ≡ c → measure (if c then hold x e h else send (repository e.waits.home) (message.Ask e.waits) (hold x e h)) ≤ measure h + (a + (s + q))
       go true p = let i = held-free q (a + (s + q)) low x e (now h) h.held in omega (arith, i)
       go false p =
-          let i = asked-free q (a + (s + q)) low x e (now h) h.held waits (not-held (waits_for e.waits h.held) refl (off (e.waits.home == h.number) (waits_for e.waits before) p)) in
           let j = sends (hold x e h) (repository e.waits.home) (message.Ask e.waits) in
-          omega (arith, i, j)
+          omega (arith, asked-free q (a + (s + q)) low x e (now h) h.held waits (not-held (waits_for e.waits h.held) refl (off (e.waits.home == h.number) (waits_for e.waits before) p)), j)
 
   reads-as : (before : List (TimeParts × HeldRead)) (h : Hand) (from : NodeId) (x : TimeParts) (o : ObjectId) (r : ReadStep) → read_step (marks (now h)) o x ≡ r →
       ((y : StampParts) → waits_for y h.held ≡ true → waits_for y before ≡ true) → measure (read_as before h from x o r) ≤ measure h + (a + (s + q))
@@ -124,10 +113,7 @@ module _ (a t s q : ℕ) where
   unholds x h = let i = removed-free q (a + (s + q)) low (is_at (time_cmp x)) (now h) h.held in omega (arith, i)
 
   reads-on : (h : Hand) (from : NodeId) (x : TimeParts) (o : ObjectId) → measure (read_as h.held (unhold x h) from x o (read_step (marks (now h)) o x)) ≤ measure h + (a + (s + q))
-  reads-on h from x o =
-      let i = reads-as h.held (unhold x h) from x o (read_step (marks (now h)) o x) refl (λ y j. waits-remove y (is_at (time_cmp x)) h.held j) in
-      let j = unholds x h in
-      omega (arith, i, j)
+  reads-on h from x o = omega (arith, reads-as h.held (unhold x h) from x o (read_step (marks (now h)) o x) refl (λ y j. waits-remove y (is_at (time_cmp x)) h.held j), unholds x h)
 
   reads-known : (h : Hand) (from : NodeId) (x : TimeParts) (o : ObjectId) (c : Option Bool) → measure (read_known h from x o c) ≤ measure h + (a + (s + q))
   reads-known h from x o (Some false) = let i = sends (unhold x h) from (message.Ended x) in let j = unholds x h in omega (arith, i, j)
@@ -146,25 +132,20 @@ module _ (a t s q : ℕ) where
   unfolding release
   releases x h e =
       let i = rereads (filter (λ e. same_stamp e.1.waits x) h.held) (record h { held = filter (λ e. not (same_stamp e.1.waits x)) h.held }) in
-      let j = times-parted (a + (s + q)) (λ (e : TimeParts × HeldRead). same_stamp e.1.waits x) h.held in
       let l = released-free q x (now h) h.held e in
-      omega (arith, i, j, l)
+      omega (arith, i, times-parted (a + (s + q)) (λ (e : TimeParts × HeldRead). same_stamp e.1.waits x) h.held, l)
 
   tells-all : (as' : List Asker) (x : StampParts) (c : Bool) (h : Hand) → (measure (tells as' x c h) ≤ measure h + times t as') × (now (tells as' x c h) ≡ now h)
   tells-all [] x c h = (omega arith, refl)
   tells-all (b ∷ as') x c h =
       let i = tells-all as' x c (send (repository b.repository) (message.Tell x c) h) in
-      let l = i.0 in
-      let j = sends h (repository b.repository) (message.Tell x c) in
-      (omega (arith, l, j), i.1)
+      (omega (arith, i.0, sends h (repository b.repository) (message.Tell x c)), i.1)
 
   tells-askers : (x : StampParts) (c : Bool) (h : Hand) → (measure (tell_askers x c h) ≤ measure h) × (now (tell_askers x c h) ≡ now h)
   unfolding tell_askers
   tells-askers x c h =
       let i = tells-all (filter (λ b. same_stamp b.stamp x) h.askers) x c (record h { askers = filter (λ b. not (same_stamp b.stamp x)) h.askers }) in
-      let l = i.0 in
-      let j = times-parted t (λ (b : Asker). same_stamp b.stamp x) h.askers in
-      (omega (arith, l, j), i.1)
+      (omega (arith, i.0, times-parted t (λ (b : Asker). same_stamp b.stamp x) h.askers), i.1)
 
   begins-as : (h : Hand) (from : NodeId) (x : StampParts) (n : ℕ) (r : Option RecordState) → measure (begin_as h from x n r) ≤ measure h + (a + s)
   begins-as h from x n None = let i = sends (note (effect.Begin x (h.moment + n)) h) from (message.Begun x) in let j = notes (effect.Begin x (h.moment + n)) h refl in omega (arith, i, j)
@@ -175,11 +156,8 @@ module _ (a t s q : ℕ) where
   closes-as h from x d None = omega arith
   closes-as h from x d (Some (state.Unknown n)) =
       let told = tells-askers x (is_commit d) (send from (message.Decided x d) (note (effect.Decide x d) h)) in
-      let l = told.0 in
       let i = releases x (tell_askers x (is_commit d) (send from (message.Decided x d) (note (effect.Decide x d) h))) (subst (λ z. is_settled (known z x) ≡ true) (sym told.1) (decide-known (now h) x d)) in
-      let j = sends (note (effect.Decide x d) h) from (message.Decided x d) in
-      let n = notes (effect.Decide x d) h refl in
-      omega (arith, l, i, j, n)
+      omega (arith, told.0, i, sends (note (effect.Decide x d) h) from (message.Decided x d), notes (effect.Decide x d) h refl)
   closes-as h from x d (Some (state.Decided e)) = let i = sends h from (message.Decided x e) in omega (arith, i)
 
   writes-as : (h : Hand) (from : NodeId) (x : TimeParts) (o : ObjectId) (v : Value) (b c : Bool) (w : WriteStep) → measure (write_as h from x o v b c w) ≤ measure h + (a + (s + q))
@@ -217,8 +195,4 @@ module _ (a t s q : ℕ) where
   -- a message that is taken
   pub taken : (h : Hand) (from : NodeId) (m : Message) → measure (on_message h from m) ≤ measure h + if-from (accepts h.number from m) (price m)
   unfolding on_message
-  taken h from m = go (accepts h.number from m)
-    where
-      go : (c : Bool) → measure (if c then row h from m else h) ≤ measure h + if-from c (price m)
-      go true = rows h from m
-      go false = omega arith
+  taken h from m = elim (accepts h.number from m) as (λ c. measure (if c then row h from m else h) ≤ measure h + if-from c (price m)) [ true ↦ rows h from m | false ↦ omega arith ]

@@ -1,17 +1,12 @@
 -- What a message that comes to a broker tells is so: no Ended comes for a request that stands.
-use Rattle.std.proofs.Common.{◌≡◌, ℕ, Bool, true, false, List, [], ◌∷◌, ◌++◌, reverse, refl, sym, ◌∙◌, ap, subst, Some, None, if◌then◌else◌, inl, inr}
-use Rattle.std.proofs.lemmas.Bool.{true≢false}
-use Rattle.complete_law.proofs.Names.{Has, every-has, StampParts, TimeParts, same_time, same_stamp-self, Decision, NodeId, NodeKind, Effect, Message, Grew, Request, Asks, Over, known, WasSent, Book, Try, book, find, open_try, time_of, tries, is_none, stop_of, news, repository, broker, Task, IsTidy, FitsLog, open-first, each-found, clocks, grown, post-grown, Clocks, IsBelow, Base, Life, World, sent_by, LogFacts, logs_at, kind_post, node_facts, SentOk, Tells, each-has}
-use Rattle.pseudo_time.proofs.OrderLemmas.{same_time-is}
+use Rattle.complete_law.proofs.Names.{Has, every-has, StampParts, TimeParts, same_time, same_stamp-self, Decision, NodeId, NodeKind, Effect, Message, Grew, Request, Asks, Over, known, WasSent, Book, Try, book, find, open_try, time_of, tries, is_none, stop_of, news, repository, broker, Task, IsTidy, FitsLog, open-first, each-found, clocks, grown, post-grown, Clocks, IsBelow, Base, Life, World, sent_by, LogFacts, logs_at, kind_post, node_facts, SentOk, Tells, each-has, ◌≡◌, ℕ, Bool, true, false, List, [], ◌∷◌, ◌++◌, reverse, refl, sym, ◌∙◌, ap, subst, Some, None, if◌then◌else◌, inl, inr, true≢false, same_time-is, begin-home, decide-home, decide-cause, SettledBy, settle-marks}
 use Rattle.pseudo_time.specs.declared.decisions.Decision.TheVariants as decision
 use Rattle.pseudo_time.specs.declared.nodes.NodeKind.TheVariants as kind
 use Rattle.value_form.specs.declared.endings.Ending.TheVariants as ending
 use Rattle.effect_form.specs.declared.effects.Effect.TheVariants as effect
 use Rattle.message_form.specs.declared.messages.Message.TheVariants as message
 use Rattle.repository_laws.specs.Facts as repositories
-use Rattle.repository_laws.proofs.Logs.{begin-home, decide-home, decide-cause}
 use Rattle.complete_law.proofs.Places.{log_of, gated_of, IsBegun, IsDecided, SaidOf, CalmWorld}
-use Rattle.serial_law.proofs.LogLemmas.{SettledBy, settle-marks}
 
 found-same : (s : StampParts) (ts : List Try) (t u : Try) → find s ts ≡ Some t → find s ts ≡ Some u → t ≡ u
 found-same s ts t u h k = let e : Some t ≡ Some u = sym h ∙ k in cc e
@@ -21,11 +16,7 @@ module _ (b : Base) (w : World) (calm : CalmWorld b w) (facts : LogFacts (node_f
   L n = reverse (logs_at (λ n. []) w n)
 
   pub gated-same : (n : NodeId) → gated_of w n ≡ L n
-  gated-same n = go (w.flags n).known refl
-    where
-      go : (c : Bool) → (w.flags n).known ≡ c → gated_of w n ≡ reverse (if c then (w.life n).gated else [])
-      go true e = refl
-      go false e = ap (λ (l : Life). reverse l.gated) (calm.outside n e)
+  gated-same n = (elim (w.flags n).known as (λ c. (w.flags n).known ≡ c → gated_of w n ≡ reverse (if c then (w.life n).gated else [])) [ true ↦ λ e. refl | false ↦ λ e. ap (λ (l : Life). reverse l.gated) (calm.outside n e) ]) refl
 
   pub says : (from to : NodeId) (m : Message) → Has (record { from = from; to = to; message = m }) (sent_by w) → kind_post b.script (sent_by w) from.kind from.number (L from) (record { to = to; message = m })
   says from to m h = every-has (SentOk (node_facts b.script) (sent_by w) L) (sent_by w) (record { from = from; to = to; message = m }) facts.sent_ok h
@@ -50,13 +41,11 @@ module _ (b : Base) (w : World) (calm : CalmWorld b w) (facts : LogFacts (node_f
         let mine = subst (λ m. WasSent (sent_by w) (broker m) (repository i) (message.Commit t.stamp)) own sent in
         let k = post-grown b.script n (L (broker n)) fresh (repository i) (message.Commit t.stamp) tidy grew (says (broker n) (repository i) (message.Commit t.stamp) mine) in
         let found' : find t.stamp (tries (book (fresh ++ L (broker n)))) ≡ Some t = subst (λ l. find t.stamp (tries (book l)) ≡ Some t) log-is found in
-        let same : k.2.0 ≡ t = found-same t.stamp (tries (book (fresh ++ L (broker n)))) k.2.0 t k.2.1 found' in
-        (refl, subst (λ (u : Try). stop_of b.script u ≡ Over ending.Finished) same k.2.3)
+        (refl, subst (λ (u : Try). stop_of b.script u ≡ Over ending.Finished) (found-same t.stamp (tries (book (fresh ++ L (broker n)))) k.2.0 t k.2.1 found') k.2.3)
     open-closed t found none own ticks never decision.Withdrawn i sent =
         let mine = subst (λ m. WasSent (sent_by w) (broker m) (repository i) (message.Withdraw t.stamp)) own sent in
         let k : SaidOf b w n (message.Withdraw t.stamp) = calm.said n (record { to = repository i; message = message.Withdraw t.stamp }) (inr mine) in
-        let same : k.1.0 ≡ t = found-same t.stamp (tries (book (log_of w (broker n)))) k.1.0 t k.1.1 found in
-        let ended : is_none t.end ≡ false = subst (λ (u : Try). is_none u.end ≡ false) same k.1.2 in
+        let ended : is_none t.end ≡ false = subst (λ (u : Try). is_none u.end ≡ false) (found-same t.stamp (tries (book (log_of w (broker n)))) k.1.0 t k.1.1 found) k.1.2 in
         absurd (true≢false (sym (ap is_none none) ∙ ended))
     open-closed t found none own ticks never (decision.Expired x m) i h = absurd (never m h)
 
@@ -67,18 +56,15 @@ module _ (b : Base) (w : World) (calm : CalmWorld b w) (facts : LogFacts (node_f
         let mine = subst (λ m. WasSent (sent_by w) (broker m) (repository i) (message.Commit t.stamp)) own sent in
         let k = post-grown b.script n (L (broker n)) fresh (repository i) (message.Commit t.stamp) tidy grew (says (broker n) (repository i) (message.Commit t.stamp) mine) in
         let found' : find t.stamp (tries (book (fresh ++ L (broker n)))) ≡ Some t = subst (λ l. find t.stamp (tries (book l)) ≡ Some t) log-is found in
-        let same : k.2.0 ≡ t = found-same t.stamp (tries (book (fresh ++ L (broker n)))) k.2.0 t k.2.1 found' in
-        let no : Over ending.Finished ≡ Asks q = sym (subst (λ (u : Try). stop_of b.script u ≡ Over ending.Finished) same k.2.3) ∙ asks in
+        let no : Over ending.Finished ≡ Asks q = sym (subst (λ (u : Try). stop_of b.script u ≡ Over ending.Finished) (found-same t.stamp (tries (book (fresh ++ L (broker n)))) k.2.0 t k.2.1 found') k.2.3) ∙ asks in
         absurd (cc no)
     asking-undecided t q found none asks own decision.Withdrawn i h =
         let sent = (each-has _ (L (repository i)) (effect.Decide t.stamp decision.Withdrawn) (facts.proofs (repository i)) h).1 in
         let mine = subst (λ m. WasSent (sent_by w) (broker m) (repository i) (message.Withdraw t.stamp)) own sent in
         let k : SaidOf b w n (message.Withdraw t.stamp) = calm.said n (record { to = repository i; message = message.Withdraw t.stamp }) (inr mine) in
-        let same : k.1.0 ≡ t = found-same t.stamp (tries (book (log_of w (broker n)))) k.1.0 t k.1.1 found in
-        let ended : is_none t.end ≡ false = subst (λ (u : Try). is_none u.end ≡ false) same k.1.2 in
+        let ended : is_none t.end ≡ false = subst (λ (u : Try). is_none u.end ≡ false) (found-same t.stamp (tries (book (log_of w (broker n)))) k.1.0 t k.1.1 found) k.1.2 in
         absurd (true≢false (sym (ap is_none none) ∙ ended))
-    asking-undecided t q found none asks own (decision.Expired x m) i h =
-        facts.ticked m (each-has _ (L (repository i)) (effect.Decide t.stamp (decision.Expired x m)) (facts.proofs (repository i)) h).1
+    asking-undecided t q found none asks own (decision.Expired x m) i h = facts.ticked m (each-has _ (L (repository i)) (effect.Decide t.stamp (decision.Expired x m)) (facts.proofs (repository i)) h).1
 
     asking-unknown : (t : Try) (q : Request) → find t.stamp (tries (book (log_of w (broker n)))) ≡ Some t → t.end ≡ None → stop_of b.script t ≡ Asks q → t.stamp.broker ≡ n →
         (i : ℕ) (c : Bool) → known (L (repository i)) t.stamp ≡ Some c → ⊥

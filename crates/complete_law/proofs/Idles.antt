@@ -1,18 +1,12 @@
 -- At an idle place the nodes rest, so every broker is done.
-use Rattle.std.proofs.Common.{◌≡◌, ◌⊎◌, ℕ, zero, suc, ◌+◌, ◌==◌, ◌≤◌, nat_lt, Bool, true, false, ◌||◌, List, [], ◌∷◌, ◌++◌, reverse, min, refl, sym, ◌∙◌, ap, subst, Some, None, is_some, if◌then◌else◌, inl, inr, append-nil, arith}
-use Rattle.std.proofs.lemmas.Bool.{false≢true}
-use Rattle.complete_law.proofs.Names.{Every, Has, every-append, every-has, StampParts, TimeParts, same_stamp, same_stamp-is, NodeId, ObjectId, Value, Effect, Out, Post, Fate, copies_of, Tree, Plan, InRange, IsOfLanguage, asked_of, Inside, IsReady, StageOk, stage-ok, stop_of, HeldRead, known, waits_for, WriteSent, WasSent, decide-settles, Heard, eq-from, Request, Asks, ToRead, ToWrite, Act, Book, Try, book, find, front, last_try, open_try, tries, tries_of, Stage, Idle, Refused, Opening, Asking, Finishing, Stopping, Closing, stage, standing, repository, broker, Scripted, Task, tasks, desk_at, state, TurnHolds, IsRested, IsAskOf, kept, acts_of, Base, Life, World, numbered, opened_log, sent_by, times_taken, LogFacts, logs_at, node_facts, SentOk, each-has, Waits, DecidedAt, standing_at, is_done, read_to, AtRest, IsPlain, older, BookSound, HasSettled, Trail, ask_of, tell_of, found-in, in-range}
+use Rattle.complete_law.proofs.Names.{Every, Has, every-append, every-has, StampParts, TimeParts, same_stamp, same_stamp-is, NodeId, ObjectId, Value, Effect, Out, Post, Fate, copies_of, Tree, Plan, InRange, IsOfLanguage, asked_of, Inside, IsReady, StageOk, stage-ok, stop_of, HeldRead, known, waits_for, WriteSent, WasSent, decide-settles, Heard, eq-from, Request, Asks, ToRead, ToWrite, Act, Book, Try, book, find, front, last_try, open_try, tries, tries_of, Stage, Idle, Refused, Opening, Asking, Finishing, Stopping, Closing, stage, standing, repository, broker, Scripted, Task, tasks, desk_at, state, TurnHolds, IsRested, IsAskOf, kept, acts_of, Base, Life, World, numbered, opened_log, sent_by, times_taken, LogFacts, logs_at, node_facts, SentOk, each-has, Waits, DecidedAt, standing_at, is_done, read_to, AtRest, IsPlain, older, BookSound, HasSettled, Trail, ask_of, tell_of, found-in, in-range, ◌≡◌, ◌⊎◌, ℕ, zero, suc, ◌+◌, ◌==◌, ◌≤◌, nat_lt, Bool, true, false, ◌||◌, List, [], ◌∷◌, ◌++◌, reverse, min, refl, sym, ◌∙◌, ap, subst, Some, None, is_some, if◌then◌else◌, inl, inr, append-nil, arith, false≢true, IsIdle, JustNodes, in_plan, none-has, AllDecided, last-among, open-among, within}
 use Rattle.effect_form.specs.declared.effects.Effect.TheVariants as effect
 use Rattle.message_form.specs.declared.messages.Message.TheVariants as message
 use Rattle.complete_law.proofs.Ranges.{asks-kept, same-run, try-kept}
 use Rattle.broker_core.specs.Stages.{is_settled}
 use Rattle.world_core.specs.Legal as legal
-use Rattle.world_core.specs.Legal.{IsIdle, JustNodes, in_plan}
-use Rattle.serial_law.proofs.Growths.{none-has}
-use Rattle.broker_laws.proofs.BookSteps.{AllDecided, last-among, open-among}
 use Rattle.complete_law.proofs.Places.{log_of, gated_of, held_of, IsBegun, IsDecided, Flying, AskedFor, tasks_of, standing_in, Placed, CalmWorld}
 use Rattle.complete_law.proofs.Rests.{all-done}
-use Rattle.serial_law.proofs.Ranges.{within}
 
 -- a numbered element stands in the list
 numbered-in : {X : Type 0} (xs : List X) (k : ℕ) (x : X) → numbered xs k ≡ Some x → Has x xs
@@ -67,11 +61,7 @@ module _ (b : Base) (plan : Plan) (May : ℕ → Type 0) (w : World) (fates : Li
       go false e = (ap (λ (l : Life). l.fresh) (calm.outside n e), ap (λ (l : Life). l.outs) (calm.outside n e))
 
   gated-is : (n : NodeId) → gated_of w n ≡ L n
-  gated-is n = go (w.flags n).known refl
-    where
-      go : (c : Bool) → (w.flags n).known ≡ c → gated_of w n ≡ reverse (if c then (w.life n).gated else [])
-      go true e = refl
-      go false e = ap (λ (l : Life). reverse l.gated) (calm.outside n e)
+  gated-is n = (elim (w.flags n).known as (λ c. (w.flags n).known ≡ c → gated_of w n ≡ reverse (if c then (w.life n).gated else [])) [ true ↦ λ e. refl | false ↦ λ e. ap (λ (l : Life). reverse l.gated) (calm.outside n e) ]) refl
 
   log-is : (n : NodeId) → log_of w n ≡ L n
   log-is n = ap (λ f. reverse ((w.life n).gated ++ f)) (shut n).0 ∙ ap reverse (append-nil (w.life n).gated) ∙ gated-is n
@@ -84,9 +74,7 @@ module _ (b : Base) (plan : Plan) (May : ℕ → Type 0) (w : World) (fates : Li
       let t = (idle s.post.to (calm.ups s.post.to ∙ kn)).taken k s at refl in
       let p : IsPlain t.0 = every-has IsPlain fates t.0 plain (numbered-in fates k t.0 t.1) in
       let one : copies_of t.0 ≡ 1 = ap (λ n. min n 3) p.0 in
-      let below : s.ticks ≤ w.ticks = calm.still s (numbered-in w.sendings k s at) in
-      let none : t.0.hold ≡ 0 = p.1 in
-      let free : s.ticks + t.0.hold ≤ w.ticks = subst (λ n. s.ticks + n ≤ w.ticks) (sym none) (omega (arith, below)) in
+      let free : s.ticks + t.0.hold ≤ w.ticks = subst (λ n. s.ticks + n ≤ w.ticks) (sym p.1) (omega (arith, calm.still s (numbered-in w.sendings k s at))) in
       let no : 0 ≡ 1 = sym not-taken ∙ t.2 free ∙ one in
       absurd (cc no)
 
@@ -104,12 +92,6 @@ module _ (b : Base) (plan : Plan) (May : ℕ → Type 0) (w : World) (fates : Li
   known-in : (n : ℕ) → InRange plan.brokers n → (w.flags (broker n)).known ≡ true
   known-in n i = knowns (broker n) ∙ nodes.just (broker n) ∙ within n plan.brokers i
 
-  in-known : (n : ℕ) → (w.flags (broker n)).known ≡ true → InRange plan.brokers n
-  in-known n e = in-range n plan.brokers (sym (nodes.just (broker n)) ∙ sym (knowns (broker n)) ∙ e)
-
-  opened : (n : ℕ) → InRange plan.brokers n → is_some (opened_log b.opened (broker n)) ≡ true
-  opened n i = sym (knowns (broker n)) ∙ known-in n i
-
   abbrev heard : ℕ → Heard
   heard n = (w.life (broker n)).mind.heard
 
@@ -117,7 +99,7 @@ module _ (b : Base) (plan : Plan) (May : ℕ → Type 0) (w : World) (fates : Li
   me-tasks n = tasks_of b n
 
   turns : (n : ℕ) → InRange plan.brokers n → TurnHolds b.script n b.run (me-tasks n) (sent_by w) (desk_at (logs n) (heard n))
-  turns n i = record { desk = record { tidy = facts.tidy (broker n); grew = tt; causes = facts.proofs (broker n); outs = tt }; ready = facts.ready (broker n) (opened n i) }
+  turns n i = record { desk = record { tidy = facts.tidy (broker n); grew = tt; causes = facts.proofs (broker n); outs = tt }; ready = facts.ready (broker n) (sym (knowns (broker n)) ∙ known-in n i) }
 
   counts : (n : ℕ) → InRange plan.brokers n → state b.script n b.run (me-tasks n) (desk_at (logs n) (heard n)) ≡ book (logs n)
   counts n i = ap book (kept b.script n b.run (me-tasks n) (logs n) (turns n i).desk.tidy (turns n i).ready.same_plan)
@@ -136,17 +118,10 @@ module _ (b : Base) (plan : Plan) (May : ℕ → Type 0) (w : World) (fates : Li
 
   kept-there : (n : ℕ) (t : Try) → InRange plan.brokers n → Has t (tries_of (book (logs n)).acts) → InRange plan.repositories t.stamp.home × Inside plan.repositories (b.script t.task.script)
   kept-there n t i has =
-      try-kept b.script plan n b.run (logs n) t whole scripted (turns n i).desk.tidy ready-plan run-is has
+      try-kept b.script plan n b.run (logs n) t whole scripted (turns n i).desk.tidy (subst (λ x. IsReady b.script n b.run (tasks (acts_of n x)) (logs n)) same-acts (turns n i).ready) run-is has
     where
-      ready-plan : IsReady b.script n b.run (tasks (acts_of n plan.acts)) (logs n)
-      ready-plan = subst (λ x. IsReady b.script n b.run (tasks (acts_of n x)) (logs n)) same-acts (turns n i).ready
-
-      none : (as' : List Act) → as' ≡ [] → Has t (tries_of as') → ⊥
-      none [] e h = h
-      none (a ∷ as') e h = absurd (cc e)
-
       not-below : (c : Bool) → nat_lt (book (logs n)).run b.run ≡ c → c ≡ false
-      not-below true e = absurd (none (book (logs n)).acts ((sound n i).early e) has)
+      not-below true e = absurd ((elim (book (logs n)).acts as (λ as'. as' ≡ [] → Has t (tries_of as') → ⊥) [ [] ↦ λ e h. h | a ∷ as' ↦ λ e h. absurd (cc e) ]) ((sound n i).early e) has)
       not-below false e = refl
 
       run-is : (book (logs n)).run ≡ b.run
@@ -165,9 +140,6 @@ module _ (b : Base) (plan : Plan) (May : ℕ → Type 0) (w : World) (fates : Li
       opens : (t : Try) → open_try (state b.script n b.run (me-tasks n) (desk_at (logs n) (heard n))) ≡ Some t → Has t (tries_of (book (logs n)).acts)
       opens t e = (open-among b.script n b.run (me-tasks n) (IsBegun w) (IsDecided w) (book (logs n)).acts t (subst (λ z. open_try z ≡ Some t) (counts n i) e)).0
 
-      lasts : (t : Try) → last_try (state b.script n b.run (me-tasks n) (desk_at (logs n) (heard n))) ≡ Some t → Has t (tries_of (book (logs n)).acts)
-      lasts t e = last-among b.script n b.run (me-tasks n) (IsBegun w) (IsDecided w) (book (logs n)).acts t (subst (λ z. last_try z ≡ Some t) (counts n i) e)
-
       same : (x y : Out) → Some x ≡ Some y → x ≡ y
       same x y e = cc e
 
@@ -176,14 +148,13 @@ module _ (b : Base) (plan : Plan) (May : ℕ → Type 0) (w : World) (fates : Li
           (repository-known (asked_of q).repository (asks-kept b.script plan.repositories t q (kept-there n t i h).1 s)))
 
       go : (st : Stage) → StageOk b.script n b.run (me-tasks n) (state b.script n b.run (me-tasks n) (desk_at (logs n) (heard n))) st → standing st ≡ Some o → (w.flags o.to).known ≡ true
-      go Idle ok e = absurd (cc e)
       go (Refused t) ok e = to-home t _ (opens t ok) refl (same _ _ e)
       go (Opening t) ok e = to-home t _ (opens t ok) refl (same _ _ e)
       go (Asking t (ToRead a)) ok e = to-object t (ToRead a) _ (opens t ok.0) ok.1 refl (same _ _ e)
       go (Asking t (ToWrite a v)) ok e = to-object t (ToWrite a v) _ (opens t ok.0) ok.1 refl (same _ _ e)
       go (Finishing t) ok e = to-home t _ (opens t ok.0) refl (same _ _ e)
-      go (Stopping t p) ok e = absurd (cc e)
-      go (Closing t) ok e = to-home t _ (lasts t ok) refl (same _ _ e)
+      go (Closing t) ok e = to-home t _ (last-among b.script n b.run (me-tasks n) (IsBegun w) (IsDecided w) (book (logs n)).acts t (subst (λ z. last_try z ≡ Some t) (counts n i) ok)) refl (same _ _ e)
+      go _ ok e = absurd (cc e)
 
   reads : (n : ℕ) (out : Out) → InRange plan.brokers n → standing_at b.script n b.run (me-tasks n) (logs n) (heard n) ≡ Some out →
       (x : TimeParts) × (e : HeldRead) × (out ≡ read_to x e.object) × Has (x, e) (held_of w e.object.repository)
@@ -192,11 +163,8 @@ module _ (b : Base) (plan : Plan) (May : ℕ → Type 0) (w : World) (fates : Li
       let stands : standing_in b w n ≡ Some out = subst (λ l. standing_at b.script n b.run (me-tasks n) l (heard n) ≡ Some out) (sym (log-is (broker n))) e in
       go (calm.placed n out gone stands)
     where
-      stands' : standing_in b w n ≡ Some out
-      stands' = subst (λ l. standing_at b.script n b.run (me-tasks n) l (heard n) ≡ Some out) (sym (log-is (broker n))) e
-
       go : Placed b w n out → (x : TimeParts) × (e : HeldRead) × (out ≡ read_to x e.object) × Has (x, e) (held_of w e.object.repository)
-      go (inl f) = absurd (lands (broker n) out (aims n out i stands') f)
+      go (inl f) = absurd (lands (broker n) out (aims n out i (subst (λ l. standing_at b.script n b.run (me-tasks n) l (heard n) ≡ Some out) (sym (log-is (broker n))) e)) f)
       go (inr (inl (from, m, f, h))) = absurd (lands from (record { to = broker n; message = m }) (known-in n i) f)
       go (inr (inr k)) = (k.0, k.1, k.2, k.4)
 
@@ -217,34 +185,28 @@ module _ (b : Base) (plan : Plan) (May : ℕ → Type 0) (w : World) (fates : Li
       ask : IsAskOf b.script (tries (book (logs n))) x (ToWrite o v)
       ask = says.2
 
-      nothing : (l : List Effect) → l ≡ [] → find x.stamp (tries (book l)) ≡ Some ask.0 → ⊥
-      nothing [] e f = absurd (cc f)
-      nothing (g ∷ l) e f = absurd (cc e)
-
       by-known : (c : Bool) → (w.flags (broker n)).known ≡ c → InRange plan.brokers n
-      by-known true e = in-known n e
-      by-known false e = absurd (nothing (logs n) (ap (λ c. reverse (if c then (w.life (broker n)).gated else [])) e) ask.1)
+      by-known true e = in-range n plan.brokers (sym (nodes.just (broker n)) ∙ sym (knowns (broker n)) ∙ e)
+      by-known false e = absurd ((elim (logs n) as (λ l. l ≡ [] → find x.stamp (tries (book l)) ≡ Some ask.0 → ⊥) [ [] ↦ λ e f. absurd (cc f) | g ∷ l ↦ λ e f. absurd (cc e) ]) (ap (λ c. reverse (if c then (w.life (broker n)).gated else [])) e) ask.1)
 
   -- and so does an Ask of what a read waits for
   homed : (r : ℕ) (o : ObjectId) (x : TimeParts) (v : Value) → Has (effect.Put o x v) (homes r) → (w.flags (repository x.stamp.home)).known ≡ true
   homed r o x v h =
-      let sent : WriteSent (sent_by w) r x o v = puts r o x v h in
-      let k = writers x.stamp.broker (repository r) x o v sent.0 in
+      let k = writers x.stamp.broker (repository r) x o v (puts r o x v h).0 in
       let i : InRange plan.brokers x.stamp.broker = k.0 in
       let all : tries (book (logs x.stamp.broker)) ≡ tries_of (book (logs x.stamp.broker)).acts = ap (λ z. tries_of ((book (logs x.stamp.broker)).acts ++ z)) (sound x.stamp.broker i).past ∙ ap tries_of (append-nil (book (logs x.stamp.broker)).acts) in
       let has = found-in x.stamp (tries_of (book (logs x.stamp.broker)).acts) k.1.0 (subst (λ ts. find x.stamp ts ≡ Some k.1.0) all k.1.1) in
       subst (λ z. (w.flags (repository z.home)).known ≡ true) has.1 (repository-known k.1.0.stamp.home (kept-there x.stamp.broker k.1.0 i has.0).0)
 
   undecided : (r : ℕ) (s : StampParts) → waits_for s (held_of w r) ≡ true → DecidedAt homes s → ⊥
-  undecided r s e d = by-home (s.home == r) refl
+  undecided r s e d = (elim (s.home == r) as (λ c. (s.home == r) ≡ c → ⊥) [ true ↦ λ q. at-home (eq-from s.home r q) | false ↦ λ q. asked-for (calm.asked r s e q) ]) refl
     where
       at-home : s.home ≡ r → ⊥
       at-home q =
           let h = waits-has s (held_of w r) e in
-          let k : Waits (homes r) h.0 = waits r h.0 h.1 in
           let here : Has (effect.Decide s d.0) (homes r) = subst (λ z. Has (effect.Decide s d.0) (homes z)) q d.1 in
           let set = decide-settles (homes r) s d.0 here in
-          let none : known (homes r) s ≡ None = subst (λ z. known (homes r) z ≡ None) h.2 k.unknown in
+          let none : known (homes r) s ≡ None = subst (λ z. known (homes r) z ≡ None) h.2 (waits r h.0 h.1).unknown in
           let no : Some set.0 ≡ None = sym set.1 ∙ none in
           absurd (cc no)
 
@@ -262,10 +224,6 @@ module _ (b : Base) (plan : Plan) (May : ℕ → Type 0) (w : World) (fates : Li
       asked-for (inl f) = lands (repository r) (ask_of s) home-known f
       asked-for (inr (inl a)) = (calm.askers s.home (record { repository = r; stamp = s }) a).1 d.0 (subst (Has (effect.Decide s d.0)) (sym (log-is (repository s.home))) d.1)
       asked-for (inr (inr (c, f))) = lands (repository s.home) (tell_of (record { repository = r; stamp = s }) c) (here-known (w.flags (repository r)).known refl) f
-
-      by-home : (c : Bool) → (s.home == r) ≡ c → ⊥
-      by-home true q = at-home (eq-from s.home r q)
-      by-home false q = asked-for (calm.asked r s e q)
 
   earlier : (n : ℕ) (s : StampParts) (t : Try) → InRange plan.brokers n → find s (tries (book (logs n))) ≡ Some t → (last_try (book (logs n)) ≡ Some t) ⊎ DecidedAt homes s
   earlier n s t i e =

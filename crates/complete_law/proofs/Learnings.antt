@@ -1,9 +1,5 @@
 -- A repository learns of no more attempts than brokers asked to end.
-use Rattle.std.proofs.Common.{◌≡◌, ◌⊎◌, ℕ, zero, suc, ◌+◌, ◌*◌, ◌≤◌, Bool, true, false, not, length, List, [], ◌∷◌, ◌++◌, map, reverse, refl, sym, ◌∙◌, ap, subst, Option, Some, None, if◌then◌else◌, inl, inr, arith}
-use Rattle.std.proofs.lemmas.Bool.{false≢true}
-use Rattle.std.proofs.lemmas.List.{reverse-append}
-use Rattle.std.specs.List.{filter}
-use Rattle.complete_law.proofs.Names.{Has, same_stamp, same_stamp-is, same_stamp-self, StampParts, Decision, Effect, Message, is_settled, known, is_broker, settled-log, tidy-through, broker, repository, Post, Base, Life, Sending, World, AskAtMost, CalmPlace, filled_by, log_at, most_filled, tries_in, world_at, has-right, node_turns, node_facts, soft_of, NodeOk, around, happened, each-has}
+use Rattle.complete_law.proofs.Names.{Has, same_stamp, same_stamp-is, same_stamp-self, StampParts, Decision, Effect, Message, is_settled, known, is_broker, settled-log, tidy-through, broker, repository, Post, Base, Life, Sending, World, AskAtMost, CalmPlace, filled_by, log_at, most_filled, tries_in, world_at, has-right, node_turns, node_facts, soft_of, NodeOk, around, happened, each-has, ◌≡◌, ◌⊎◌, ℕ, zero, suc, ◌+◌, ◌*◌, ◌≤◌, Bool, true, false, not, length, List, [], ◌∷◌, ◌++◌, map, reverse, refl, sym, ◌∙◌, ap, subst, Option, Some, None, if◌then◌else◌, inl, inr, arith, false≢true, reverse-append, filter, SoftNode, Soft}
 use Rattle.pseudo_time.specs.declared.decisions.Decision.TheVariants as decision
 use Rattle.effect_form.specs.declared.effects.Effect.TheVariants as effect
 use Rattle.message_form.specs.declared.messages.Message.TheVariants as message
@@ -19,7 +15,6 @@ use Rattle.complete_law.proofs.Steps as steps
 use Rattle.complete_law.proofs.Steps.{calm-there, facts-there}
 use Rattle.repository_laws.specs.Facts as repositories
 use Rattle.world_core.specs.Walks as walks
-use Rattle.serial_law.specs.Soft.{SoftNode, Soft}
 
 -- ---- the attempts that a log learned of
 
@@ -36,11 +31,7 @@ stored-all (effect.End i e ∷ l) = let k = stored-all l in omega (arith, k)
 stored-all (f ∷ l) = let k = stored-all l in omega (arith, k)
 
 known-on : (f : Effect) (l : List Effect) (s : StampParts) → is_settled (known l s) ≡ true → is_settled (known (f ∷ l) s) ≡ true
-known-on f l s e = go (known l s) refl e
-  where
-    go : (u : Option Bool) → known l s ≡ u → is_settled u ≡ true → is_settled (known (f ∷ l) s) ≡ true
-    go None q e = absurd (false≢true e)
-    go (Some x) q e = ap is_settled (settled-log l f s x q)
+known-on f l s e = (elim (known l s) as (λ u. known l s ≡ u → is_settled u ≡ true → is_settled (known (f ∷ l) s) ≡ true) [ None ↦ λ q e. absurd (false≢true e) | Some x ↦ λ q e. ap is_settled (settled-log l f s x q) ]) refl e
 
 -- what a log learned of, it knows
 has-known : (l : List Effect) (s : StampParts) → Has s (learned l) → is_settled (known l s) ≡ true
@@ -92,11 +83,7 @@ without-has s t (x ∷ ss) h = go (λ k. without-has s t ss k) (same_stamp s x) 
 
 without-single : (s : StampParts) (ss : List StampParts) → Single ss → Single (without s ss)
 without-single s [] k = tt
-without-single s (x ∷ ss) k = go (same_stamp s x) (without-single s ss k.1)
-  where
-    go : (c : Bool) → Single (without s ss) → Single (if not c then x ∷ without s ss else without s ss)
-    go true h = h
-    go false h = ((λ i. k.0 (without-has s x ss i).0), h)
+without-single s (x ∷ ss) k = (elim (same_stamp s x) as (λ c. Single (without s ss) → Single (if not c then x ∷ without s ss else without s ss)) [ true ↦ λ h. h | false ↦ λ h. ((λ i. k.0 (without-has s x ss i).0), h) ]) (without-single s ss k.1)
 
 without-absent : (s : StampParts) (ss : List StampParts) → (Has s ss → ⊥) → length (without s ss) ≡ length ss
 without-absent s [] n = refl
@@ -128,27 +115,22 @@ pigeons [] (s ∷ ss) single named = absurd (named s (inl refl))
 pigeons (x ∷ xs) ss single named = go (λ us h i. pigeons xs us h i) (is_broker x.post.from.kind) refl (ender-of x.post.message) refl
   where
     rest : (s : StampParts) → ((is_broker x.post.from.kind ≡ true) × (ender-of x.post.message ≡ Some s) → ⊥) → Has s ss → Named s xs
-    rest s never h = elim (named s h) [
-      | inl e ↦ absurd (never e)
-      | inr k ↦ k
-    ]
+    rest s never h = elim (named s h) [ inl e ↦ absurd (never e) | inr k ↦ k ]
 
     go : ((us : List StampParts) → Single us → ((s : StampParts) → Has s us → Named s xs) → length us ≤ all g xs) → (b : Bool) → is_broker x.post.from.kind ≡ b → (o : Option StampParts) → ender-of x.post.message ≡ o → length ss ≤ g x + all g xs
     go again false e o q = let k = again ss single (λ s. rest s (λ i. false≢true (sym e ∙ i.0))) in omega (arith, k)
     go again true e None q = let k = again ss single (λ s. rest s (λ i. (let no : None ≡ Some s = sym q ∙ i.1 in absurd (cc no)))) in omega (arith, k)
     go again true e (Some t) q =
         let k = again (without t ss) (without-single t ss single) (λ s h. (let i = without-has t s ss h in rest s (λ j. other s i.1 j.1) i.0)) in
-        let l = without-length t ss single in
         let one : g x ≡ 1 = ap (λ c. if-from c (weight 0 0 1 x.post.message)) e ∙ ends-one x.post.message t q in
-        omega (arith, k, l, one)
+        omega (arith, k, without-length t ss single, one)
       where
         other : (s : StampParts) → same_stamp t s ≡ false → ender-of x.post.message ≡ Some s → ⊥
         other s off at = let no : Some t ≡ Some s = sym q ∙ at in let is : t ≡ s = cc no in false≢true (sym off ∙ subst (λ y. same_stamp t y ≡ true) is (same_stamp-self t))
 
 named-by : (s : StampParts) (xs : List Sending) (i n : ℕ) (m : Message) → ender-of m ≡ Some s → Has (record { from = broker i; to = repository n; message = m }) (map (λ (x : Sending). x.post) xs) → Named s xs
 named-by s [] i n m e h = absurd h
-named-by s (x ∷ xs) i n m e (inl q) =
-    inl (ap (λ (p : Post). is_broker p.from.kind) q, ap (λ (p : Post). ender-of p.message) q ∙ e)
+named-by s (x ∷ xs) i n m e (inl q) = inl (ap (λ (p : Post). is_broker p.from.kind) q, ap (λ (p : Post). ender-of p.message) q ∙ e)
 named-by s (x ∷ xs) i n m e (inr h) = inr (named-by s xs i n m e h)
 
 -- ---- pages
@@ -215,13 +197,7 @@ module _ (p : CalmPlace) where
   module _ (most : ℕ) (asks : AskAtMost p.run most) where
     known-few : (n : ℕ) → (w.flags (repository n)).known ≡ true → length (log_at p (repository n)) ≤ tries_in p.run.plan.acts * (most + 3)
     known-few n known =
-        let a = stored-all (log_at p (repository n)) in
-        let b = stored-few p most asks n in
-        let c = few-learned n known in
-        let d = brokers-few p most asks 0 0 1 in
-        let e : tries_in p.run.plan.acts * (0 + (most * 0 + 1)) ≡ tries_in p.run.plan.acts = one (tries_in p.run.plan.acts) in
-        let f = grow (tries_in p.run.plan.acts) in
-        omega (arith, a, b, c, d, e, f)
+        omega (arith, stored-all (log_at p (repository n)), stored-few p most asks n, few-learned n known, brokers-few p most asks 0 0 1, one (tries_in p.run.plan.acts), grow (tries_in p.run.plan.acts))
       where
         one : (x : ℕ) → x * (0 + (most * 0 + 1)) ≡ x
         one x = let z : 0 + (most * 0 + 1) ≡ 1 = omega arith in ap (λ y. x * y) z ∙ omega arith

@@ -1,8 +1,5 @@
 -- How much a node has sent and owes, where each message has a weight; and what an entry leaves of a node, or gives it.
-use Rattle.std.proofs.Common.{◌≡◌, ℕ, ◌+◌, ◌≤◌, Bool, true, false, List, [], ◌∷◌, ◌++◌, map, reverse, refl, sym, ◌∙◌, ap, subst, if◌then◌else◌, append-nil, arith}
-use Rattle.std.proofs.lemmas.Bool.{false≢true}
-use Rattle.std.specs.List.{filter}
-use Rattle.complete_law.proofs.Names.{StampParts, NodeId, NodeKind, Message, same_node, same_is, Fate, Out, Post, posts, Entry, leaves, Going, Taking, Learning, Base, Flags, Life, Sending, World, flagged, gated_life, leaving, lives_on, names, step, after_input, took, went, all_effects, MayGate, MayGo, MayLearn, MayTake, Rule, is_broker, CalmRun, IsUnstopped}
+use Rattle.complete_law.proofs.Names.{StampParts, NodeId, NodeKind, Message, same_node, same_is, Fate, Out, Post, posts, Entry, leaves, Going, Taking, Learning, Base, Flags, Life, Sending, World, flagged, gated_life, leaving, lives_on, names, step, after_input, took, went, all_effects, MayGate, MayGo, MayLearn, MayTake, Rule, is_broker, CalmRun, IsUnstopped, ◌≡◌, ℕ, ◌+◌, ◌≤◌, Bool, true, false, List, [], ◌∷◌, ◌++◌, map, reverse, refl, sym, ◌∙◌, ap, subst, if◌then◌else◌, append-nil, arith, false≢true, filter}
 use Rattle.pseudo_time.specs.declared.nodes.NodeKind.TheVariants as kind
 use Rattle.world_core.specs.declared.entries.Entry.TheVariants as entry
 use Rattle.complete_law.proofs.Places.{CalmWorld, log_of, all-off, both-on}
@@ -39,11 +36,7 @@ module _ (wt : Message → ℕ) where
   sent-append n (x ∷ xs) ys = let k = sent-append n xs ys in omega (arith, k)
 
   mapped-load : (n m : NodeId) (ticks : ℕ) (os : List Out) → sent-load n (map (λ (p : Post). record { post = p; ticks = ticks }) (posts m os)) ≡ if-from (same_node m n) (load os)
-  mapped-load n m ticks [] = go (same_node m n)
-    where
-      go : (c : Bool) → 0 ≡ if-from c 0
-      go true = refl
-      go false = refl
+  mapped-load n m ticks [] = elim (same_node m n) as (λ c. 0 ≡ if-from c 0) [ true ↦ refl | false ↦ refl ]
   mapped-load n m ticks (o ∷ os) = let k = mapped-load n m ticks os in let j = go (same_node m n) in omega (arith, k, j)
     where
       go : (c : Bool) → if-from c (wt o.message) + if-from c (load os) ≡ if-from c (wt o.message + load os)
@@ -60,9 +53,8 @@ module _ (wt : Message → ℕ) where
 
       go : (c : Bool) → sent-load n (map (λ (p : Post). record { post = p; ticks = w.ticks }) (if c then posts m (filter (leaves (all_effects (w.life m))) (w.life m).outs) else [])) ≤ if-from (same_node m n) (load (w.life m).outs)
       go true =
-          let k = mapped-load n m w.ticks (filter (leaves (all_effects (w.life m))) (w.life m).outs) in
           let j = less (same_node m n) (load (filter (leaves (all_effects (w.life m))) (w.life m).outs)) (load (w.life m).outs) (load-filter (leaves (all_effects (w.life m))) (w.life m).outs) in
-          omega (arith, k, j)
+          omega (arith, mapped-load n m w.ticks (filter (leaves (all_effects (w.life m))) (w.life m).outs), j)
       go false = omega arith
 
   abbrev pub issued : World → NodeId → ℕ
@@ -105,10 +97,7 @@ module _ (r : CalmRun) (w : World) (f : Facts-at r w) (c : CalmWorld (steps.b r)
   gate-left m n may = go (same_node m n) refl
     where
       sent : (wt : Message → ℕ) → sent-load wt n (step b w (entry.Gate m)).sendings ≤ sent-load wt n w.sendings + if-from (same_node m n) (load wt (w.life m).outs)
-      sent wt =
-          let k = sent-append wt n w.sendings (map (λ (p : Post). record { post = p; ticks = w.ticks }) (leaving w m)) in
-          let j = leaving-load wt w n m in
-          omega (arith, k, j)
+      sent wt = omega (arith, sent-append wt n w.sendings (map (λ (p : Post). record { post = p; ticks = w.ticks }) (leaving w m)), leaving-load wt w n m)
 
       go : (t : Bool) → same_node m n ≡ t → Kept w (step b w (entry.Gate m)) n
       go false e =
@@ -173,11 +162,7 @@ module _ (r : CalmRun) (w : World) (f : Facts-at r w) (c : CalmWorld (steps.b r)
             let known : (w.flags n).known ≡ true = up-known m n at may.up in
             cases.goes mine
             (ap (λ (x : Flags). x.gone) (both-on (same_node m n) (w.flags n).known (flagged w.last n.kind (w.flags n) (entry.Go m)) (w.flags n) e known) ∙ gone-went n.kind (w.flags n) mine.broker)
-            (record {
-              known = known;
-              life = both-on (same_node m n) (w.flags n).known (lives_on b w n (w.life n) (entry.Go m)) (w.life n) e known;
-              sendings = refl;
-            })
+            (record { known = known; life = both-on (same_node m n) (w.flags n).known (lives_on b w n (w.life n) (entry.Go m)) (w.life n) e known; sendings = refl })
 
     learn-case : (m : NodeId) (s : StampParts) (d : Bool) (n : NodeId) → MayLearn w m s d → Cases G (step b w (entry.Learn m s d)) n → G
     learn-case m s d n may cases = go (same_node m n) refl
@@ -188,11 +173,7 @@ module _ (r : CalmRun) (w : World) (f : Facts-at r w) (c : CalmWorld (steps.b r)
             let at : m ≡ n = same_is m n e in
             let known : (w.flags n).known ≡ true = up-known m n at may.up in
             cases.learns s d (subst (λ x. MayLearn w x s d) at may)
-            (record {
-              known = known;
-              life = both-on (same_node m n) (w.flags n).known (lives_on b w n (w.life n) (entry.Learn m s d)) (w.life n) e known;
-              sendings = refl;
-            })
+            (record { known = known; life = both-on (same_node m n) (w.flags n).known (lives_on b w n (w.life n) (entry.Learn m s d)) (w.life n) e known; sendings = refl })
 
     pub by-entry : (e : Entry) (n : NodeId) → IsUnstopped e → Rule b fates w e → Cases G (step b w e) n → G
     by-entry (entry.Take m k) n q rule cases = take-case m k n rule cases

@@ -1,13 +1,7 @@
 -- With one broker no write is refused, at any calm place.
-use Rattle.std.proofs.Common.{◌≡◌, ◌≢◌, ◌⊎◌, ℕ, ◌+◌, ◌≤◌, ◌==◌, nat_le, Bool, true, false, ◌&&◌, length, List, [], ◌∷◌, ◌++◌, map, reverse, refl, sym, ◌∙◌, ap, subst, Option, Some, None, if◌then◌else◌, inl, inr, append-nil, arith}
-use Rattle.std.proofs.lemmas.Grind.{common_steps}
-use Rattle.std.proofs.lemmas.Bool.{false≢true, true≢false}
-use Rattle.std.proofs.lemmas.List.{reverse-append}
-use Rattle.complete_law.proofs.Names.{Every, Has, has-right, StampParts, TimeParts, lt, NodeId, NodeKind, broker, repository, same_node, ObjectId, Value, Effect, Outcome, Message, same_node-refl, Out, Grew, Post, WasSent, post, Answer, Asks, Got, Over, Request, Stored, ToRead, ToWrite, stop, WriteStep, floor_of, stands_written, write_step, and-left, and-right, eq-from, Hand, accepts, is_broker_of, on_learn, on_message, hand_at, known, marks, tidy-through, broker-is, Book, Try, book, find, tries, tries_of, state, EndsBy, FitsLog, IsTidy, EndCame, IsAskOf, IsPlayed, IsProven, PostHolds, TurnHolds, each-found, one-request, kept, post-grown, played, proven, Entry, Base, Life, Sending, World, sent_by, start_world, step, Rule, base_of, LogFacts, Refines, logs_at, soft_of, kind_post, node_facts, node_turns, NodeOk, around, happened, each-has, node-laws, facts-of, CalmPlace, IsUnstopped, IsRefusal, book_at, log_at, sent_at, world_at, found-in}
-use Rattle.pseudo_time.proofs.OrderLemmas.{lt-asymmetric, lt-irreflexive}
+use Rattle.complete_law.proofs.Names.{Every, Has, has-right, StampParts, TimeParts, lt, NodeId, NodeKind, broker, repository, same_node, ObjectId, Value, Effect, Outcome, Message, same_node-refl, Out, Grew, Post, WasSent, post, Answer, Asks, Got, Over, Request, Stored, ToRead, ToWrite, stop, WriteStep, floor_of, stands_written, write_step, and-left, and-right, eq-from, Hand, accepts, is_broker_of, on_learn, on_message, hand_at, known, marks, tidy-through, broker-is, Book, Try, book, find, tries, tries_of, state, EndsBy, FitsLog, IsTidy, EndCame, IsAskOf, IsPlayed, IsProven, PostHolds, TurnHolds, each-found, one-request, kept, post-grown, played, proven, Entry, Base, Life, Sending, World, sent_by, start_world, step, Rule, base_of, LogFacts, Refines, logs_at, soft_of, kind_post, node_facts, node_turns, NodeOk, around, happened, each-has, node-laws, facts-of, CalmPlace, IsUnstopped, IsRefusal, book_at, log_at, sent_at, world_at, found-in, ◌≡◌, ◌≢◌, ◌⊎◌, ℕ, ◌+◌, ◌≤◌, ◌==◌, nat_le, Bool, true, false, ◌&&◌, length, List, [], ◌∷◌, ◌++◌, map, reverse, refl, sym, ◌∙◌, ap, subst, Option, Some, None, if◌then◌else◌, inl, inr, append-nil, arith, common_steps, false≢true, true≢false, reverse-append, lt-asymmetric, lt-irreflexive, Ending, put-logged, grown-floor, grown-floors, IsFitting, at, WasRefused}
 use Rattle.pseudo_time.specs.declared.decisions.Decision.TheVariants as decision
 use Rattle.pseudo_time.specs.declared.nodes.NodeKind.TheVariants as kind
-use Rattle.value_form.specs.declared.endings.Ending.{Ending}
 use Rattle.effect_form.specs.declared.effects.Effect.TheVariants as effect
 use Rattle.effect_form.specs.declared.outcomes.Outcome.TheVariants as outcome
 use Rattle.message_form.specs.declared.messages.Message.TheVariants as message
@@ -15,12 +9,9 @@ use Rattle.object_history.specs.declared.steps.WriteStep.TheVariants as write
 use Rattle.object_history.specs.declared.marks.Mark.TheVariants as mark
 use Rattle.object_history.proofs.AnswerLemmas.{later-read, later-version}
 use Rattle.repository_laws.specs.Facts as repositories
-use Rattle.repository_laws.proofs.Logs.{put-logged, grown-floor, grown-floors}
-use Rattle.broker_laws.specs.Posts.{IsFitting, at}
 use Rattle.broker_laws.specs.Waits.{Trail}
 use Rattle.world_core.specs.declared.entries.Entry.TheVariants as entry
 use Rattle.serial_law.proofs.OldChains.{grown-alone, grown-more}
-use Rattle.complete_law.specs.Calm.{WasRefused}
 use Rattle.complete_law.proofs.BrokerMoves.{node-there, turn-there}
 use Rattle.complete_law.proofs.Frames.{came-sent}
 use Rattle.complete_law.proofs.Loads.{Fed, by-entry, if-from, issued, load, load-append, sent-load}
@@ -58,8 +49,7 @@ sent-none n [] z o is h = h
 sent-none n (s ∷ ss) z o is (inl e) =
     let k : if-from (same_node s.post.from n) (refusal s.post.message) ≡ refusal o.message =
     ap (λ (p : Post). if-from (same_node p.from n) (refusal p.message)) e ∙ ap (λ c. if-from c (refusal o.message)) (same_node-refl n) in
-    let j = refusal-one o.message is in
-    absurd (omega (arith, z, k, j))
+    absurd (omega (arith, z, k, refusal-one o.message is))
 sent-none n (s ∷ ss) z o is (inr h) = sent-none n ss (omega (arith, z)) o is h
 
 -- no repository says, or owes, that a write is refused
@@ -99,11 +89,7 @@ module _ (b : Base) (w : World) (calm : CalmWorld b w) (f : Refines (node_turns 
   -- a broker that asked for something was opened
   asker-known : (i : ℕ) (x : TimeParts) (q : Request) → IsAskOf b.script (tries (book (reverse (logs_at (λ n. []) w (broker i))))) x q → (w.flags (broker i)).known ≡ true
   unfolding book
-  asker-known i x q = go (w.flags (broker i)).known
-    where
-      go : (c : Bool) → IsAskOf b.script (tries (book (reverse (if c then (w.life (broker i)).gated else [])))) x q → c ≡ true
-      go true k = refl
-      go false k = absurd (cc k.1)
+  asker-known i x q = elim (w.flags (broker i)).known as (λ c. IsAskOf b.script (tries (book (reverse (if c then (w.life (broker i)).gated else [])))) x q → c ≡ true) [ true ↦ λ k. refl | false ↦ λ k. absurd (cc k.1) ]
 
   -- what a message of a broker says holds of its whole log
   now-holds : (i : ℕ) → (w.flags (broker i)).known ≡ true → (to : NodeId) (m : Message) → Has (record { from = broker i; to = to; message = m }) (sent_by w) → PostHolds b.script i (tries (book (log_of w (broker i)))) to m
@@ -196,7 +182,7 @@ module _ (b : Base) (w : World) (calm : CalmWorld b w) (f : Refines (node_turns 
 
       module _ (asks : stop (b.script t.task.script) t.answers ≡ Asks (ToWrite o v)) (step : x.step ≡ length t.answers + 1) where
         open-end : t.end ≡ None
-        open-end = go t.end refl
+        open-end = (elim t.end as (λ e. t.end ≡ e → t.end ≡ None) [ None ↦ λ e. e | Some c ↦ λ e. absurd (by c (plays.0.ends c e) (proves.0.ends c e)) ]) refl
           where
             over : (e : Ending) → stop (b.script t.task.script) t.answers ≡ Over e → ⊥
             over e q = let no : Asks (ToWrite o v) ≡ Over e = sym asks ∙ q in cc no
@@ -207,10 +193,6 @@ module _ (b : Base) (w : World) (calm : CalmWorld b w) (f : Refines (node_turns 
             by (outcome.Expired d m) k came = unexpired came.0 (broker i) t.stamp d m came.1
             by (outcome.Spent c) k came = k
             by o k came = over _ k
-
-            go : (e : Option Outcome) → t.end ≡ e → t.end ≡ None
-            go None e = e
-            go (Some c) e = absurd (by c (plays.0.ends c e) (proves.0.ends c e))
 
         undecided : IsDecided w t.stamp → ⊥
         undecided (d, h) =
@@ -253,10 +235,7 @@ module _ (b : Base) (w : World) (calm : CalmWorld b w) (f : Refines (node_turns 
         no-later-read : (e : TimeParts) → write_step (marks log) o x v ≡ write.LaterRead e → ⊥
         no-later-read e h =
             let k = later-read (marks log) o x v e h in
-            let stretched : Has (mark.Stretch o e) (marks log) = elim k.1 [
-              | inl s ↦ s
-              | inr g ↦ absurd (grown-floors n log e log-grown g)
-            ] in
+            let stretched : Has (mark.Stretch o e) (marks log) = elim k.1 [ inl s ↦ s | inr g ↦ absurd (grown-floors n log e log-grown g) ] in
             let read = (rests (effect.Stretch o e) (stretch-logged log o e stretched)).1 in
             elim (below e (ToRead o) (asked e (message.Read e o) (ToRead o) (sent-before _ read.0) (λ j p. p.2) (λ j p. p.2))) [
               | inl l ↦ true≢false (sym l ∙ lt-asymmetric x e k.0)
@@ -273,8 +252,7 @@ module _ (b : Base) (w : World) (calm : CalmWorld b w) (f : Refines (node_turns 
             elim (below y (ToWrite o u) its) [
               | inl l ↦ true≢false (sym l ∙ k.0)
               | inr s ↦
-                  let same : ToWrite o u ≡ ToWrite o v = one-request b.script i B x (ToWrite o u) (ToWrite o v) (subst (λ z. IsAskOf b.script B z (ToWrite o u)) s its) ask in
-                  let uv : u ≡ v = cc same in
+                  let uv : u ≡ v = cc (one-request b.script i B x (ToWrite o u) (ToWrite o v) (subst (λ z. IsAskOf b.script B z (ToWrite o u)) s its) ask) in
                   let stands : Has (effect.Put o x v) log = subst (λ z. Has (effect.Put o x z) log) uv (subst (λ z. Has (effect.Put o z u) log) s put) in
                   true≢false (sym (put-written log o x v unknown stands) ∙ off)
             ]
@@ -342,11 +320,8 @@ module _ (p : CalmPlace) (single : p.run.plan.brokers ≡ 1) where
     turn-none : (h : Hand) (l : Life) → l ≡ life-hand (w.life (repository n)) h → Fed w w' (repository n) l → ArePlain h.outs → issued refusal w' (repository n) ≡ 0
     turn-none h l is fed plain =
         let x : load refusal (w'.life (repository n)).outs ≡ load refusal ((w.life (repository n)).outs ++ h.outs) = ap (λ (y : Life). load refusal y.outs) (fed.life ∙ is) in
-        let y = load-append refusal (w.life (repository n)).outs h.outs in
         let s : sent-load refusal (repository n) w'.sendings ≡ sent-load refusal (repository n) w.sendings = ap (sent-load refusal (repository n)) fed.sendings in
-        let z = plain-load h.outs plain in
-        let k = none n in
-        omega (arith, x, y, s, z, k)
+        omega (arith, x, load-append refusal (w.life (repository n)).outs h.outs, s, plain-load h.outs plain, none n)
 
     keeps : issued refusal w' (repository n) ≡ 0
     keeps = by-entry p.run w f c (issued refusal w' (repository n) ≡ 0) e (repository n) q rule (record {

@@ -1,18 +1,12 @@
 -- Of a broker that is done each act is over: no attempt expired, as no moment was ticked.
-use Rattle.std.proofs.Common.{◌≡◌, ℕ, ◌≤◌, ◌==◌, nat_lt, Bool, true, false, ◌&&◌, length, List, [], ◌∷◌, ◌++◌, reverse, refl, sym, ◌∙◌, ap, subst, Option, Some, None, if◌then◌else◌, inl, inr, arith}
-use Rattle.std.proofs.lemmas.Grind.{common_steps}
-use Rattle.std.proofs.lemmas.Bool.{false≢true, ltb-false}
-use Rattle.complete_law.proofs.Names.{Every, Has, every-append, every-left, every-right, every-has, StampParts, NodeId, NodeKind, Outcome, InRange, Act, Book, Try, book, tries, tries_of, calls_again, is_none, keep, stage, standing, broker, repository, EndsBy, EndCame, IsPlayed, IsProven, TurnHolds, kept, played, proven, Base, Life, World, sent_by, base_of, LogFacts, logs_at, kind_post, node_turns, node_facts, node-laws, facts-of, CalmPlace, AllDone, book_at, log_at, world_at, each-has, in-range}
+use Rattle.complete_law.proofs.Names.{Every, Has, every-append, every-left, every-right, every-has, StampParts, NodeId, NodeKind, Outcome, InRange, Act, Book, Try, book, tries, tries_of, calls_again, is_none, keep, stage, standing, broker, repository, EndsBy, EndCame, IsPlayed, IsProven, TurnHolds, kept, played, proven, Base, Life, World, sent_by, base_of, LogFacts, logs_at, kind_post, node_turns, node_facts, node-laws, facts-of, CalmPlace, AllDone, book_at, log_at, world_at, each-has, in-range, ◌≡◌, ℕ, ◌≤◌, ◌==◌, nat_lt, Bool, true, false, ◌&&◌, length, List, [], ◌∷◌, ◌++◌, reverse, refl, sym, ◌∙◌, ap, subst, Option, Some, None, if◌then◌else◌, inl, inr, arith, common_steps, false≢true, ltb-false, has_outcome, outcome_by, all_over, HasOutcome, IsOver, tasks_at}
 use Rattle.pseudo_time.specs.declared.decisions.Decision.TheVariants as decision
 use Rattle.pseudo_time.specs.declared.nodes.NodeKind.TheVariants as kind
 use Rattle.effect_form.specs.declared.effects.Effect.TheVariants as effect
 use Rattle.effect_form.specs.declared.outcomes.Outcome.TheVariants as outcome
 use Rattle.message_form.specs.declared.messages.Message.TheVariants as message
-use Rattle.broker_core.specs.Fits.{has_outcome, outcome_by}
-use Rattle.broker_core.specs.Owed.{all_over}
 use Rattle.broker_laws.proofs.TestLemmas.{and-left, and-right}
 use Rattle.world_core.specs.Walks as walks
-use Rattle.complete_law.specs.Calm.{HasOutcome, IsOver, tasks_at}
 use Rattle.complete_law.proofs.BrokerMoves.{turn-there}
 use Rattle.complete_law.proofs.Hearings.{says}
 use Rattle.complete_law.proofs.Places.{desk_of, tasks_of}
@@ -41,19 +35,14 @@ act-over a final e = by-spent a.spent refl e
   where
     by-more : (t : Try) (ts : List Try) (o : Outcome) (c : Bool) → a.tries ≡ t ∷ ts → t.end ≡ Some o → (calls_again (Some o) && nat_lt (length (t ∷ ts)) a.task.tries) ≡ c → (if c then false else true) ≡ true → HasOutcome a
     by-more t ts o true is end q r = absurd (false≢true r)
-    by-more t ts o false is end q r =
-        inr (t, ts, o, is, end, over-by a t ts o is (every-has EndsFinal a.tries t final (subst (Has t) (sym is) (inl refl)) o end) q)
+    by-more t ts o false is end q r = inr (t, ts, o, is, end, over-by a t ts o is (every-has EndsFinal a.tries t final (subst (Has t) (sym is) (inl refl)) o end) q)
 
     by-end : (t : Try) (ts : List Try) (o : Option Outcome) → a.tries ≡ t ∷ ts → t.end ≡ o → (if is_none o then false else (if calls_again o && nat_lt (length (t ∷ ts)) a.task.tries then false else true)) ≡ true → HasOutcome a
     by-end t ts None is end r = absurd (false≢true r)
     by-end t ts (Some o) is end r = by-more t ts o (calls_again (Some o) && nat_lt (length (t ∷ ts)) a.task.tries) is end refl r
 
-    by-tries : (ts : List Try) → a.tries ≡ ts → outcome_by a.task.tries ts ≡ true → HasOutcome a
-    by-tries [] is r = absurd (false≢true r)
-    by-tries (t ∷ ts) is r = by-end t ts t.end is refl r
-
     by-spent : (s : Option ℕ) → a.spent ≡ s → (if is_none s then outcome_by a.task.tries a.tries else true) ≡ true → HasOutcome a
-    by-spent None q r = by-tries a.tries refl r
+    by-spent None q r = (elim a.tries as (λ ts. a.tries ≡ ts → outcome_by a.task.tries ts ≡ true → HasOutcome a) [ [] ↦ λ is r. absurd (false≢true r) | t ∷ ts ↦ λ is r. by-end t ts t.end is refl r ]) refl r
     by-spent (Some c) q r = inl (c, q)
 
 acts-over : (as' : List Act) → Every EndsFinal (tries_of as') → all_over as' ≡ true → Every HasOutcome as'
@@ -65,8 +54,7 @@ acts-over (a ∷ as') final e = (
 
 pub own-tries : (P : Try → Type 0) (as' past : List Act) → Every P (tries_of (as' ++ past)) → Every P (tries_of as')
 own-tries P [] past e = tt
-own-tries P (a ∷ as') past e =
-    every-append P a.tries (tries_of as') (every-left P a.tries (tries_of (as' ++ past)) e) (own-tries P as' past (every-right P a.tries (tries_of (as' ++ past)) e))
+own-tries P (a ∷ as') past e = every-append P a.tries (tries_of as') (every-left P a.tries (tries_of (as' ++ past)) e) (own-tries P as' past (every-right P a.tries (tries_of (as' ++ past)) e))
 
 -- where the rules say that a broker is done, and its run is this one where it has acts
 book-over : (run : ℕ) (b : Book) (n m : ℕ) (x : Bool) → nat_lt run b.run ≡ false → (nat_lt b.run run ≡ true → b.acts ≡ []) → Every EndsFinal (tries_of b.acts) →

@@ -1,7 +1,5 @@
 -- What always holds at a calm place: where each request that stands is, and what keeps it from being lost.
-use Rattle.std.proofs.Common.{◌≡◌, ◌⊎◌, ℕ, ◌≤◌, ◌==◌, Bool, true, false, List, [], reverse, Option, Some, None, ◌&&◌, if◌then◌else◌, refl}
-use Rattle.std.proofs.lemmas.Bool.{false≢true, true≢false}
-use Rattle.complete_law.proofs.Names.{Has, StampParts, TimeParts, Decision, NodeId, Effect, Message, Out, post, HeldRead, Asker, waits_for, HasBegun, Ignored, Try, book, find, tries, is_none, row, news, stage, repository, broker, Task, tasks, Desk, desk_at, state, IsRested, acts_of, Base, Sending, World, numbered, opened_life, sent_by, all_effects, times_taken, Waits, DecidedAt, read_to, standing_at, ask_of, tell_of, DeskSound}
+use Rattle.complete_law.proofs.Names.{Has, StampParts, TimeParts, Decision, NodeId, Effect, Message, Out, post, HeldRead, Asker, waits_for, HasBegun, Ignored, Try, book, find, tries, is_none, row, news, stage, repository, broker, Task, tasks, Desk, desk_at, state, IsRested, acts_of, Base, Sending, World, numbered, opened_life, sent_by, all_effects, times_taken, Waits, DecidedAt, read_to, standing_at, ask_of, tell_of, DeskSound, ◌≡◌, ◌⊎◌, ℕ, ◌≤◌, ◌==◌, Bool, true, false, List, [], reverse, Option, Some, None, ◌&&◌, if◌then◌else◌, refl, false≢true, true≢false}
 use Rattle.effect_form.specs.declared.effects.Effect.TheVariants as effect
 use Rattle.message_form.specs.declared.messages.Message.TheVariants as message
 

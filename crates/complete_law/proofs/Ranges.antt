@@ -1,13 +1,5 @@
 -- Homes and objects of attempts lie within the plan's repositories, also of the request that stands.
-use Rattle.std.proofs.Common.{◌≡◌, ℕ, ◌==◌, nat_lt, false, List, sym, ap, subst, arith}
-use Rattle.std.proofs.lemmas.Grind.{common_steps}
-use Rattle.complete_law.proofs.Names.{Has, every-has, ActSpec, Effect, Request, Asks, Tree, Plan, InRange, IsOfLanguage, task_of, tasks, Scripted, Try, book, tries_of, stop_of, IsReady, IsTidy, acts_of, asked_of, Inside, every-at, every-filter}
-use Rattle.serial_model.specs.Questions.{after}
-use Rattle.broker_laws.specs.Posts.{IsPlanned}
-use Rattle.broker_laws.proofs.Found.{planned}
-use Rattle.serial_law.specs.Facts.{request_at}
-use Rattle.serial_law.proofs.Attempts.{try-home}
-use Rattle.serial_law.proofs.Inside.{inside-after, inside-asks}
+use Rattle.complete_law.proofs.Names.{Has, every-has, ActSpec, Effect, Request, Asks, Tree, Plan, InRange, IsOfLanguage, task_of, tasks, Scripted, Try, book, tries_of, stop_of, IsReady, IsTidy, acts_of, asked_of, Inside, every-at, every-filter, ◌≡◌, ℕ, ◌==◌, nat_lt, false, List, sym, ap, subst, arith, common_steps, after, IsPlanned, planned, request_at, try-home, inside-after, inside-asks}
 use Rattle.serial_law.proofs.RunFacts.{IsKept, kept-acts, kept-tasks}
 
 pub same-run : (m n : ℕ) → nat_lt m n ≡ false → nat_lt n m ≡ false → m ≡ n

@@ -1,9 +1,7 @@
 -- A turn of a repository refuses nothing but the write that it takes, and this one only where its log says so.
-use Rattle.std.proofs.Common.{◌≡◌, Bool, true, false, ◌&&◌, ℕ, List, [], ◌∷◌, refl, sym, ◌∙◌, ap, subst, Option, Some, None, if◌then◌else◌, inl, inr}
-use Rattle.std.proofs.lemmas.Bool.{true≢false, or_left, or_right}
 use Rattle.std.specs.Cmp.{signed_Decides}
 use Rattle.std.specs.Cmp.Lexicographic.{bytes_decides}
-use Rattle.complete_law.proofs.Names.{Every, Has, every-append, every-map, StampParts, TimeParts, lt, same_time, same_time-of, NodeId, ObjectId, Value, Effect, Message, Out, WriteStep, read_step, stands_written, write_step, floor_of, is_settled, Hand, note, send, accepts, on_learn, on_message, on_write, write_as, hand_at, known, marks, HeldRead, every-of, IsRefusal}
+use Rattle.complete_law.proofs.Names.{Every, Has, every-append, every-map, StampParts, TimeParts, lt, same_time, same_time-of, NodeId, ObjectId, Value, Effect, Message, Out, WriteStep, read_step, stands_written, write_step, floor_of, is_settled, Hand, note, send, accepts, on_learn, on_message, on_write, write_as, hand_at, known, marks, HeldRead, every-of, IsRefusal, ◌≡◌, Bool, true, false, ◌&&◌, ℕ, List, [], ◌∷◌, refl, sym, ◌∙◌, ap, subst, Option, Some, None, if◌then◌else◌, inl, inr, true≢false, or_left, or_right, has_put, alive, is_alive, same_object-of, and-both, Mind}
 use Rattle.value_form.specs.declared.values.Value.TheVariants.{Nothing, Number, Text}
 use Rattle.effect_form.specs.declared.effects.Effect.TheVariants as effect
 use Rattle.message_form.specs.declared.messages.Message.TheVariants as message
@@ -11,12 +9,7 @@ use Rattle.object_history.specs.declared.marks.Mark.{Mark}
 use Rattle.object_history.specs.declared.marks.Mark.TheVariants as mark
 use Rattle.object_history.specs.declared.steps.ReadStep.TheVariants as read
 use Rattle.object_history.specs.declared.steps.WriteStep.TheVariants as write
-use Rattle.object_history.specs.Answers.{has_put}
-use Rattle.object_history.specs.History.{alive, is_alive}
 use Rattle.object_history.specs.Objects.{same_object, same_value}
-use Rattle.object_history.proofs.ObjectLemmas.{same_object-of}
-use Rattle.object_history.proofs.BoolLemmas.{and-both}
-use Rattle.repository_core.specs.Hands.{Mind}
 use Rattle.world_core.proofs.Refusals.{Ok, OfRequest, OnFloor, Says, on-learn, on-message, refused-under}
 
 -- ---- marks of a log
@@ -48,12 +41,8 @@ has_put-has o t v (mark.Put a x w ∷ m) (inl q) =
     or_left (same_object a o && (same_time x t && same_value w v)) (has_put o t v m)
     (and-both (same_object a o) (same_time x t && same_value w v) (same_object-of a o e) (and-both (same_time x t) (same_value w v) (same_time-of x t f) (subst (λ z. same_value w z ≡ true) g (same_value-self w))))
 has_put-has o t v (mark.Put a x w ∷ m) (inr h) = or_right (same_object a o && (same_time x t && same_value w v)) (has_put o t v m) (has_put-has o t v m h)
-has_put-has o t v (mark.Stretch a x ∷ m) (inl q) = absurd (cc q)
-has_put-has o t v (mark.Stretch a x ∷ m) (inr h) = has_put-has o t v m h
-has_put-has o t v (mark.Settle s c ∷ m) (inl q) = absurd (cc q)
-has_put-has o t v (mark.Settle s c ∷ m) (inr h) = has_put-has o t v m h
-has_put-has o t v (mark.Floor at ∷ m) (inl q) = absurd (cc q)
-has_put-has o t v (mark.Floor at ∷ m) (inr h) = has_put-has o t v m h
+has_put-has o t v (_ ∷ m) (inl q) = absurd (cc q)
+has_put-has o t v (_ ∷ m) (inr h) = has_put-has o t v m h
 
 -- a Put of an attempt that isn't known stands
 pub put-written : (l : List Effect) (o : ObjectId) (t : TimeParts) (v : Value) → known l t.stamp ≡ None → Has (effect.Put o t v) l → stands_written (marks l) o t v ≡ true
@@ -98,13 +87,9 @@ module _ (r : ℕ) (log : List Effect) (mind : Mind) (none : floor_of (marks log
   pub learn-plain : (s : StampParts) (c : Bool) → ArePlain (on_learn (hand_at r log mind) s c).outs
   learn-plain s c = outs-plain (on_learn (hand_at r log mind) s c) (on-learn IsPlainStep log (hand_at r log mind) s c begun-plain)
 
-  -- no read is refused
-  no-read : (t : TimeParts) (o : ObjectId) (e : TimeParts) → read_step (marks log) o t ≡ read.LaterRead e → ⊥
-  no-read t o e q = refused-under (floor_of (marks log)) (marks log) o t e q (on-none (floor_of (marks log)) t none)
-
   of-other : (m : Message) → IsNoWrite m → OfRequest IsPlainStep log log m
   of-other (message.Write t o v) n = absurd n
-  of-other (message.Read t o) n = λ e q. absurd (no-read t o e q)
+  of-other (message.Read t o) n = λ e q. absurd (refused-under (floor_of (marks log)) (marks log) o t e q (on-none (floor_of (marks log)) t none))
   of-other _ n = tt
 
   other-plain : (from : NodeId) (m : Message) → IsNoWrite m → ArePlain (on_message (hand_at r log mind) from m).outs
@@ -119,8 +104,7 @@ write-as-plain h from t o v true is_known s never k = send-plain h from (message
 write-as-plain h from t o v false true s never k = send-plain h from (message.Ended t) (λ i. i) k
 write-as-plain h from t o v false false write.Put never k = send-plain (note (effect.Put o t v) h) from (message.Stored t) (λ i. i) k
 write-as-plain h from t o v false false write.Again never k = send-plain h from (message.Stored t) (λ i. i) k
-write-as-plain h from t o v false false (write.LaterVersion x) never k = absurd (never refl refl tt)
-write-as-plain h from t o v false false (write.LaterRead e) never k = absurd (never refl refl tt)
+write-as-plain h from t o v false false _ never k = absurd (never refl refl tt)
 
 -- the log of repository r doesn't say that this write is refused
 abbrev pub IsNotRefused : List Effect → TimeParts → ObjectId → Value → Type 0

@@ -1,11 +1,8 @@
 -- An entry at which a repository takes a turn keeps what always holds, where the message that it took is served.
-use Rattle.std.proofs.Common.{◌≡◌, ◌≢◌, ◌⊎◌, ℕ, ◌≤◌, ◌==◌, Bool, true, false, List, ◌++◌, map, reverse, refl, sym, ◌∙◌, ap, subst, Some, inl, inr, append_assoc}
-use Rattle.std.proofs.lemmas.List.{reverse-append, reverse-reverse}
-use Rattle.complete_law.proofs.Names.{Has, every-has, has-right, StampParts, TimeParts, Decision, NodeId, ObjectId, Effect, Message, Out, Post, post, ToRead, ToWrite, HeldRead, Asker, Hand, now, waits_for, hand_at, on_learn, on_message, gives, after_input, Taking, Learning, Heard, Ignored, Try, book, find, time_of, tries, is_none, row, news, Stage, Idle, Refused, Opening, Asking, Finishing, Stopping, Closing, stage, standing, repository, broker, desk_at, state, IsRested, Base, Life, Sending, World, sent_by, all_effects, Waits, standing_at, read_to, Askers, DeskSound, Answers, Keeps, Serves, ask_of, tell_of}
+use Rattle.complete_law.proofs.Names.{Has, every-has, has-right, StampParts, TimeParts, Decision, NodeId, ObjectId, Effect, Message, Out, Post, post, ToRead, ToWrite, HeldRead, Asker, Hand, now, waits_for, hand_at, on_learn, on_message, gives, after_input, Taking, Learning, Heard, Ignored, Try, book, find, time_of, tries, is_none, row, news, Stage, Idle, Refused, Opening, Asking, Finishing, Stopping, Closing, stage, standing, repository, broker, desk_at, state, IsRested, Base, Life, Sending, World, sent_by, all_effects, Waits, standing_at, read_to, Askers, DeskSound, Answers, Keeps, Serves, ask_of, tell_of, ◌≡◌, ◌≢◌, ◌⊎◌, ℕ, ◌≤◌, ◌==◌, Bool, true, false, List, ◌++◌, map, reverse, refl, sym, ◌∙◌, ap, subst, Some, inl, inr, append_assoc, reverse-append, reverse-reverse, mind_of}
 use Rattle.pseudo_time.specs.declared.nodes.NodeKind.TheVariants as kind
 use Rattle.effect_form.specs.declared.effects.Effect.TheVariants as effect
 use Rattle.message_form.specs.declared.messages.Message.TheVariants as message
-use Rattle.repository_core.specs.Turns.{mind_of}
 use Rattle.complete_law.proofs.BrokerEntries.{sound-more}
 use Rattle.complete_law.proofs.Answering.{heeds-read}
 use Rattle.repository_core.specs.Turns as hands
@@ -48,10 +45,7 @@ module _ (b : Base) (w w' : World) (n : ℕ) (h : Hand) (Taken : Post → Type 0
   old = hand_at n (log_of w (repository n)) (w.life (repository n)).mind.hands
 
   pub broker-life : (i : ℕ) → w'.life (broker i) ≡ w.life (broker i)
-  broker-life i = elim (mv.turn.there (broker i)) [
-    | inl e ↦ absurd (not-broker i n e)
-    | inr e ↦ e.1
-  ]
+  broker-life i = elim (mv.turn.there (broker i)) [ inl e ↦ absurd (not-broker i n e) | inr e ↦ e.1 ]
 
   pub log-here : log_of w' (repository n) ≡ now h
   log-here =
@@ -60,10 +54,7 @@ module _ (b : Base) (w w' : World) (n : ℕ) (h : Hand) (Taken : Post → Type 0
       ∙ ap (λ z. z ++ reverse (l.gated ++ l.fresh)) (reverse-reverse h.added) ∙ ap (λ z. h.added ++ z) (sym mv.past)
 
   gated-same : (m : NodeId) → (w'.life m).gated ≡ (w.life m).gated
-  gated-same m = elim (mv.turn.there m) [
-    | inl e ↦ subst (λ z. (w'.life z).gated ≡ (w.life z).gated) (sym e) (ap (λ (x : Life). x.gated) mv.turn.here)
-    | inr e ↦ ap (λ (x : Life). x.gated) e.1
-  ]
+  gated-same m = elim (mv.turn.there m) [ inl e ↦ subst (λ z. (w'.life z).gated ≡ (w.life z).gated) (sym e) (ap (λ (x : Life). x.gated) mv.turn.here) | inr e ↦ ap (λ (x : Life). x.gated) e.1 ]
 
   begun-more : (s : StampParts) → IsBegun w s → IsBegun w' s
   begun-more s k = (k.0, subst (λ l. Has (effect.Begin s k.0) (reverse l)) (sym (gated-same (repository s.home))) k.1)
@@ -91,18 +82,12 @@ module _ (b : Base) (w w' : World) (n : ℕ) (h : Hand) (Taken : Post → Type 0
   said-more i (message.Withdraw s) k = (begun-more s k.0, subst (λ (l : Life). Ended s (reverse (all_effects l))) (sym (broker-life i)) k.1)
   said-more i _ k = tt
 
-  sent-same : sent_by w' ≡ sent_by w
-  sent-same = ap (map (λ (s : Sending). s.post)) mv.turn.sendings
-
   -- a held read is still held or is answered
   held-there : (r : ℕ) (e : TimeParts × HeldRead) → Keeps R agree old (λ x. ⊥) (λ x. ⊥) h → Has e (held_of w r) → (r ≡ n → Serves h e.0 e.1.object e.1.from) × (r ≢ n → Has e (held_of w' r))
   held-there r e k i = (λ q. mine (subst (λ z. Has e (held_of w z)) q i), λ ne. other ne (mv.turn.there (repository r)))
     where
       mine : Has e (held_of w n) → Serves h e.0 e.1.object e.1.from
-      mine i = elim (k.served e i) [
-        | inl x ↦ absurd x
-        | inr s ↦ s
-      ]
+      mine i = elim (k.served e i) [ inl x ↦ absurd x | inr s ↦ s ]
 
       other : r ≢ n → (repository r ≡ repository n) ⊎ ((repository r ≢ repository n) × (w'.life (repository r) ≡ w.life (repository r))) → Has e (held_of w' r)
       other ne (inl q) = absurd (ne (repository-same r n q))
@@ -115,10 +100,7 @@ module _ (b : Base) (w w' : World) (n : ℕ) (h : Hand) (Taken : Post → Type 0
   ]
     where
       mine : Has e h.held → Waits (now h) e
-      mine i = elim (every-has (λ x. ⊥ ⊎ Waits (now h) x) h.held e k.waiting i) [
-        | inl x ↦ absurd x
-        | inr x ↦ x
-      ]
+      mine i = elim (every-has (λ x. ⊥ ⊎ Waits (now h) x) h.held e k.waiting i) [ inl x ↦ absurd x | inr x ↦ x ]
 
   pub askers-there : Askers old h → (r : ℕ) (a : Asker) → Has a (w'.life (repository r)).mind.hands.askers → (a.stamp.home ≡ r) × ((x : Decision) → Has (effect.Decide a.stamp x) (log_of w' (repository r)) → ⊥)
   askers-there k r a i = elim (mv.turn.there (repository r)) [
@@ -148,15 +130,9 @@ module _ (b : Base) (w w' : World) (n : ℕ) (h : Hand) (Taken : Post → Type 0
       ]
 
       still : waits_for s (held_of w r) ≡ true → AskedFor w r s → AskedFor w' r s
-      still was (inl f) = elim (flies (repository r) (ask_of s) f) [
-        | inl g ↦ inl g
-        | inr t ↦ ask-served r s t was q
-      ]
+      still was (inl f) = elim (flies (repository r) (ask_of s) f) [ inl g ↦ inl g | inr t ↦ ask-served r s t was q ]
       still was (inr (inl a)) = asker-still a
-      still was (inr (inr (c, f))) = elim (flies (repository s.home) (tell_of (record { repository = r; stamp = s }) c) f) [
-        | inl g ↦ inr (inr (c, g))
-        | inr t ↦ absurd (tell-served r s c t e)
-      ]
+      still was (inr (inr (c, f))) = elim (flies (repository s.home) (tell_of (record { repository = r; stamp = s }) c) f) [ inl g ↦ inr (inr (c, g)) | inr t ↦ absurd (tell-served r s c t e) ]
 
       mine : r ≡ n → AskedFor w' r s
       mine p =
@@ -171,7 +147,6 @@ module _ (b : Base) (w w' : World) (n : ℕ) (h : Hand) (Taken : Post → Type 0
 
   -- who stands at a read
   reading : (st : Stage) (x : TimeParts) (o : ObjectId) → standing st ≡ Some (read_to x o) → (t : Try) × (st ≡ Asking t (ToRead o)) × (x ≡ time_of t)
-  reading Idle x o e = absurd (cc e)
   reading (Refused t) x o e = let m : message.Withdraw t.stamp ≡ message.Read x o = message-same _ _ e in absurd (cc m)
   reading (Opening t) x o e = let m : message.Begin t.stamp t.task.timeout ≡ message.Read x o = message-same _ _ e in absurd (cc m)
   reading (Asking t (ToRead p)) x o e =
@@ -181,8 +156,8 @@ module _ (b : Base) (w w' : World) (n : ℕ) (h : Hand) (Taken : Post → Type 0
       (t, ap (λ z. Asking t (ToRead z)) q, sym k)
   reading (Asking t (ToWrite p v)) x o e = let m : message.Write (time_of t) p v ≡ message.Read x o = message-same _ _ e in absurd (cc m)
   reading (Finishing t) x o e = let m : message.Commit t.stamp ≡ message.Read x o = message-same _ _ e in absurd (cc m)
-  reading (Stopping t p) x o e = absurd (cc e)
   reading (Closing t) x o e = let m : message.Withdraw t.stamp ≡ message.Read x o = message-same _ _ e in absurd (cc m)
+  reading _ x o e = absurd (cc e)
 
   abbrev stage-in : World → ℕ → Stage
   stage-in v i = stage b.script b.run (state b.script i b.run (tasks_of b i) (desk_of b v i)) (v.life (broker i)).mind.heard
@@ -231,10 +206,7 @@ module _ (b : Base) (w w' : World) (n : ℕ) (h : Hand) (Taken : Post → Type 0
       ]
 
       go : Placed b w i o → Placed b w' i o
-      go (inl f) = elim (flies (broker i) o f) [
-        | inl x ↦ inl x
-        | inr t ↦ served i o was-gone stands t
-      ]
+      go (inl f) = elim (flies (broker i) o f) [ inl x ↦ inl x | inr t ↦ served i o was-gone stands t ]
       go (inr (inl (from, m, f, a))) = elim (flies from (record { to = broker i; message = m }) f) [
         | inl x ↦ inr (inl (from, m, x, heeded m a))
         | inr t ↦ absurd (not-broker i n (to-here (post from (record { to = broker i; message = m })) t))
@@ -258,7 +230,7 @@ module _ (b : Base) (w w' : World) (n : ℕ) (h : Hand) (Taken : Post → Type 0
         (λ i. sound-more b.script i b.run (tasks_of b i) (IsBegun w) (IsDecided w) (IsBegun w') (IsDecided w') begun-more decided-more (w.life (broker i)).mind.heard (state b.script i b.run (tasks_of b i) (desk_of b w i)) (calm.sound i));
     said = λ i o x. said-more i o.message (calm.said i o (elim x [
       | inl y ↦ inl (subst (λ (l : Life). Has o l.outs) (broker-life i) y)
-      | inr y ↦ inr (subst (Has (post (broker i) o)) sent-same y)
+      | inr y ↦ inr (subst (Has (post (broker i) o)) (ap (map (λ (s : Sending). s.post)) mv.turn.sendings) y)
     ]));
     placed = placed-there k to-here request-served;
     waits = waits-there k;

@@ -1,10 +1,6 @@
 -- What a repository has sent, owes, stores, holds and keeps is paid by the messages that it took, and each is taken once.
-use Rattle.std.proofs.Common.{◌≡◌, ℕ, zero, suc, ◌+◌, ◌≤◌, ◌<◌, ◌==◌, min, Bool, true, false, List, [], ◌∷◌, ◌++◌, map, reverse, cond, refl, sym, ◌∙◌, ap, subst, Some, if◌then◌else◌, arith, slice_get}
-use Rattle.std.proofs.lemmas.Grind.{common_steps}
-use Rattle.std.proofs.lemmas.Bool.{false≢true}
-use Rattle.complete_law.proofs.Names.{Every, StampParts, same_node, same_node-refl, copies_of, Post, Hand, now, hand_at, accepts, on_learn, on_message, HeldHolds, begun-fine, on-learn-fine, take-fine, repository, count, Entry, Taking, Learning, Base, Life, Sending, World, leaving, numbered, sent_by, start_world, step, after_input, MayLearn, MayTake, Rule, times_taken, every-at, CalmPlace, CalmRun, IsPlain, IsUnstopped, world_at}
+use Rattle.complete_law.proofs.Names.{Every, StampParts, same_node, same_node-refl, copies_of, Post, Hand, now, hand_at, accepts, on_learn, on_message, HeldHolds, begun-fine, on-learn-fine, take-fine, repository, count, Entry, Taking, Learning, Base, Life, Sending, World, leaving, numbered, sent_by, start_world, step, after_input, MayLearn, MayTake, Rule, times_taken, every-at, CalmPlace, CalmRun, IsPlain, IsUnstopped, world_at, ◌≡◌, ℕ, zero, suc, ◌+◌, ◌≤◌, ◌<◌, ◌==◌, min, Bool, true, false, List, [], ◌∷◌, ◌++◌, map, reverse, cond, refl, sym, ◌∙◌, ap, subst, Some, if◌then◌else◌, arith, slice_get, common_steps, false≢true, sendings_after, taken_after}
 use Rattle.world_core.specs.declared.entries.Entry.TheVariants as entry
-use Rattle.world_core.specs.Walks.{sendings_after, taken_after}
 use Rattle.world_core.specs.Walks as walks
 use Rattle.complete_law.proofs.BrokerMoves.{node-there}
 use Rattle.complete_law.proofs.Frames.{came-sent, grown-log}
@@ -45,11 +41,7 @@ module _ (g : Sending → ℕ) where
 
   pub used-most : (j : ℕ) (ks : List ℕ) (ss : List Sending) → used j ks ss ≤ all ss
   used-most j ks [] = omega arith
-  used-most j ks (s ∷ ss) = let k = used-most (suc j) ks ss in let i = go (seen j ks) in omega (arith, k, i)
-    where
-      go : (c : Bool) → if-from c (g s) ≤ g s
-      go true = omega arith
-      go false = omega arith
+  used-most j ks (s ∷ ss) = let k = used-most (suc j) ks ss in let i = (elim (seen j ks) as (λ c. if-from c (g s) ≤ g s) [ true ↦ omega arith | false ↦ omega arith ]) in omega (arith, k, i)
 
   used-append : (j : ℕ) (ks : List ℕ) (xs ys : List Sending) → used j ks xs ≤ used j ks (xs ++ ys)
   used-append j ks [] ys = omega arith
@@ -68,20 +60,18 @@ module _ (g : Sending → ℕ) where
   used-takes j i ks [] s e n = absurd (cc e)
   used-takes j zero ks (x ∷ ss) s e n =
       let is : x ≡ s = cc e in
-      let k = used-grows (suc j) (j + 0) ks ss in
       let zero' : j + 0 ≡ j = omega arith in
       let off : seen j ks ≡ false = subst (λ m. seen m ks ≡ false) zero' n in
       let a : if-from (seen j ks) (g x) ≡ 0 = ap (λ c. if-from c (g x)) off in
       let same : ((j + 0) == j) ≡ true = grind (arith, common_steps) in
       let b : if-from (if (j + 0) == j then true else seen j ks) (g x) ≡ g x = ap (λ (c : Bool). if-from (if c then true else seen j ks) (g x)) same in
       let v : g x ≡ g s = ap g is in
-      omega (arith, k, a, b, v)
+      omega (arith, used-grows (suc j) (j + 0) ks ss, a, b, v)
   used-takes j (suc i) ks (x ∷ ss) s e n =
       let next : j + suc i ≡ suc j + i = omega arith in
       let k = used-takes (suc j) i ks ss s e (subst (λ m. seen m ks ≡ false) next n) in
       let same : used (suc j) ((j + suc i) ∷ ks) ss ≡ used (suc j) ((suc j + i) ∷ ks) ss = ap (λ m. used (suc j) (m ∷ ks) ss) next in
-      let l = go ((j + suc i) == j) (seen j ks) in
-      omega (arith, k, same, l)
+      omega (arith, k, same, go ((j + suc i) == j) (seen j ks))
     where
       go : (c d : Bool) → if-from d (g x) ≤ if-from (if c then true else d) (g x)
       go true true = omega arith
@@ -131,22 +121,19 @@ module _ (a t s q : ℕ) where
 
       kept-paid : Kept w w' (repository n) → IsPaidFor w' n
       kept-paid same =
-          let x = same.issued (wt a t s q) in
           let y : rest a t s q (log_of w' (repository n)) (w'.life (repository n)).mind.hands.held (w'.life (repository n)).mind.hands.askers ≡ rest a t s q (log_of w (repository n)) (w.life (repository n)).mind.hands.held (w.life (repository n)).mind.hands.askers =
           ap (λ z. rest a t s q z (w'.life (repository n)).mind.hands.held (w'.life (repository n)).mind.hands.askers) same.log ∙ ap (λ m. rest a t s q (log_of w (repository n)) m.hands.held m.hands.askers) same.mind in
-          let u = used-on (gain n) b w e in
-          omega (arith, k, x, y, u)
+          omega (arith, k, same.issued (wt a t s q), y, used-on (gain n) b w e)
 
       -- a turn
       turn-paid : (h : Hand) (most : ℕ) (l : Life) → l ≡ life-hand (w.life (repository n)) h → h.past ≡ log_of w (repository n) → Fed w w' (repository n) l → measure a t s q h ≤ measure a t s q hand0 + most →
           used-in (gain n) w + most ≤ used-in (gain n) w' → IsPaidFor w' n
       turn-paid h most l is base fed costs more =
           let x : owes (w'.life (repository n)) ≡ owes (life-hand (w.life (repository n)) h) = ap owes (fed.life ∙ is) in
-          let y = load-append (wt a t s q) (w.life (repository n)).outs h.outs in
           let z : sent-load (wt a t s q) (repository n) w'.sendings ≡ sent-load (wt a t s q) (repository n) w.sendings = ap (sent-load (wt a t s q) (repository n)) fed.sendings in
           let m : rest a t s q (reverse (walks.all_effects (life-hand (w.life (repository n)) h))) h.held h.askers ≡ rest a t s q (now h) h.held h.askers =
           ap (λ g. rest a t s q g h.held h.askers) (grown-log (w.life (repository n)).gated (w.life (repository n)).fresh h.added ∙ ap (λ g. h.added ++ g) (sym base)) in
-          omega (arith, k, costs, more, x, y, z, m)
+          omega (arith, k, costs, more, x, load-append (wt a t s q) (w.life (repository n)).outs h.outs, z, m)
 
       once : (number : ℕ) (may : MayTake (steps.fates r) w (repository n) number) → seen number w.taken ≡ false
       once number may = unseen number w.taken (zero-of (times_taken w number) (one number may.fated) may.fewer)
@@ -174,18 +161,16 @@ module _ (a t s q : ℕ) where
           let to : same_node may.sending.post.to (repository n) ≡ true = subst (λ z. same_node z (repository n) ≡ true) (sym may.to) (same_node-refl (repository n)) in
           let worth : gain n may.sending ≡ if-from (accepts n may.sending.post.from may.sending.post.message) (price a t s q may.sending.post.message) =
           ap (λ c. if-from c (if-from (accepts n may.sending.post.from may.sending.post.message) (price a t s q may.sending.post.message))) to in
-          let grows = brings number may.sending may.sent (once number may) in
           let after : used-in (gain n) w' ≡ used (gain n) 1 (number ∷ w.taken) w.sendings = ap (λ ks. used (gain n) 1 ks w'.sendings) ks ∙ ap (used (gain n) 1 (number ∷ w.taken)) fed.sendings in
           turn-paid (on_message hand0 may.sending.post.from may.sending.post.message) (if-from (accepts n may.sending.post.from may.sending.post.message) (price a t s q may.sending.post.message))
           (after_input b (repository n) (w.life (repository n)) (Taking may.sending.post.from may.sending.post.message)) (hand-takes b w n may.sending.post.from may.sending.post.message) base fed
-          (taken a t s q hand0 may.sending.post.from may.sending.post.message) (omega (arith, worth, grows, after))
+          (taken a t s q hand0 may.sending.post.from may.sending.post.message) (omega (arith, worth, brings number may.sending may.sent (once number may), after))
 
       learn-case : (x : StampParts) (d : Bool) → MayLearn w (repository n) x d → Fed w w' (repository n) (after_input b (repository n) (w.life (repository n)) (Learning x d)) → IsPaidFor w' n
       learn-case x d may fed =
           let base = (on-learn-fine (sent_by w) n (log_of w (repository n)) hand0 x d (begun-fine (sent_by w) n (log_of w (repository n)) (w.life (repository n)).mind.hands (reads may.up))).past in
-          let u = used-on (gain n) b w e in
           let l = learnt a t s q hand0 x d in
-          turn-paid (on_learn hand0 x d) 0 (after_input b (repository n) (w.life (repository n)) (Learning x d)) (hand-learns b w n x d) base fed (omega (arith, l)) (omega (arith, u))
+          turn-paid (on_learn hand0 x d) 0 (after_input b (repository n) (w.life (repository n)) (Learning x d)) (hand-learns b w n x d) base fed (omega (arith, l)) (omega (arith, used-on (gain n) b w e))
 
       paid-case : IsUnstopped e → Rule b (steps.fates r) w e → IsPaidFor w' n
       paid-case p rule = by-entry r w f c (IsPaidFor w' n) e (repository n) p rule (record { kept = kept-paid; takes = take-case; goes = λ may gone fed. absurd (false≢true may.broker); learns = learn-case })

@@ -1,24 +1,17 @@
 -- The entries at which a repository takes a turn: it learns a decision, or it takes a message.
-use Rattle.std.proofs.Common.{◌≡◌, ◌⊎◌, ℕ, ◌==◌, Bool, true, false, ◌&&◌, List, [], ◌∷◌, ◌++◌, reverse, refl, sym, ◌∙◌, ap, subst, Option, Some, None, if◌then◌else◌, inl, inr}
-use Rattle.std.proofs.lemmas.Bool.{eq-eqb, false≢true}
-use Rattle.std.proofs.lemmas.List.{reverse-append}
-use Rattle.complete_law.proofs.Names.{Every, Has, has-left, every-has, has-right, StampParts, TimeParts, NodeId, NodeKind, ObjectId, Effect, Message, Out, Post, post, eq-from, Fate, ToRead, HeldRead, Hand, now, accepts, is_broker_of, on_learn, on_message, waits_for, known, hand_at, HasBegun, HeldHolds, broker-is, and-left, and-right, begun-fine, on-learn-fine, take-fine, Ignored, row, news, desk_at, state, book, tries, stage, repository, broker, one-request, Base, Flags, Life, World, sent_by, step, all_effects, MayTake, LogFacts, Refines, logs_at, soft_of, kind_post, node_turns, node_facts, NodeOk, SentOk, around, happened, each-has, every-of, node-laws, facts-of, Waits, read_to, Askers, Keeps, ask_of, tell_of, has-record}
+use Rattle.complete_law.proofs.Names.{Every, Has, has-left, every-has, has-right, StampParts, TimeParts, NodeId, NodeKind, ObjectId, Effect, Message, Out, Post, post, eq-from, Fate, ToRead, HeldRead, Hand, now, accepts, is_broker_of, on_learn, on_message, waits_for, known, hand_at, HasBegun, HeldHolds, broker-is, and-left, and-right, begun-fine, on-learn-fine, take-fine, Ignored, row, news, desk_at, state, book, tries, stage, repository, broker, one-request, Base, Flags, Life, World, sent_by, step, all_effects, MayTake, LogFacts, Refines, logs_at, soft_of, kind_post, node_turns, node_facts, NodeOk, SentOk, around, happened, each-has, every-of, node-laws, facts-of, Waits, read_to, Askers, Keeps, ask_of, tell_of, has-record, ◌≡◌, ◌⊎◌, ℕ, ◌==◌, Bool, true, false, ◌&&◌, List, [], ◌∷◌, ◌++◌, reverse, refl, sym, ◌∙◌, ap, subst, Option, Some, None, if◌then◌else◌, inl, inr, eq-eqb, false≢true, reverse-append, ReadSent, learned, on-learn-askers, on-message-askers, ask-serves}
 use Rattle.pseudo_time.specs.declared.nodes.NodeKind.TheVariants as kind
 use Rattle.effect_form.specs.declared.effects.Effect.TheVariants as effect
 use Rattle.message_form.specs.declared.messages.Message.TheVariants as message
-use Rattle.repository_laws.specs.Facts.{ReadSent}
 use Rattle.repository_laws.specs.AnyLogs.{RefusesRightly}
 use Rattle.complete_law.proofs.Idles.{waits-has}
 use Rattle.repository_laws.proofs.KnownSteps.{on-learn-known}
 use Rattle.world_core.specs.declared.entries.Entry.TheVariants as entry
-use Rattle.world_core.specs.Walks.{learned}
-use Rattle.repository_laws.proofs.AskerSteps.{on-learn-askers, on-message-askers}
 use Rattle.complete_law.proofs.BrokerMoves.{node-there}
 use Rattle.complete_law.proofs.Frames.{came-sent, one-turn, take-turn}
 use Rattle.complete_law.proofs.BrokerServices.{serves-broker}
 use Rattle.repository_laws.proofs.ReadSteps.{Asks, begins, on-learn-keeps, on-message-keeps}
 use Rattle.complete_law.proofs.Places.{log_of, held_of, AskedFor, Flying, Heeds, IsBegun, Placed, standing_in, tasks_of, CalmWorld}
-use Rattle.repository_laws.proofs.AskServices.{ask-serves}
 use Rattle.complete_law.proofs.RepositoryEntries.{Turned, broker-life, hand-learns, hand-takes, life-hand, log-here, owed-flies, turned-calm, waits-there}
 
 abbrev known-in : List Effect → StampParts → Option Bool
@@ -38,12 +31,10 @@ begun-whole b w calm f r s u =
     let e = waits-has s (held_of w r) u in
     let wait : Waits (log_of w (repository r)) e.0 = calm.waits r e.0 e.1 in
     let l : Life = w.life (repository r) in
-    let ok : NodeOk (node_facts b.script) (around (happened (node_turns b.script) f.events)) (repository r) (soft_of (w.life (repository r))) = node-there b w calm f (repository r) (opened-so (w.flags (repository r)).known refl) in
     let put : Has (effect.Put e.0.1.object wait.start wait.value) (reverse l.fresh ++ reverse l.gated) = subst (Has (effect.Put e.0.1.object wait.start wait.value)) (reverse-append l.gated l.fresh) wait.put in
-    let cause = (each-has _ (reverse l.fresh ++ reverse l.gated) (effect.Put e.0.1.object wait.start wait.value) ok.proofs put).1 in
+    let cause = (each-has _ (reverse l.fresh ++ reverse l.gated) (effect.Put e.0.1.object wait.start wait.value) (node-there b w calm f (repository r) (opened-so (w.flags (repository r)).known refl)).proofs put).1 in
     let sent : Has (record { from = broker wait.start.stamp.broker; to = repository r; message = message.Write wait.start e.0.1.object wait.value }) (sent_by w) = subst (Has (record { from = broker wait.start.stamp.broker; to = repository r; message = message.Write wait.start e.0.1.object wait.value })) f.models.ever cause.0 in
-    let begun : IsBegun w wait.start.stamp = calm.said wait.start.stamp.broker (record { to = repository r; message = message.Write wait.start e.0.1.object wait.value }) (inr sent) in
-    let mine : IsBegun w s = subst (IsBegun w) (wait.own ∙ e.2) begun in
+    let mine : IsBegun w s = subst (IsBegun w) (wait.own ∙ e.2) (calm.said wait.start.stamp.broker (record { to = repository r; message = message.Write wait.start e.0.1.object wait.value }) (inr sent)) in
     let m : Life = w.life (repository s.home) in
     (mine.0, subst (Has (effect.Begin s mine.0)) (sym (reverse-append m.gated m.fresh)) (has-right (reverse m.fresh) (reverse m.gated) (effect.Begin s mine.0) mine.1))
   where
@@ -70,8 +61,7 @@ module _ (b : Base) (w : World) (calm : CalmWorld b w) (f : Refines (node_turns 
       let i : ℕ = t.stamp.broker in
       let a = (says (broker i) (repository n) (message.Read t o) r.0.0).2 in
       let c = (says (broker i) (repository n) (message.Read t p) s.0.0).2 in
-      let e : ToRead o ≡ ToRead p = one-request b.script i (tries (book (reverse (logs_at (λ n. []) w (broker i))))) t (ToRead o) (ToRead p) a c in
-      (cc e, r.1 ∙ sym s.1)
+      (cc (one-request b.script i (tries (book (reverse (logs_at (λ n. []) w (broker i))))) t (ToRead o) (ToRead p) a c), r.1 ∙ sym s.1)
 
   module _ (opened : (w.flags (repository n)).known ≡ true) where
     reads : Every (λ (e : TimeParts × HeldRead). R e.0 e.1.object e.1.from) (held_of w n)

@@ -1,7 +1,5 @@
 -- A request that stands, when its repository takes it, is answered so that its broker heeds it, or it is a read that is held.
-use Rattle.std.proofs.Common.{◌≡◌, ℕ, ◌==◌, true, List, refl, sym, ◌∙◌, ap, subst, Option, Some, None, if◌then◌else◌}
-use Rattle.std.proofs.lemmas.Bool.{eq-eqb, and_from}
-use Rattle.complete_law.proofs.Names.{Has, Decision, NodeId, RecordState, ObjectId, Value, Message, ToWrite, Tree, Hand, now, record_of, accepts, on_message, Heard, Ignored, Try, time_of, stop_of, Stage, Opening, Asking, Finishing, Closing, is_finished, repository, broker, PostHolds}
+use Rattle.complete_law.proofs.Names.{Has, Decision, NodeId, RecordState, ObjectId, Value, Message, ToWrite, Tree, Hand, now, record_of, accepts, on_message, Heard, Ignored, Try, time_of, stop_of, Stage, Opening, Asking, Finishing, Closing, is_finished, repository, broker, PostHolds, ◌≡◌, ℕ, ◌==◌, true, List, refl, sym, ◌∙◌, ap, subst, Option, Some, None, if◌then◌else◌, eq-eqb, and_from}
 use Rattle.pseudo_time.specs.declared.decisions.Decision.TheVariants as decision
 use Rattle.commit_record.specs.declared.states.RecordState.TheVariants as state
 use Rattle.message_form.specs.declared.messages.Message.TheVariants as message
@@ -49,8 +47,7 @@ module _ (script : List ℕ → Tree) (g : Heard) (h : Hand) (i : ℕ) where
   commit-by t None m decided a q = a
   commit-by t (Some (state.Unknown x)) m decided a q = heeds-commit script t g decision.Committed (λ e. absurd (cc e)) (subst (λ z. rows.row script (Finishing t) g (rows.news z) ≡ Ignored) a q)
   commit-by t (Some (state.Decided d)) m decided a q =
-      let k = decided d refl in
-      heeds-commit script t g d (λ e. let z : decision.Committed ≡ decision.Withdrawn = sym k.0 ∙ e in absurd (cc z)) (subst (λ z. rows.row script (Finishing t) g (rows.news z) ≡ Ignored) a q)
+      heeds-commit script t g d (λ e. let z : decision.Committed ≡ decision.Withdrawn = sym (decided d refl).0 ∙ e in absurd (cc z)) (subst (λ z. rows.row script (Finishing t) g (rows.news z) ≡ Ignored) a q)
 
   pub commit-served : (t : Try) → accepts h.number (broker i) (message.Commit t.stamp) ≡ true → (record_of (now h) t.stamp ≡ None → ⊥) → ((d : Decision) → record_of (now h) t.stamp ≡ Some (state.Decided d) → OpenDecided script t d) →
       AnsweredBy script (Finishing t) g i (on_message h (broker i) (message.Commit t.stamp))

@@ -1,8 +1,5 @@
 -- Of nodes at rest every broker is done: a read waits for a smaller stamp alone, so the broker of the least stamp that is waited for would have an answer due.
-use Rattle.std.proofs.Common.{◌≡◌, ◌≢◌, ◌⊎◌, ℕ, nat_lt, Bool, true, false, ◌&&◌, ◌||◌, List, [], ◌∷◌, ◌++◌, refl, sym, ◌∙◌, ap, subst, Option, Some, None, if◌then◌else◌, inl, inr}
-use Rattle.std.proofs.lemmas.Bool.{false≢true, eq-eqb, or_right}
-use Rattle.complete_law.proofs.Names.{Every, Has, StampParts, TimeParts, same_stamp, stamp_lt, lt, same_stamp-is, same_stamp-self, ObjectId, Outcome, Out, ToRead, ToWrite, Stop, Asks, Over, Tree, HeldRead, waits_for, WriteSent, InRange, Heard, Act, Book, Try, book, tries, tries_of, find, front, last_try, open_try, open_of, open_front, time_of, is_none, stop_of, Stage, Idle, Refused, Opening, Asking, Finishing, Stopping, Closing, by_stop, by_last, of_open, stage_of, stage, standing, is_asking, is_closed, no_answer, repository, owed, by_stage, Task, is_stamp, is_time, desk_at, state, kept, each-found, StageOk, stage-ok, if-open, Waits, DecidedAt, standing_at, is_done, read_to, AtRest}
-use Rattle.pseudo_time.proofs.OrderLemmas.{lt-own}
+use Rattle.complete_law.proofs.Names.{Every, Has, StampParts, TimeParts, same_stamp, stamp_lt, lt, same_stamp-is, same_stamp-self, ObjectId, Outcome, Out, ToRead, ToWrite, Stop, Asks, Over, Tree, HeldRead, waits_for, WriteSent, InRange, Heard, Act, Book, Try, book, tries, tries_of, find, front, last_try, open_try, open_of, open_front, time_of, is_none, stop_of, Stage, Idle, Refused, Opening, Asking, Finishing, Stopping, Closing, by_stop, by_last, of_open, stage_of, stage, standing, is_asking, is_closed, no_answer, repository, owed, by_stage, Task, is_stamp, is_time, desk_at, state, kept, each-found, StageOk, stage-ok, if-open, Waits, DecidedAt, standing_at, is_done, read_to, AtRest, ◌≡◌, ◌≢◌, ◌⊎◌, ℕ, nat_lt, Bool, true, false, ◌&&◌, ◌||◌, List, [], ◌∷◌, ◌++◌, refl, sym, ◌∙◌, ap, subst, Option, Some, None, if◌then◌else◌, inl, inr, false≢true, eq-eqb, or_right, lt-own}
 use Rattle.value_form.specs.declared.endings.Ending.TheVariants as ending
 use Rattle.effect_form.specs.declared.effects.Effect.TheVariants as effect
 use Rattle.message_form.specs.declared.messages.Message.TheVariants as message
@@ -17,11 +14,7 @@ use Rattle.complete_law.proofs.Ranges.{same-run}
 -- the undone try is the last one
 open-last : (as' : List Act) (t : Try) → open_of as' ≡ Some t → front (tries_of as') ≡ Some t
 open-last [] t e = cc
-open-last (a ∷ as') t e = go a.tries e
-  where
-    go : (ts : List Try) → open_front ts ≡ Some t → front (ts ++ tries_of as') ≡ Some t
-    go [] e = cc
-    go (x ∷ ts) e = ap (λ y. Some y) (if-open x x.end t e).0
+open-last (a ∷ as') t e = (elim a.tries as (λ ts. open_front ts ≡ Some t → front (ts ++ tries_of as') ≡ Some t) [ [] ↦ λ e. cc | x ∷ ts ↦ λ e. ap (λ y. Some y) (if-open x x.end t e).0 ]) e
 
 every-unit : (ts : List Try) → Every (λ (t : Try). Unit {0}) ts
 every-unit [] = tt
@@ -57,8 +50,7 @@ module _ (script : List ℕ → Tree) (me run : ℕ) (acts : List Task) where
   by-stop-sends b h t (Asks (ToRead o)) w = (record { to = repository o.repository; message = message.Read (time_of t) o }, refl)
   by-stop-sends b h t (Asks (ToWrite o v)) w = (record { to = repository o.repository; message = message.Write (time_of t) o v }, refl)
   by-stop-sends b h t (Over ending.Finished) w = (record { to = repository t.stamp.home; message = message.Commit t.stamp }, refl)
-  by-stop-sends b h t (Over (ending.Withdrawn l)) w = cc
-  by-stop-sends b h t (Over (ending.Failed l k)) w = cc
+  by-stop-sends b h t (Over _) w = cc
 
   open-sends : (b : Book) (h : Heard) (t : Try) → by_stage me acts h b (of_open script h t) ≡ None → Sends (of_open script h t)
   open-sends b h t w = first (is_asking (stop_of script t) && is_time h.ended (time_of t)) w
@@ -88,7 +80,6 @@ module _ (script : List ℕ → Tree) (me run : ℕ) (acts : List Task) where
 
   -- the read that stands is that of the undone try
   read-stage : (b : Book) (st : Stage) (x : TimeParts) (o : ObjectId) → StageOk script me run acts b st → standing st ≡ Some (read_to x o) → (t : Try) × (open_try b ≡ Some t) × (x ≡ time_of t)
-  read-stage b Idle x o ok e = absurd (cc e)
   read-stage b (Refused t) x o ok e = let m : message.Withdraw t.stamp ≡ message.Read x o = same-message _ _ e in absurd (cc m)
   read-stage b (Opening t) x o ok e = let m : message.Begin t.stamp t.task.timeout ≡ message.Read x o = same-message _ _ e in absurd (cc m)
   read-stage b (Asking t (ToRead p)) x o ok e =
@@ -97,8 +88,8 @@ module _ (script : List ℕ → Tree) (me run : ℕ) (acts : List Task) where
       (t, ok.0, sym k)
   read-stage b (Asking t (ToWrite p v)) x o ok e = let m : message.Write (time_of t) p v ≡ message.Read x o = same-message _ _ e in absurd (cc m)
   read-stage b (Finishing t) x o ok e = let m : message.Commit t.stamp ≡ message.Read x o = same-message _ _ e in absurd (cc m)
-  read-stage b (Stopping t p) x o ok e = absurd (cc e)
   read-stage b (Closing t) x o ok e = let m : message.Withdraw t.stamp ≡ message.Read x o = same-message _ _ e in absurd (cc m)
+  read-stage b _ x o ok e = absurd (cc e)
 
 -- ---- all
 
@@ -122,8 +113,7 @@ module _ (script : List ℕ → Tree) (run : ℕ) (acts : ℕ → List Task) (mo
   -- one whose last try isn't decided stands at a read of it
   waits-too : (b : ℕ) (t : Try) → In b → last_try (book (k.brokers b)) ≡ Some t → (DecidedAt k.homes t.stamp → ⊥) → Stuck t.stamp
   waits-too b t i last undone =
-      let is : counted b ≡ book (k.brokers b) = counts b i in
-      let last' : last_try (counted b) ≡ Some t = subst (λ z. last_try z ≡ Some t) (sym is) last in
+      let last' : last_try (counted b) ≡ Some t = subst (λ z. last_try z ≡ Some t) (sym (counts b i)) last in
       let rest = began script b run (acts b) (counted b) (k.heard b) (k.rested b i) in
       let same : (counted b).run ≡ run = same-run (counted b).run run rest.0 (k.turns b i).ready.not_old in
       let in-run : stage script run (counted b) (k.heard b) ≡ stage_of script (k.heard b) (open_try (counted b)) (last_try (counted b)) =
@@ -143,10 +133,7 @@ module _ (script : List ℕ → Tree) (run : ℕ) (acts : ℕ → List Task) (mo
         where
           heard-it : (h : Option StampParts) → (k.heard b).closed ≡ h → is_stamp h t.stamp ≡ true → DecidedAt k.homes t.stamp
           heard-it None e s = absurd (false≢true s)
-          heard-it (Some x) e s = k.closed b t.stamp i (e ∙ ap (λ z. Some z) (same-stamp x s))
-            where
-              same-stamp : (x : StampParts) → same_stamp x t.stamp ≡ true → x ≡ t.stamp
-              same-stamp x s = same_stamp-is x t.stamp s
+          heard-it (Some x) e s = k.closed b t.stamp i (e ∙ ap (λ z. Some z) (same_stamp-is x t.stamp s))
 
           by-settled : (c : Bool) → is_settled t.end ≡ c → (c || is_stamp (k.heard b).closed t.stamp) ≡ true → DecidedAt k.homes t.stamp
           by-settled true e s = k.settled b t i last e
@@ -163,8 +150,7 @@ module _ (script : List ℕ → Tree) (run : ℕ) (acts : ℕ → List Task) (mo
       let same-x : r.0 ≡ x = cc same-read in
       let e : TimeParts × HeldRead = (r.0, r.1) in
       let w : Waits (k.homes r.1.object.repository) e = k.waits r.1.object.repository e r.3 in
-      let sent : WriteSent k.ever r.1.object.repository w.start r.1.object w.value = k.puts r.1.object.repository r.1.object w.start w.value w.put in
-      let writer = k.writers w.start.stamp.broker (repository r.1.object.repository) w.start r.1.object w.value sent.0 in
+      let writer = k.writers w.start.stamp.broker (repository r.1.object.repository) w.start r.1.object w.value (k.puts r.1.object.repository r.1.object w.start w.value w.put).0 in
       let t : Try = writer.1.0 in
       let found : find w.start.stamp (tries (book (k.brokers w.start.stamp.broker))) ≡ Some t = writer.1.1 in
       let stamp-is : t.stamp ≡ w.start.stamp = (each-found (λ y. Unit {0}) w.start.stamp (tries (book (k.brokers w.start.stamp.broker))) t found (every-unit (tries (book (k.brokers w.start.stamp.broker))))).1 in

@@ -1,16 +1,8 @@
 -- With one broker the request that stands is later than all that was asked for before it.
-use Rattle.std.proofs.Common.{◌≡◌, ◌⊎◌, ℕ, ◌+◌, ◌<◌, nat_lt, Bool, true, false, length, List, [], ◌∷◌, ◌++◌, refl, sym, ◌∙◌, ap, subst, Some, if◌then◌else◌, inl, inr, arith}
-use Rattle.std.proofs.lemmas.Grind.{common_steps}
-use Rattle.std.proofs.lemmas.Bool.{false≢true}
-use Rattle.std.specs.Ordering.{nat_cmp, ordering_then, is_lt}
-use Rattle.std.specs.declared.cmp.Ordering.{Ordering}
-use Rattle.std.specs.declared.cmp.Ordering.TheVariants.{Less, Equal, Greater}
-use Rattle.complete_law.proofs.Names.{Every, Has, every-has, has-either, StampParts, TimeParts, lt, same_stamp, stamp_lt, same_stamp-is, Effect, Outcome, Answer, Got, Request, Stored, Tree, Act, Book, Try, book, close, enter, find, finish, gain, on_try, open_of, tries, tries_of, EndFits, FitsBook, IsTidy, MayTry, Clocks, IsAskOf, IsBelow, older, each-found, clocks}
-use Rattle.pseudo_time.proofs.OrderLemmas.{lt-stamps, lt-steps}
+use Rattle.complete_law.proofs.Names.{Every, Has, every-has, has-either, StampParts, TimeParts, lt, same_stamp, stamp_lt, same_stamp-is, Effect, Outcome, Answer, Got, Request, Stored, Tree, Act, Book, Try, book, close, enter, find, finish, gain, on_try, open_of, tries, tries_of, EndFits, FitsBook, IsTidy, MayTry, Clocks, IsAskOf, IsBelow, older, each-found, clocks, ◌≡◌, ◌⊎◌, ℕ, ◌+◌, ◌<◌, nat_lt, Bool, true, false, length, List, [], ◌∷◌, ◌++◌, refl, sym, ◌∙◌, ap, subst, Some, if◌then◌else◌, inl, inr, arith, common_steps, false≢true, nat_cmp, ordering_then, is_lt, Ordering, Less, Equal, Greater, lt-stamps, lt-steps, at-open}
 use Rattle.effect_form.specs.declared.effects.Effect.TheVariants as effect
 use Rattle.effect_form.specs.declared.outcomes.Outcome.TheVariants as outcome
 use Rattle.broker_laws.specs.Waits.{Trail}
-use Rattle.broker_laws.proofs.Moves.{at-open}
 
 -- each attempt has a greater clock than those before it
 abbrev pub Falling : List Try → Type 0
@@ -67,10 +59,7 @@ undecided-last run B D (a ∷ done) t k i off = go a.tries k.1 i
     go : (ts : List Try) → Every (λ (x : Try). D x.stamp) (older ts) → Has t (ts ++ tries_of done) → (rest : List Try) × (ts ++ tries_of done ≡ t ∷ rest)
     go [] all h = absurd (decided (tries_of done) k.0 h)
     go (u ∷ us) all (inl e) = (us ++ tries_of done, ap (λ z. z ∷ (us ++ tries_of done)) e)
-    go (u ∷ us) all (inr h) = absurd (elim (has-either us (tries_of done) t h) [
-      | inl x ↦ decided us all x
-      | inr x ↦ decided (tries_of done) k.0 x
-    ])
+    go (u ∷ us) all (inr h) = absurd (elim (has-either us (tries_of done) t h) [ inl x ↦ decided us all x | inr x ↦ decided (tries_of done) k.0 x ])
 
 -- ---- times
 
@@ -87,14 +76,10 @@ unfolding stamp_lt
 clock-less a b h = then-less (nat_cmp a.clock b.clock) _ (level a.clock b.clock h)
 
 less-or-same : (n m : ℕ) → n < m + 1 → (nat_lt n m ≡ true) ⊎ (n ≡ m)
-less-or-same n m h = go (nat_lt n m) refl
+less-or-same n m h = (elim (nat_lt n m) as (λ c. nat_lt n m ≡ c → (nat_lt n m ≡ true) ⊎ (n ≡ m)) [ true ↦ λ e. inl e | false ↦ λ e. inr (same e) ]) refl
   where
     same : nat_lt n m ≡ false → n ≡ m
     same e = grind (arith, common_steps)
-
-    go : (c : Bool) → nat_lt n m ≡ c → (nat_lt n m ≡ true) ⊎ (n ≡ m)
-    go true e = inl e
-    go false e = inr (same e)
 
 front-short : (pre post all : List Answer) → all ≡ pre ++ post → length pre < length all + 1
 front-short pre post all e = let k : length all ≡ length (pre ++ post) = ap (λ (xs : List Answer). length xs) e in grind (arith, common_steps)
@@ -112,10 +97,7 @@ asked-before script ts rest t x e q is fall own step ask = go (same_stamp t.stam
     by-step s (inr h) = inr (ap (λ z. let y : TimeParts = record { stamp = z; step = e.step } in y) s ∙ ap (λ n. let y : TimeParts = record { stamp = x.stamp; step = n } in y) h)
 
     short : t ≡ ask.0 → e.step < x.step + 1
-    short same =
-        let k : length ask.2.0 < length t.answers + 1 = front-short ask.2.0 ask.2.1 t.answers (ap (λ (y : Try). y.answers) same ∙ ask.2.2) in
-        let m : e.step ≡ length ask.2.0 + 1 = ask.2.3 in
-        omega (arith, k, m, step)
+    short same = omega (arith, front-short ask.2.0 ask.2.1 t.answers (ap (λ (y : Try). y.answers) same ∙ ask.2.2), ask.2.3, step)
 
     go : (c : Bool) → same_stamp t.stamp e.stamp ≡ c → (if c then Some t else find e.stamp rest) ≡ Some ask.0 → (lt e x ≡ true) ⊎ (e ≡ x)
     go true s h =

@@ -1,8 +1,5 @@
 -- What the acts of brokers have together: no more attempts than the plan allows, each with as many answers as its script has requests.
-use Rattle.std.proofs.Common.{◌≡◌, ℕ, zero, suc, ◌+◌, ◌*◌, ◌≤◌, max, Bool, true, false, length, List, [], ◌∷◌, refl, ap, Option, Some, None, if◌then◌else◌, arith, slice_get}
-use Rattle.std.specs.List.{filter}
-use Rattle.complete_law.proofs.Names.{Every, ActSpec, Answer, Got, Stored, Stop, Asks, Over, Tree, Ends, Says, Reads, Writes, stop, Task, tasks, Act, Try, Started, AsksAtMost, tries_in}
-use Rattle.broker_laws.specs.Posts.{AreKinds}
+use Rattle.complete_law.proofs.Names.{Every, ActSpec, Answer, Got, Stored, Stop, Asks, Over, Tree, Ends, Says, Reads, Writes, stop, Task, tasks, Act, Try, Started, AsksAtMost, tries_in, ◌≡◌, ℕ, zero, suc, ◌+◌, ◌*◌, ◌≤◌, max, Bool, true, false, length, List, [], ◌∷◌, refl, ap, Option, Some, None, if◌then◌else◌, arith, slice_get, filter, AreKinds}
 use Rattle.complete_law.proofs.Sizes.{IsSpare, end-one, size-act, size-tries, spent-one}
 
 -- ---- numbers
@@ -33,12 +30,10 @@ pub answers-few : (n : ℕ) (t : Tree) (ans : List Answer) → AsksAtMost n t �
 answers-few n (Ends e) [] h k = omega arith
 answers-few n (Ends e) (a ∷ ans) h k = absurd (k [] ans a refl)
 answers-few n (Says v t) ans h k = answers-few n t ans h k
-answers-few zero (Reads o t) ans h k = absurd h
-answers-few (suc n) (Reads o t) [] h k = omega arith
 answers-few (suc n) (Reads o t) (Got v ∷ ans) h k = let m = answers-few n (t v) ans (h v) (got-kinds o t v ans k) in omega (arith, m)
 answers-few (suc n) (Reads o t) (Stored ∷ ans) h k = absurd (k [] ans Stored refl)
-answers-few zero (Writes o v t) ans h k = absurd h
-answers-few (suc n) (Writes o v t) [] h k = omega arith
+answers-few zero _ ans h k = absurd h
+answers-few (suc n) _ [] h k = omega arith
 answers-few (suc n) (Writes o v t) (Got w ∷ ans) h k = absurd (k [] ans (Got w) refl)
 answers-few (suc n) (Writes o v t) (Stored ∷ ans) h k = let m = answers-few n t ans h (stored-kinds o v t ans k) in omega (arith, m)
 
@@ -88,36 +83,18 @@ tasks-few test (a ∷ acts) = go (test a) (tasks-few test acts)
 -- what each act has of these, all have together
 pub acts-share : (f : Act → ℕ) (m : ℕ) (as' : List Act) → Every (λ (a : Act). f a ≤ a.task.tries * m) as' → (g : List Act → ℕ) → (g [] ≡ 0) → ((a : Act) (more : List Act) → g (a ∷ more) ≡ f a + g more) → g as' ≤ tries-allowed as' * m
 acts-share f m [] h g z s = omega (arith, z)
-acts-share f m (a ∷ as') h g z s =
-    let k = acts-share f m as' h.1 g z s in
-    let j = s a as' in
-    let p = mul-plus a.task.tries (tries-allowed as') m in
-    let q : f a ≤ a.task.tries * m = h.0 in
-    omega (arith, k, j, p, q)
+acts-share f m (a ∷ as') h g z s = omega (arith, acts-share f m as' h.1 g z s, s a as', mul-plus a.task.tries (tries-allowed as') m, h.0)
 
 tries-size : (q : ℕ) (ts : List Try) → Every (λ (t : Try). length t.answers ≤ q) ts → size-tries ts ≤ length ts * (q + 2)
 tries-size q [] h = omega arith
-tries-size q (t ∷ ts) h = let k = tries-size q ts h.1 in let j = one t.end in let i : length t.answers ≤ q = h.0 in omega (arith, k, j, i)
-  where
-    one : (o : Option _) → end-one o ≤ 1
-    one None = omega arith
-    one (Some x) = omega arith
+tries-size q (t ∷ ts) h = let k = tries-size q ts h.1 in let j = (elim t.end as (λ o. end-one o ≤ 1) [ None ↦ omega arith | Some x ↦ omega arith ]) in let i : length t.answers ≤ q = h.0 in omega (arith, k, j, i)
 
 pub act-size : (q : ℕ) (a : Act) → 1 ≤ a.task.tries → IsSpare a → Every (λ (t : Try). length t.answers ≤ q) a.tries → size-act a ≤ a.task.tries * (q + 3)
 act-size q a low spare h =
-    let k = tries-size q a.tries h in
-    let j : length a.tries + spent-one a.spent ≤ max 1 a.task.tries = spare in
-    let l : length a.tries + spent-one a.spent ≤ a.task.tries = omega (arith, j, low) in
-    let m = mul-mono (length a.tries + spent-one a.spent) a.task.tries (q + 2) l in
-    let p = mul-plus (length a.tries) (spent-one a.spent) (q + 2) in
-    let r = one a.spent in
-    let z : a.task.tries * (q + 3) ≡ a.task.tries * (q + 2) + a.task.tries = grow a.task.tries q in
-    omega (arith, k, m, p, r, z, low)
+    let l : length a.tries + spent-one a.spent ≤ a.task.tries = omega (arith, spare, low) in
+    let r = (elim a.spent as (λ o. spent-one o ≤ spent-one o * (q + 2)) [ None ↦ omega arith | Some x ↦ omega arith ]) in
+    omega (arith, tries-size q a.tries h, mul-mono (length a.tries + spent-one a.spent) a.task.tries (q + 2) l, mul-plus (length a.tries) (spent-one a.spent) (q + 2), r, grow a.task.tries q, low)
   where
-    one : (o : Option ℕ) → spent-one o ≤ spent-one o * (q + 2)
-    one None = omega arith
-    one (Some x) = omega arith
-
     grow : (n q : ℕ) → n * (q + 3) ≡ n * (q + 2) + n
     grow zero q = omega arith
     grow (suc n) q = let k = grow n q in omega (arith, k)

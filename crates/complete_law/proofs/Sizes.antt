@@ -1,9 +1,5 @@
 -- How large a broker's log is and how many pages it fills, by its book: one effect for the Run, each act, each attempt, each answer, each End and each act that is spent.
-use Rattle.std.proofs.Common.{◌≡◌, ℕ, ◌+◌, ◌*◌, ◌<◌, ◌≤◌, ◌==◌, max, Bool, true, false, length, List, [], ◌∷◌, ◌++◌, refl, sym, ap, subst, Option, Some, None, arith}
-use Rattle.std.proofs.lemmas.Bool.{ltb-true}
-use Rattle.std.proofs.lemmas.Grind.{common_steps}
-use Rattle.std.proofs.lemmas.List.{length-append}
-use Rattle.complete_law.proofs.Names.{Every, Effect, Outcome, StampParts, Answer, Got, Stored, Tree, Act, Book, Try, book, close, enter, finish, gain, new_try, on_act, on_front, on_try, open_front, open_of, another, calls_again, filled_by, most_filled, EndFits, FitsBook, IsTidy, MayTry, if-open}
+use Rattle.complete_law.proofs.Names.{Every, Effect, Outcome, StampParts, Answer, Got, Stored, Tree, Act, Book, Try, book, close, enter, finish, gain, new_try, on_act, on_front, on_try, open_front, open_of, another, calls_again, filled_by, most_filled, EndFits, FitsBook, IsTidy, MayTry, if-open, ◌≡◌, ℕ, ◌+◌, ◌*◌, ◌<◌, ◌≤◌, ◌==◌, max, Bool, true, false, length, List, [], ◌∷◌, ◌++◌, refl, sym, ap, subst, Option, Some, None, arith, ltb-true, common_steps, length-append}
 use Rattle.effect_form.specs.declared.effects.Effect.TheVariants as effect
 use Rattle.effect_form.specs.declared.outcomes.Outcome.TheVariants as outcome
 use Rattle.broker_laws.proofs.TestLemmas.{and-right}
@@ -87,8 +83,7 @@ module _ (script : List ℕ → Tree) (me run : ℕ) where
   run-size : (b : Book) (n : ℕ) → b.run < n → n ≡ run → size (enter (effect.Run n) b) ≡ size b + 1
   run-size b n f e =
       let x : one-if (n == run) ≡ 1 = subst (λ z. one-if (z == run) ≡ 1) (sym e) (run-same run) in
-      let y : one-if (b.run == run) ≡ 0 = run-before b.run run (subst (λ z. b.run < z) e f) in
-      omega (arith, x, y)
+      omega (arith, x, run-before b.run run (subst (λ z. b.run < z) e f))
 
   enter-size : (b : Book) (f : Effect) → FitsBook script me b f → IsOfRun run f → size (enter f b) ≡ size b + 1
   enter-size b (effect.Run n) f r = run-size b n f r
@@ -123,8 +118,7 @@ module _ (script : List ℕ → Tree) (me run : ℕ) where
   run-pages : (b : Book) (n : ℕ) → b.run < n → n ≡ run → pages (enter (effect.Run n) b) ≡ pages b + 1
   run-pages b n f e =
       let x : one-if (n == run) ≡ 1 = subst (λ z. one-if (z == run) ≡ 1) (sym e) (run-same run) in
-      let y : one-if (b.run == run) ≡ 0 = run-before b.run run (subst (λ z. b.run < z) e f) in
-      omega (arith, x, y)
+      omega (arith, x, run-before b.run run (subst (λ z. b.run < z) e f))
 
   enter-pages : (b : Book) (f : Effect) → FitsBook script me b f → IsOfRun run f → pages (enter f b) ≡ pages b + most_filled f
   enter-pages b (effect.Run n) f r = run-pages b n f r
@@ -162,9 +156,8 @@ module _ (script : List ℕ → Tree) (me : ℕ) where
   spare-try : (i : ℕ) (s : StampParts) (as' past : List Act) (P : Act → Type 0) → MayTry i as' P → Every IsSpare (as' ++ past) → Every IsSpare (on_act (λ a. record a { tries = new_try a s ∷ a.tries }) as' ++ past)
   spare-try i s [] past P f h = h
   spare-try i s (a ∷ as') past P f h =
-      let k : length (new_try a s ∷ a.tries) ≤ max 1 a.task.tries = more-tries a.task.tries a.tries (new_try a s) f.2 in
       let z : spent-one a.spent ≡ 0 = ap spent-one f.1 in
-      (omega (arith, k, z), h.1)
+      (omega (arith, more-tries a.task.tries a.tries (new_try a s) f.2, z), h.1)
 
   spare-spent : (i c : ℕ) (as' past : List Act) (P : Act → Type 0) → MayTry i as' P → Every IsSpare (as' ++ past) → Every IsSpare (on_act (λ a. record a { spent = Some c }) as' ++ past)
   spare-spent i c [] past P f h = h

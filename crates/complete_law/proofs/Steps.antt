@@ -1,13 +1,9 @@
 -- Each entry of a calm trace keeps what always holds. (Skeleton: the holes are the steps that are left.)
-use Rattle.std.proofs.Common.{◌≡◌, ℕ, Bool, List, [], ◌∷◌, reverse, refl, sym, ◌∙◌, ap, subst, Option, Some, None, is_some, inl, inr}
-use Rattle.std.proofs.lemmas.Bool.{false≢true, true≢false}
 use Rattle.std.specs.Option.{unwrap_or}
-use Rattle.complete_law.proofs.Names.{Every, StampParts, NodeId, NodeKind, Effect, Fate, book, nothing_heard, repository, broker, keep, Entry, Base, Life, World, opened_life, opened_log, start_world, step, walk_from, all_effects, Meets, MayTake, MayGo, MayLearn, MayGate, Rule, base_of, fates_of, node_turns, node_facts, Refines, node-laws, past-laws, CalmRun, CalmPlace, IsUnstopped, IsIdleAt, AllDone, world_at, DeskSound, desk_at}
+use Rattle.complete_law.proofs.Names.{Every, StampParts, NodeId, NodeKind, Effect, Fate, book, nothing_heard, repository, broker, keep, Entry, Base, Life, World, opened_life, opened_log, start_world, step, walk_from, all_effects, Meets, MayTake, MayGo, MayLearn, MayGate, Rule, base_of, fates_of, node_turns, node_facts, Refines, node-laws, past-laws, CalmRun, CalmPlace, IsUnstopped, IsIdleAt, AllDone, world_at, DeskSound, desk_at, ◌≡◌, ℕ, Bool, List, [], ◌∷◌, reverse, refl, sym, ◌∙◌, ap, subst, Option, Some, None, is_some, inl, inr, false≢true, true≢false, MayHear, opens, left-nothing, ready-start}
 use Rattle.pseudo_time.specs.declared.nodes.NodeKind.TheVariants as kind
 use Rattle.world_core.specs.declared.entries.Entry.TheVariants as entry
-use Rattle.world_core.specs.Legal.{MayHear}
 use Rattle.world_core.proofs.Rules.{meets-front}
-use Rattle.serial_law.proofs.Openings.{opens, left-nothing, ready-start}
 use Rattle.serial_law.proofs.Refinements.{step-refines}
 use Rattle.complete_law.proofs.Places.{CalmWorld, IsBegun, IsDecided, tasks_of}
 use Rattle.complete_law.proofs.BrokerMoves.{take-calm, go-calm}
@@ -50,9 +46,6 @@ module _ (r : CalmRun) where
       go kind.Broker i may = absurd (true≢false may.repository)
       go kind.Repository i may = learn-calm b w c f i (sym (c.ups (repository i)) ∙ may.up) s committed
 
-  gate-step : (w : World) (n : NodeId) → Facts-at w → CalmWorld b w → MayGate w n → CalmWorld b (step b w (entry.Gate n))
-  gate-step w n f c may = gate-calm b w c f n may
-
   -- ---- the start
 
   pub empty-life : (n : NodeId) → (start_world b).life n ≡ opened_life b.start []
@@ -76,10 +69,7 @@ module _ (r : CalmRun) where
     untaken = λ k e. refl;
     rested = λ n g. absurd (false≢true g);
     sound = λ n. subst (λ (l : Life). DeskSound b.script n b.run (tasks_of b n) (IsBegun (start_world b)) (IsDecided (start_world b)) (desk_at (reverse (all_effects l)) nothing_heard)) (sym (empty-life (broker n))) (blank-sound n);
-    said = λ n o h. absurd (elim h [
-      | inl i ↦ i
-      | inr i ↦ i
-    ]);
+    said = λ n o h. absurd (elim h [ inl i ↦ i | inr i ↦ i ]);
     placed = λ n o g e. absurd (false≢true g);
     waits = λ m e h. absurd h;
     asked = λ m s e n. absurd (false≢true e);
@@ -96,18 +86,14 @@ module _ (r : CalmRun) where
       go kind.Broker i may = take-broker w i k f c may
 
   pub no-moment : (w : World) (n : NodeId) → Facts-at w → MayHear w n → ⊥
-  no-moment w n f may = go w.last refl
-    where
-      go : (l : Option ℕ) → w.last ≡ l → ⊥
-      go None e = false≢true (sym (ap is_some e) ∙ may.some)
-      go (Some t) e = f.models.ticked t (f.models.ticks t e)
+  no-moment w n f may = (elim w.last as (λ l. w.last ≡ l → ⊥) [ None ↦ λ e. false≢true (sym (ap is_some e) ∙ may.some) | Some t ↦ λ e. f.models.ticked t (f.models.ticks t e) ]) refl
 
   one-step : (w : World) (e : Entry) → Facts-at w → CalmWorld b w → IsUnstopped e → Rule b fates w e → CalmWorld b (step b w e)
   one-step w (entry.Take n k) f c q rule = take-step w n k f c rule
   one-step w (entry.Go n) f c q rule = go-step w n f c rule
   one-step w (entry.Learn n s d) f c q rule = learn-step w n s d f c rule
   one-step w (entry.Hear n) f c q rule = absurd (no-moment w n f rule)
-  one-step w (entry.Gate n) f c q rule = gate-step w n f c rule
+  one-step w (entry.Gate n) f c q rule = gate-calm b w c f n rule
   one-step w e f c q rule = absurd q
 
   quiet-tick : (e : Entry) → IsUnstopped e → (t : ℕ) → e ≡ entry.Tick t → ⊥

@@ -1,9 +1,7 @@
 -- A run whose stops have their causes doesn't stop: the first Tick would stand at an idle place, where all are done, and the first full medium would have room.
-use Rattle.std.proofs.Common.{◌≡◌, ℕ, ◌≤◌, ◌<◌, List, [], ◌∷◌, ◌++◌, refl, sym, ◌∙◌, subst, append_assoc, arith}
-use Rattle.complete_law.proofs.Names.{Every, every-append, NodeId, Fate, Entry, Base, World, start_world, step, walk_from, Meets, Rule, base_of, fates_of, CalmRun, CalmPlace, IsUnstopped, IsIdleAt, AllDone, AskAtMost, filled_by, log_at, most_pages}
+use Rattle.complete_law.proofs.Names.{Every, every-append, NodeId, Fate, Entry, Base, World, start_world, step, walk_from, Meets, Rule, base_of, fates_of, CalmRun, CalmPlace, IsUnstopped, IsIdleAt, AllDone, AskAtMost, filled_by, log_at, most_pages, ◌≡◌, ℕ, ◌≤◌, ◌<◌, List, [], ◌∷◌, ◌++◌, refl, sym, ◌∙◌, subst, append_assoc, arith, MayStop}
 use Rattle.world_core.specs.declared.entries.Entry.TheVariants.{Crash, Down, Tick}
 use Rattle.pseudo_time.specs.declared.down_causes.DownCause.TheVariants.{Medium, Damaged, Full}
-use Rattle.complete_law.specs.Calm.{MayStop}
 
 -- the entry after a front meets its rule
 meets-there : (b : Base) (fates : List Fate) (w : World) (front : List Entry) (e : Entry) (rest : List Entry) → Meets b fates w (front ++ e ∷ rest) → Rule b fates (walk_from b w front) e

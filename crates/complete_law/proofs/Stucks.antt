@@ -1,12 +1,8 @@
 -- No calm place is stuck, where what always holds holds there.
-use Rattle.std.proofs.Common.{[], refl}
-use Rattle.complete_law.proofs.Names.{Base, sent_by, start_world, base_of, fates_of, node_turns, node_facts, LogFacts, logs_at, node-laws, past-laws, CalmPlace, IsIdleAt, AllDone, world_at}
+use Rattle.complete_law.proofs.Names.{Base, sent_by, start_world, base_of, fates_of, node_turns, node_facts, LogFacts, logs_at, node-laws, past-laws, CalmPlace, IsIdleAt, AllDone, world_at, [], refl, Ticked, legal-facts, walk-known}
 use Rattle.world_core.specs.Pasts.{OpenedWith}
-use Rattle.serial_law.specs.Refines.{Ticked}
-use Rattle.serial_law.proofs.Openings.{legal-facts}
 use Rattle.complete_law.proofs.Places.{CalmWorld}
 use Rattle.complete_law.proofs.Idles.{idle-done}
-use Rattle.serial_law.proofs.Steps.{walk-known}
 
 module _ (p : CalmPlace) where
   abbrev base : Base

@@ -1,13 +1,7 @@
 -- What all nodes have sent together, and what one repository has stored: so much as the attempts that the plan allows can pay.
-use Rattle.std.proofs.Common.{◌≡◌, ℕ, zero, suc, ◌+◌, ◌*◌, ◌≤◌, ◌<◌, ◌==◌, Bool, true, false, ◌&&◌, length, map, List, [], ◌∷◌, refl, sym, ap, subst, if◌then◌else◌, arith, ◌∙◌}
-use Rattle.std.proofs.lemmas.Grind.{common_steps}
-use Rattle.std.specs.List.{filter}
-use Rattle.std.proofs.lemmas.Bool.{eq-eqb, false≢true}
-use Rattle.complete_law.proofs.Names.{NodeId, NodeKind, ActSpec, Message, same_is, same_node, same_node-refl, accepts, is_broker, broker, repository, tasks, Sending, AskAtMost, CalmPlace, log_at, sent_at, tries_in, world_at}
+use Rattle.complete_law.proofs.Names.{NodeId, NodeKind, ActSpec, Message, same_is, same_node, same_node-refl, accepts, is_broker, broker, repository, tasks, Sending, AskAtMost, CalmPlace, log_at, sent_at, tries_in, world_at, ◌≡◌, ℕ, zero, suc, ◌+◌, ◌*◌, ◌≤◌, ◌<◌, ◌==◌, Bool, true, false, ◌&&◌, length, map, List, [], ◌∷◌, refl, sym, ap, subst, if◌then◌else◌, arith, ◌∙◌, common_steps, filter, eq-eqb, false≢true, is_repository, most_messages}
 use Rattle.pseudo_time.specs.declared.nodes.NodeKind.TheVariants as kind
 use Rattle.message_form.specs.declared.messages.Message.TheVariants as message
-use Rattle.pseudo_time.specs.Nodes.{is_repository}
-use Rattle.complete_law.specs.Calm.{most_messages}
 use Rattle.complete_law.proofs.BrokerLoads.{broker-issues}
 use Rattle.complete_law.proofs.Costs.{weight}
 use Rattle.complete_law.proofs.HandLoads.{price, stored, wt}
@@ -51,16 +45,11 @@ sum-none : (m k n : ℕ) → n < m → sum-to (λ i. if-from (m == i) k) n ≡ 0
 sum-none m k zero h = let e : (m == 0) ≡ false = grind (arith, common_steps) in ap (λ c. if-from c k) e
 sum-none m k (suc n) h =
     let e : (m == suc n) ≡ false = grind (arith, common_steps) in
-    let j = sum-none m k n (omega (arith, h)) in
     let i : if-from (m == suc n) k ≡ 0 = ap (λ c. if-from c k) e in
-    omega (arith, i, j)
+    omega (arith, i, sum-none m k n (omega (arith, h)))
 
 sum-one : (m k n : ℕ) → sum-to (λ i. if-from (m == i) k) n ≤ k
-sum-one m k zero = go (m == 0)
-  where
-    go : (c : Bool) → if-from c k ≤ k
-    go true = omega arith
-    go false = omega arith
+sum-one m k zero = elim (m == 0) as (λ c. if-from c k ≤ k) [ true ↦ omega arith | false ↦ omega arith ]
 sum-one m k (suc n) = go (m == suc n) refl (sum-one m k n)
   where
     go : (c : Bool) → (m == suc n) ≡ c → sum-to (λ i. if-from (m == i) k) n ≤ k → if-from c k + sum-to (λ i. if-from (m == i) k) n ≤ k
@@ -72,11 +61,9 @@ sum-tasks : (acts : List ActSpec) (n : ℕ) → sum-to (λ i. tries-given (tasks
 sum-tasks [] n = sum-zero n
 sum-tasks (a ∷ acts) n =
     let f : ℕ → ℕ = λ i. tries-given (tasks (filter (λ (x : ActSpec). x.broker == i) acts)) in
-    let k = sum-tasks acts n in
-    let j = sum-one a.broker a.tries n in
     let p = sum-plus (λ i. if-from (a.broker == i) a.tries) (λ i. tries-given (tasks (filter (λ (x : ActSpec). x.broker == i) acts))) n in
     let m = sum-mono (λ i. tries-given (tasks (filter (λ (x : ActSpec). x.broker == i) (a ∷ acts)))) (λ i. if-from (a.broker == i) a.tries + tries-given (tasks (filter (λ (x : ActSpec). x.broker == i) acts))) n (λ i. one (a.broker == i) (filter (λ (x : ActSpec). x.broker == i) acts)) in
-    omega (arith, k, j, p, m)
+    omega (arith, sum-tasks acts n, sum-one a.broker a.tries n, p, m)
   where
     one : (c : Bool) (more : List ActSpec) → tries-given (tasks (if c then a ∷ more else more)) ≤ if-from c a.tries + tries-given (tasks more)
     one true more = omega arith
@@ -108,43 +95,30 @@ module _ (is : NodeKind → Bool) (named : ℕ → NodeId) (same : (n : NodeId) 
   pub sent-total : (ss : List Sending) (n : ℕ) → top ss ≤ n → all (from-kind is v) ss ≤ sum-to (λ i. sent-load v (named i) ss) n
   sent-total [] n h = omega arith
   sent-total (s ∷ ss) n h =
-      let k = sent-total ss n (omega (arith, h)) in
-      let p = sum-plus (λ i. if-from (same_node s.post.from (named i)) (v s.post.message)) (λ i. sent-load v (named i) ss) n in
       let l : s.post.from.number ≤ n = omega (arith, h) in
-      let j = one (is s.post.from.kind) refl l in
-      omega (arith, k, p, j)
+      omega (arith, sent-total ss n (omega (arith, h)), sum-plus (λ i. if-from (same_node s.post.from (named i)) (v s.post.message)) (λ i. sent-load v (named i) ss) n, one (is s.post.from.kind) refl l)
     where
       one : (c : Bool) → is s.post.from.kind ≡ c → s.post.from.number ≤ n → if-from c (v s.post.message) ≤ sum-to (λ k. if-from (same_node s.post.from (named k)) (v s.post.message)) n
       one false e l = omega arith
       one true e l =
-          let k = sum-has (λ k. if-from (same_node s.post.from (named k)) (v s.post.message)) s.post.from.number n l in
           let q : if-from (same_node s.post.from (named s.post.from.number)) (v s.post.message) ≡ v s.post.message =
           ap (λ (x : NodeId). if-from (same_node s.post.from x) (v s.post.message)) (sym (same s.post.from e)) ∙ ap (λ c. if-from c (v s.post.message)) (same_node-refl s.post.from) in
-          omega (arith, k, q)
+          omega (arith, sum-has (λ k. if-from (same_node s.post.from (named k)) (v s.post.message)) s.post.from.number n l, q)
 
 broker-named : (n : NodeId) → is_broker n.kind ≡ true → n ≡ broker n.number
-broker-named n e = go n.kind n.number e
-  where
-    go : (kd : NodeKind) (i : ℕ) → is_broker kd ≡ true → record { kind = kd; number = i } ≡ broker i
-    go kind.Broker i e = refl
-    go kind.Repository i e = absurd (false≢true e)
+broker-named n e = (elim n.kind as (λ kd. (i : ℕ) → is_broker kd ≡ true → record { kind = kd; number = i } ≡ broker i) [ kind.Broker ↦ λ i e. refl | kind.Repository ↦ λ i e. absurd (false≢true e) ]) n.number e
 
 repository-named : (n : NodeId) → is_repository n.kind ≡ true → n ≡ repository n.number
-repository-named n e = go n.kind n.number e
-  where
-    go : (kd : NodeKind) (i : ℕ) → is_repository kd ≡ true → record { kind = kd; number = i } ≡ repository i
-    go kind.Repository i e = refl
-    go kind.Broker i e = absurd (false≢true e)
+repository-named n e = (elim n.kind as (λ kd. (i : ℕ) → is_repository kd ≡ true → record { kind = kd; number = i } ≡ repository i) [ kind.Repository ↦ λ i e. refl | kind.Broker ↦ λ i e. absurd (false≢true e) ]) n.number e
 
 -- all brokers together
 pub brokers-few : (p : CalmPlace) (most : ℕ) → AskAtMost p.run most → (u v z : ℕ) → all (by-broker (weight u v z)) (world_at p).sendings ≤ tries_in p.run.plan.acts * (u + (most * v + z))
 brokers-few p most asks u v z =
-    let a = sent-total is_broker broker broker-named (weight u v z) (world_at p).sendings (top (world_at p).sendings) (omega arith) in
     let b = sum-mono (λ i. sent-load (weight u v z) (broker i) (world_at p).sendings) (λ i. tries-given (tasks_of (steps.b p.run) i) * (u + (most * v + z))) (top (world_at p).sendings)
     (λ i. (let k = broker-issues u v z p most asks i in omega (arith, k))) in
     let c = sum-times (λ i. tries-given (tasks_of (steps.b p.run) i)) (u + (most * v + z)) (top (world_at p).sendings) in
     let d = mul-mono (sum-to (λ i. tries-given (tasks_of (steps.b p.run) i)) (top (world_at p).sendings)) (tries_in p.run.plan.acts) (u + (most * v + z)) (sum-tasks p.run.plan.acts (top (world_at p).sendings)) in
-    omega (arith, a, b, c, d)
+    omega (arith, sent-total is_broker broker broker-named (weight u v z) (world_at p).sendings (top (world_at p).sendings) (omega arith), b, c, d)
 
 -- ---- what repositories take
 
@@ -185,42 +159,30 @@ module _ (a t s q : ℕ) where
           omega (arith, h, k)
 
   gain-most : (n : ℕ) (x : Sending) → gain a t s q n x ≤ worth x
-  gain-most n x = let k = to-one n x in let j = go (x.post.to.number == n) in omega (arith, k, j)
-    where
-      go : (c : Bool) → if-from c (worth x) ≤ worth x
-      go true = omega arith
-      go false = omega arith
+  gain-most n x = let k = to-one n x in let j = (elim (x.post.to.number == n) as (λ c. if-from c (worth x) ≤ worth x) [ true ↦ omega arith | false ↦ omega arith ]) in omega (arith, k, j)
 
   gains-total : (ss : List Sending) (n : ℕ) → sum-to (λ i. all (gain a t s q i) ss) n ≤ all worth ss
   gains-total [] n = sum-zero n
   gains-total (x ∷ ss) n =
-      let k = gains-total ss n in
-      let l = sum-plus (λ i. gain a t s q i x) (λ i. all (gain a t s q i) ss) n in
-      let m = sum-mono (λ i. gain a t s q i x) (λ i. if-from (x.post.to.number == i) (worth x)) n (λ i. to-one i x) in
       let o = sum-one x.post.to.number (worth x) n in
-      omega (arith, k, l, m, o)
+      omega (arith, gains-total ss n, sum-plus (λ i. gain a t s q i x) (λ i. all (gain a t s q i) ss) n, sum-mono (λ i. gain a t s q i x) (λ i. if-from (x.post.to.number == i) (worth x)) n (λ i. to-one i x), o)
 
   -- what all repositories have sent
   repositories-paid : (p : CalmPlace) → all (by-repository (wt a t s q)) (world_at p).sendings ≤ all worth (world_at p).sendings
   repositories-paid p =
-      let x = sent-total is_repository repository repository-named (wt a t s q) (world_at p).sendings (top (world_at p).sendings) (omega arith) in
       let y = sum-mono (λ i. sent-load (wt a t s q) (repository i) (world_at p).sendings) (λ i. all (gain a t s q i) (world_at p).sendings) (top (world_at p).sendings)
       (λ i. (let k = all-paid a t s q p i in let j = used-most (gain a t s q i) 1 (world_at p).taken (world_at p).sendings in omega (arith, k, j))) in
-      let z = gains-total (world_at p).sendings (top (world_at p).sendings) in
-      omega (arith, x, y, z)
+      omega (arith, sent-total is_repository repository repository-named (wt a t s q) (world_at p).sendings (top (world_at p).sendings) (omega arith), y, gains-total (world_at p).sendings (top (world_at p).sendings))
 
 -- ---- what one of them stores
 
 -- but for its Learns, a repository stores no more effects than brokers sent requests
 pub stored-few : (p : CalmPlace) (most : ℕ) → AskAtMost p.run most → (n : ℕ) → stored 1 (log_at p (repository n)) ≤ tries_in p.run.plan.acts * (most + 2)
 stored-few p most asks n =
-    let k = all-paid 0 0 1 0 p n in
-    let a = used-most (gain 0 0 1 0 n) 1 (world_at p).taken (world_at p).sendings in
     let b = all-mono (gain 0 0 1 0 n) (by-broker (weight 1 1 1)) (world_at p).sendings (λ x. (let i = gain-most 0 0 1 0 n x in let j = nothing (is_repository x.post.from.kind) x.post.message in omega (arith, i, j))) in
-    let c = brokers-few p most asks 1 1 1 in
     let d : 1 + (most * 1 + 1) ≡ most + 2 = omega arith in
     let e : tries_in p.run.plan.acts * (1 + (most * 1 + 1)) ≡ tries_in p.run.plan.acts * (most + 2) = ap (λ x. tries_in p.run.plan.acts * x) d in
-    omega (arith, k, a, b, c, e)
+    omega (arith, all-paid 0 0 1 0 p n, used-most (gain 0 0 1 0 n) 1 (world_at p).taken (world_at p).sendings, b, brokers-few p most asks 1 1 1, e)
   where
     nothing : (c : Bool) (m : Message) → if-from c (wt 0 0 0 0 m) ≡ 0
     nothing false m = refl
@@ -242,9 +204,6 @@ each (x ∷ ss) = let k = each ss in let j = one x.post.from.kind x.post.message
 
 pub few-messages : (p : CalmPlace) (most : ℕ) → AskAtMost p.run most → length (sent_at p) ≤ most_messages p.run most
 few-messages p most asks =
-    let k = each (world_at p).sendings in
-    let a = repositories-paid 1 1 0 2 p in
-    let b = brokers-few p most asks 2 4 2 in
     let d : 2 + (most * 4 + 2) ≡ 4 * most + 4 = omega arith in
     let e : tries_in p.run.plan.acts * (2 + (most * 4 + 2)) ≡ tries_in p.run.plan.acts * (4 * most + 4) = ap (λ x. tries_in p.run.plan.acts * x) d in
-    omega (arith, k, a, b, e)
+    omega (arith, each (world_at p).sendings, repositories-paid 1 1 0 2 p, brokers-few p most asks 2 4 2, e)

@@ -1,9 +1,5 @@
 -- Each End that a trace added has its cause, over any logs.
-use Rattle.std.proofs.Common.{refl, ◌≡◌, ℕ, ◌≤◌, nat_lt, true, false, inl, inr, List, [], ◌∷◌, ◌++◌, length, sym, ◌∙◌, ap, subst, Some, arith, append_assoc}
-use Rattle.std.proofs.lemmas.List.{append_cancel_right, length-append}
-use Rattle.std.proofs.lemmas.Bool.{ltb-false}
-use Rattle.std.proofs.lemmas.Option.{same_Some}
-use Rattle.serial_law.proofs.Names.{Has, TimeParts, lt, NodeId, NodeKind, Repository, Broker, every-has, ObjectId, Value, Effect, Outcome, Post, each_below, WriteStep, write_step, Asks, Request, ToRead, ToWrite, stop, marks, Once, Task, Book, broker, repository, counted, IsAskOf, WasAnswered, WasRefused, Base, sent_by, walk, start_world, Meets, base_of, fates_of, Reason, meets-front, post-answered, write-sent, read-sent, logs_at}
+use Rattle.serial_law.proofs.Names.{Has, TimeParts, lt, NodeId, NodeKind, Repository, Broker, every-has, ObjectId, Value, Effect, Outcome, Post, each_below, WriteStep, write_step, Asks, Request, ToRead, ToWrite, stop, marks, Once, Task, Book, broker, repository, counted, IsAskOf, WasAnswered, WasRefused, Base, sent_by, walk, start_world, Meets, base_of, fates_of, Reason, meets-front, post-answered, write-sent, read-sent, logs_at, refl, ◌≡◌, ℕ, ◌≤◌, nat_lt, true, false, inl, inr, List, [], ◌∷◌, ◌++◌, length, sym, ◌∙◌, ap, subst, Some, arith, append_assoc, append_cancel_right, length-append, ltb-false, same_Some, stop_of, own_tries, IsReading, IsWriting, OfOpen, SentOk}
 use Rattle.effect_form.specs.declared.effects.Effect.TheVariants as effect
 use Rattle.effect_form.specs.declared.outcomes.Outcome.TheVariants as outcome
 use Rattle.message_form.specs.declared.messages.Message.TheVariants as message
@@ -11,17 +7,12 @@ use Rattle.message_form.specs.Growth.{Grew, Each}
 use Rattle.object_history.specs.declared.steps.WriteStep.TheVariants as write
 use Rattle.repository_laws.specs.Facts as repositories
 use Rattle.broker_core.specs.Book.{Try, find, open_try, time_of}
-use Rattle.broker_core.specs.Fits.{stop_of}
-use Rattle.broker_core.specs.Counted.{own_tries}
 use Rattle.broker_laws.specs.AnyLogs.{Joins, Rests, Says}
-use Rattle.broker_laws.specs.Fits.{IsReading, IsWriting}
 use Rattle.broker_laws.specs.Posts as posts
-use Rattle.broker_laws.specs.Posts.{IsLater, OfOpen}
 use Rattle.broker_laws.proofs.AnyDesks.{later-through, enters, open-own}
 use Rattle.broker_laws.proofs.TurnLemmas.{runs-rise}
 use Rattle.world_core.specs.declared.entries.Entry.TheVariants.{Tick}
 use Rattle.world_facts.specs.Refines as refines
-use Rattle.world_facts.specs.Soft.{SentOk}
 use Rattle.world_facts.specs.AnyRules.{GrownFrom, any_facts, any_post, tasks_of, log_opened, log_before}
 use Rattle.world_facts.proofs.AnyNodes.{any-trace}
 use Rattle.serial_law.specs.Added.{AnyPlace, any_log, AnsweredThere, RefusedThere, EndCause}
@@ -96,11 +87,7 @@ module _ (p : AnyPlace) where
       -- runs only rise
       rise : (log fresh : List Effect) → Grew J log fresh → (at log).run ≤ (at (fresh ++ log)).run
       rise log [] g = omega arith
-      rise log (f ∷ fresh) g =
-          let one = rise log fresh g.0 in
-          let two = runs-rise p.script b (at (fresh ++ log)) f g.1.fits in
-          let same = ap (λ (z : Book). z.run) (enters p.script b base.run acts (fresh ++ log) f g.1) in
-          omega (arith, one, two, same)
+      rise log (f ∷ fresh) g = omega (arith, rise log fresh g.0, runs-rise p.script b (at (fresh ++ log)) f g.1.fits, ap (λ (z : Book). z.run) (enters p.script b base.run acts (fresh ++ log) f g.1))
 
       -- what broker b was asked for at this pseudotime is what its open attempt asks for
       that-asks : (t : Try) (q s : Request) → nat_lt (at below).run base.run ≡ false → open_try (at below) ≡ Some t → stop_of p.script t ≡ Asks q →
@@ -108,8 +95,7 @@ module _ (p : AnyPlace) where
       that-asks t q s low stands asked now ask =
           let high : (at below).run ≤ base.run = (let r = rise below (late ++ (effect.End i o ∷ [])) since in let e = ap (λ l. (at l).run) whole in omega (arith, r, e, now)) in
           let run : (at below).run ≡ base.run = (let l = ltb-false (at below).run base.run low in omega (arith, l, high)) in
-          let here : find t.stamp (own_tries p.script b base.run acts below) ≡ Some t = open-own p.script b base.run acts (at below) t stands in
-          let l = later-through p.script b base.run acts below (late ++ (effect.End i o ∷ [])) t.stamp t since run here in
+          let l = later-through p.script b base.run acts below (late ++ (effect.End i o ∷ [])) t.stamp t since run (open-own p.script b base.run acts (at below) t stands) in
           let found : find t.stamp (own_tries p.script b base.run acts mine) ≡ Some l.1.0 = subst (λ z. find t.stamp (own_tries p.script b base.run acts z) ≡ Some l.1.0) whole l.1.1 in
           let same : ask.0 ≡ l.1.0 = same_Some ask.0 l.1.0 (sym ask.1 ∙ found) in
           let more = l.1.2.answers in
@@ -167,10 +153,8 @@ module _ (p : AnyPlace) where
             Reason base p.front r (time_of t) (write.LaterRead e) → EndCause p b below i (outcome.LaterRead o' e)
         read-by e r w own less (inl q) reason = absurd (no-read r w own q.0.0)
         read-by e r w own less (inr q) reason =
-            let same = the-same r w q.0 q.1 own in
-            let told : AnsweredThere p (time_of t) o' v (write.LaterRead e) = taken (write.LaterRead e) r own reason in
-            let once : OnceThere (write.LaterRead e) = moved (write.LaterRead e) r w q.0 same q.2 in
-            inl (t, stands, (v, writes, (less, once-read (any_log p (repository o'.repository)) o' (time_of t) e v once, told)))
+            let once : OnceThere (write.LaterRead e) = moved (write.LaterRead e) r w q.0 (the-same r w q.0 q.1 own) q.2 in
+            inl (t, stands, (v, writes, (less, once-read (any_log p (repository o'.repository)) o' (time_of t) e v once, taken (write.LaterRead e) r own reason)))
 
         read-cause : (e : TimeParts) (k : NodeKind) (n : ℕ) → any_post p.script base.run base.acts ever k n (any_log p (record { kind = k; number = n })) (record { to = broker b; message = message.LaterRead (time_of t) e }) →
             Has (record { from = record { kind = k; number = n }; to = broker b; message = message.LaterRead (time_of t) e }) ever → EndCause p b below i (outcome.LaterRead o' e)
@@ -181,10 +165,8 @@ module _ (p : AnyPlace) where
         version-cause : (x : TimeParts) (k : NodeKind) (n : ℕ) → any_post p.script base.run base.acts ever k n (any_log p (record { kind = k; number = n })) (record { to = broker b; message = message.LaterVersion (time_of t) x }) →
             Has (record { from = record { kind = k; number = n }; to = broker b; message = message.LaterVersion (time_of t) x }) ever → EndCause p b below i (outcome.LaterVersion o' x)
         version-cause x Repository r says h =
-            let same = the-same r says.0 says.1 says.2 says.3 in
             let told : AnsweredThere p (time_of t) o' v (write.LaterVersion x) = taken (write.LaterVersion x) r says.3 (post-answered base (fates_of p.trace.sent) p.front meets (record { from = repository r; to = broker b; message = message.LaterVersion (time_of t) x }) h r refl) in
-            let once : OnceThere (write.LaterVersion x) = moved (write.LaterVersion x) r says.0 says.1 same says.5 in
-            (t, stands, (v, writes, (says.4, once-version (any_log p (repository o'.repository)) o' (time_of t) x v once, told)))
+            (t, stands, (v, writes, (says.4, once-version (any_log p (repository o'.repository)) o' (time_of t) x v (moved (write.LaterVersion x) r says.0 says.1 (the-same r says.0 says.1 says.2 says.3) says.5), told)))
         version-cause x Broker n says h = absurd says.holds
 
       -- the same of a read
@@ -212,8 +194,7 @@ module _ (p : AnyPlace) where
             Reason base p.front r (time_of t) (write.LaterRead e) → EndCause p b below i (outcome.LaterRead o' e)
         read-ended e r w own less (inr q) reason = absurd (no-write r w q.0 own q.1.0)
         read-ended e r w own less (inl q) reason =
-            let same : o' ≡ w = same-read r w own q.0.0 in
-            let here : r ≡ o'.repository = sym q.0.1 ∙ ap (λ (z : ObjectId). z.repository) (sym same) in
+            let here : r ≡ o'.repository = sym q.0.1 ∙ ap (λ (z : ObjectId). z.repository) (sym (same-read r w own q.0.0)) in
             let marked : Has (effect.Mark e) (any_log p (repository o'.repository)) = subst (λ k. Has (effect.Mark e) (any_log p (repository k))) here (once-refused (any_log p (repository r)) w (time_of t) e q.1) in
             inr (t, stands, reads, (less, marked, refused-there e r own reason))
 

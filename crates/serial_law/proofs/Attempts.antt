@@ -1,15 +1,10 @@
 -- The attempts of a run: each is a try of a broker's book, at the home that its act has in the plan.
-use Rattle.std.proofs.Common.{◌≡◌, ℕ, zero, suc, ◌≤◌, ◌==◌, Bool, true, false, List, [], ◌∷◌, ◌++◌, map, refl, sym, ◌∙◌, subst, Some, None, inl, inr, arith, if◌then◌else◌, ap}
-use Rattle.std.proofs.lemmas.Bool.{eqb-true}
-use Rattle.serial_law.proofs.Names.{Every, Has, same_stamp, StampParts, NodeId, has-either, has-left, same_stamp-is, Effect, Outcome, Tree, Act, Book, book, tries, tries_of, ActSpec, keep, tasks, acts_of, broker, MayTry, attempt}
-use Rattle.pseudo_time.proofs.OrderLemmas.{same_stamp-self}
+use Rattle.serial_law.proofs.Names.{Every, Has, same_stamp, StampParts, NodeId, has-either, has-left, same_stamp-is, Effect, Outcome, Tree, Act, Book, book, tries, tries_of, ActSpec, keep, tasks, acts_of, broker, MayTry, attempt, ◌≡◌, ℕ, zero, suc, ◌≤◌, ◌==◌, Bool, true, false, List, [], ◌∷◌, ◌++◌, map, refl, sym, ◌∙◌, subst, Some, None, inl, inr, arith, if◌then◌else◌, ap, eqb-true, same_stamp-self, FitsBook, IsTidy, book_tries, run_tries}
 use Rattle.effect_form.specs.declared.effects.Effect.TheVariants as effect
 use Rattle.effect_form.specs.declared.outcomes.Outcome.TheVariants as outcome
 use Rattle.broker_core.specs.Book.{Try, close, enter, find, finish, gain, on_act, on_front, on_try, new_try}
-use Rattle.broker_laws.specs.Fits.{FitsBook, IsTidy}
 use Rattle.broker_laws.specs.Posts.{Distinct}
 use Rattle.world_core.specs.Deeds as deeds
-use Rattle.serial_law.specs.Runs.{book_tries, run_tries}
 
 -- ---- homes
 
@@ -25,11 +20,7 @@ homes-on g k (a ∷ acts) h = (k a h.0, h.1)
 
 -- a change that keeps the task and the stamp of a try
 homes-try : (g : Try → Try) → ((t : Try) → IsHome t → IsHome (g t)) → (acts : List Act) → Every Homes acts → Every Homes (on_try g acts)
-homes-try g k acts h = homes-on (λ a. record a { tries = on_front g a.tries }) (λ a. fronts a.tries) acts h
-  where
-    fronts : (ts : List Try) → Every IsHome ts → Every IsHome (on_front g ts)
-    fronts [] h = h
-    fronts (t ∷ ts) h = (k t h.0, h.1)
+homes-try g k acts h = homes-on (λ a. record a { tries = on_front g a.tries }) (λ a. elim a.tries as (λ ts. Every IsHome ts → Every IsHome (on_front g ts)) [ [] ↦ λ h. h | t ∷ ts ↦ λ h. (k t h.0, h.1) ]) acts h
 
 homes-close : (o : Outcome) (b : Book) → Every Homes b.acts → Every Homes (close o b).acts
 homes-close (outcome.Spent c) b h = homes-on (λ a. record a { spent = Some c }) (λ a p. p) b.acts h
@@ -134,8 +125,7 @@ pub tries-kept : (script : List ℕ → Tree) (run : ℕ) (acts : List ActSpec) 
     ((b : ℕ) → 1 ≤ b → b ≤ n → keep script b run (tasks (acts_of b acts)) (logs (broker b)) ≡ logs (broker b)) → run_tries script run acts logs n ≡ booked_tries script run logs n
 unfolding run_tries booked_tries
 tries-kept script run acts logs zero h = refl
-tries-kept script run acts logs (suc b) h =
-    λ i. tries-kept script run acts logs b (λ c low high. h c low (omega (arith, high))) i ++ book_tries script run (book (h (suc b) (omega arith) (omega arith) i))
+tries-kept script run acts logs (suc b) h = λ i. tries-kept script run acts logs b (λ c low high. h c low (omega (arith, high))) i ++ book_tries script run (book (h (suc b) (omega arith) (omega arith) i))
 
 pub try-of : (script : List ℕ → Tree) (run : ℕ) (logs : NodeId → List Effect) (n : ℕ) (a : deeds.Try) → Has a (booked_tries script run logs n) → IsTryOf script run logs n a
 unfolding booked_tries

@@ -1,17 +1,12 @@
 -- the map after the deeds of the committed stamps
-use Rattle.std.proofs.Common.{◌≡◌, ◌+◌, ◌≤◌, length, Bool, true, false, List, [], ◌∷◌, ◌++◌, refl, sym, ◌∙◌, ap, subst, Option, Some, None, ◌⊎◌, inl, inr, ◌&&◌, ◌||◌, arith, if◌then◌else◌}
-use Rattle.std.proofs.lemmas.Bool.{false≢true, true≢false, or_left, or_right, or_cases}
-use Rattle.serial_law.proofs.Names.{TimeParts, StampParts, ObjectId, Value, Nothing, Mark, Post, left_after, Seen, scan, same_stamp, stamp_lt, Answer, Got, Over, Stored, ToWrite, RunLogs, Try, all_deeds, before, committed, deed, deed_of, deed_stamps, finals, find, marks_at, written, RunFacts, asks, HasValue, Ends, Reads, Says, Tree, Writes, after, talked, Objects, object_cmp, value_at, Ending, Has, and-both, and-left, and-right, scan-passes, two-tests, Passes, same_stamp-is, same_stamp-of}
+use Rattle.serial_law.proofs.Names.{TimeParts, StampParts, ObjectId, Value, Nothing, Mark, Post, left_after, Seen, scan, same_stamp, stamp_lt, Answer, Got, Over, Stored, ToWrite, RunLogs, Try, all_deeds, before, committed, deed, deed_of, deed_stamps, finals, find, marks_at, written, RunFacts, asks, HasValue, Ends, Reads, Says, Tree, Writes, after, talked, Objects, object_cmp, value_at, Ending, Has, and-both, and-left, and-right, scan-passes, two-tests, Passes, same_stamp-is, same_stamp-of, ◌≡◌, ◌+◌, ◌≤◌, length, Bool, true, false, List, [], ◌∷◌, ◌++◌, refl, sym, ◌∙◌, ap, subst, Option, Some, None, ◌⊎◌, inl, inr, ◌&&◌, ◌||◌, arith, if◌then◌else◌, false≢true, true≢false, or_left, or_right, or_cases, after_deed, HoldsAll, HoldsBefore, unwrap_or}
 use Rattle.serial_law.proofs.Settled.{at-home}
 use Rattle.serial_law.proofs.Talking.{alone, kinds-all}
 use Rattle.serial_law.proofs.Premises.{lone, put-at}
 use Rattle.serial_law.proofs.Fold.{Deed, Holds, Grows, on, fold-step, own-deed}
 use Rattle.serial_law.proofs.Given.{given-deed}
 use Rattle.serial_law.proofs.Stamps.{InS, Rising, rising, listed-pass, put-listed}
-use Rattle.world_core.specs.Deeds.{after_deed}
-use Rattle.serial_law.specs.Serial.{HoldsAll, HoldsBefore}
 use Rattle.std.specs.FinMap as finite
-use Rattle.std.specs.Option.{unwrap_or}
 use Rattle.value_form.specs.declared.endings.Ending.TheVariants as ending
 use Rattle.serial_law.proofs.Puts.{Picked, PutAt, picked, starts-of}
 use Rattle.serial_law.proofs.Times.{stamp_lt-self, stamp_lt-trans}
@@ -24,19 +19,15 @@ find-is : (s : StampParts) (ts : List Try) (T : Try) → find s ts ≡ Some T �
 unfolding find
 find-is s [] T h = absurd (cc h)
 find-is s (U ∷ ts) T h =
-    elim (if-same (same_stamp U.stamp s) U T (find s ts) h) [
-      | inl e ↦ (inl e.1, ap (λ z. z.stamp) (sym e.1) ∙ same_stamp-is U.stamp s e.0)
-      | inr e ↦ let w = find-is s ts T e in (inr w.0, w.1)
-    ]
+    elim (if-same (same_stamp U.stamp s) U T (find s ts) h) [ inl e ↦ (inl e.1, ap (λ z. z.stamp) (sym e.1) ∙ same_stamp-is U.stamp s e.0) | inr e ↦ let w = find-is s ts T e in (inr w.0, w.1) ]
 
 -- a script that has ended asks nothing
 over-asks : (t : Tree) (ans : List Answer) (e : Ending) → (talked t ans).stop ≡ Over e → asks (after t ans) ≡ None
 over-asks (Ends f) ans e h = refl
 over-asks (Says v t) ans e h = over-asks t ans e h
-over-asks (Reads o k) [] e h = absurd (cc h)
 over-asks (Reads o k) (Got v ∷ ans) e h = over-asks (k v) ans e h
 over-asks (Reads o k) (Stored ∷ ans) e h = absurd (cc h)
-over-asks (Writes o v t) [] e h = absurd (cc h)
+over-asks _ [] e h = absurd (cc h)
 over-asks (Writes o v t) (Stored ∷ ans) e h = over-asks t ans e h
 over-asks (Writes o v t) (Got w ∷ ans) e h = absurd (cc h)
 
@@ -49,8 +40,7 @@ more [] ys a = omega arith
 more (x ∷ xs) ys a = let h = more xs ys a in omega (arith, h)
 
 -- a committed try is whole
-pub whole : (k : RunLogs) (ever : List Post) → RunFacts k ever → (T : Try) → Has T k.tries → committed k T.stamp ≡ true →
-    (talked T.script T.answers).stop ≡ Over ending.Finished
+pub whole : (k : RunLogs) (ever : List Post) → RunFacts k ever → (T : Try) → Has T k.tries → committed k T.stamp ≡ true → (talked T.script T.answers).stop ≡ Over ending.Finished
 whole k ever f T a c = (f.commit_asked T a (f.commit T.stamp (at-home k ever f T.stamp c))).0
 
 -- its puts are answered
@@ -66,9 +56,7 @@ whole-puts k ever f T a c o x w h e =
         let stop : asks (after T.script pre) ≡ None =
         ap (λ xs. asks (after T.script xs)) (sym (e ∙ nil pre)) ∙ over-asks T.script T.answers ending.Finished (whole k ever f T a c) in
         absurd (cc (sym q ∙ stop))
-    next pre (b ∷ post) e n q =
-        let le = more pre post b in
-        subst (λ xs. x.step ≤ length xs) (sym e) (omega (arith, n, le))
+    next pre (b ∷ post) e n q = subst (λ xs. x.step ≤ length xs) (sym e) (omega (arith, n, more pre post b))
 
 -- the deed of a committed stamp
 deed-of : (k : RunLogs) (ever : List Post) → RunFacts k ever → (s : StampParts) → committed k s ≡ true → (m : Objects) → HoldsBefore k s m →
@@ -78,8 +66,7 @@ deed-of k ever f s c m h (Some T) e =
     let w = find-is s k.tries T e in
     let own : committed k T.stamp ≡ true = ap (λ z. committed k z) w.1 ∙ c in
     let l = lone k ever f T w.0 in
-    let al = alone T.script T.answers T.stamp (marks_at k) (committed k) l m (subst (λ z. HoldsBefore k z m) (sym w.1) h) in
-    let same = al.whole ending.Finished (whole k ever f T w.0 own) in
+    let same = (alone T.script T.answers T.stamp (marks_at k) (committed k) l m (subst (λ z. HoldsBefore k z m) (sym w.1) h)).whole ending.Finished (whole k ever f T w.0 own) in
     let d : Deed (marks_at k) T.stamp m (left_after T.script T.answers m) =
     own-deed T.script T.answers T.stamp (marks_at k) (committed k) l (whole-puts k ever f T w.0 own) (kinds-all T.script T.answers T.stamp (marks_at k) (committed k) l) m in
     subst (λ n. Deed (marks_at k) s m n) (sym same.2) (subst (λ z. Deed (marks_at k) z m (left_after T.script T.answers m)) w.1 d)
@@ -101,8 +88,7 @@ holds-agree : (k : RunLogs) (f g : StampParts → Bool) (m : Objects) →
     ((o : ObjectId) (x : TimeParts) (v : Value) → PutAt o x v (marks_at k o) → f x.stamp ≡ true → g x.stamp ≡ true) →
     ((o : ObjectId) (x : TimeParts) (v : Value) → PutAt o x v (marks_at k o) → g x.stamp ≡ true → f x.stamp ≡ true) →
     Holds (marks_at k) f m → Holds (marks_at k) g m
-holds-agree k f g m h j holds o =
-    subst (λ r. HasValue r (value_at m o)) (sym (agree f g o (marks_at k o) (h o) (j o))) (holds o)
+holds-agree k f g m h j holds o = subst (λ r. HasValue r (value_at m o)) (sym (agree f g o (marks_at k o) (h o) (j o))) (holds o)
 
 -- how far the fold has come: f are the stamps done, ss those to come, ok all of them
 pub record Far (k : RunLogs) (ok f : StampParts → Bool) (ss : List StampParts) : Type 0 where
@@ -166,9 +152,8 @@ fold-all k ever facts ok f [] far m holds =
     holds-agree k f ok m (λ o x v p h. far.done x.stamp h)
     (λ o x v p h. elim (far.all o x v p h) [ inl e ↦ e | inr j ↦ absurd j ]) holds
 fold-all k ever facts ok f (s ∷ ss) far m holds =
-    let c : committed k s ≡ true = far.sure s (far.pass s (inl refl)) in
     let d : Deed (marks_at k) s m (after_deed (deed k s) m) =
-    deed-of k ever facts s c m (next-holds k ok f s ss far m holds) (find s k.tries) refl in
+    deed-of k ever facts s (far.sure s (far.pass s (inl refl))) m (next-holds k ok f s ss far m holds) (find s k.tries) refl in
     fold-all k ever facts ok (allow f s) ss (farther k ok f s ss far) (after_deed (deed k s) m)
     (fold-step (marks_at k) f (allow f s) s (grows k ok f s ss far) m (after_deed (deed k s) m) d holds)
 

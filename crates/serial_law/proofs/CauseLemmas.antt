@@ -1,6 +1,5 @@
 -- What a repository once answered to a write, and the marks that it answered by, in its log.
-use Rattle.std.proofs.Common.{◌≡◌, ◌⊎◌, List, [], ◌∷◌, inl, inr}
-use Rattle.serial_law.proofs.Names.{Has, TimeParts, ObjectId, Value, Effect, read_step, write_step, marks, Once, put-logged}
+use Rattle.serial_law.proofs.Names.{Has, TimeParts, ObjectId, Value, Effect, read_step, write_step, marks, Once, put-logged, ◌≡◌, ◌⊎◌, List, [], ◌∷◌, inl, inr}
 use Rattle.effect_form.specs.declared.effects.Effect.TheVariants as effect
 use Rattle.object_history.specs.declared.marks.Mark.TheVariants as mark
 use Rattle.object_history.specs.declared.steps.ReadStep.TheVariants as read

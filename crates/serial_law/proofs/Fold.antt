@@ -1,7 +1,5 @@
 -- the fold left_after committed stamps
-use Rattle.std.proofs.Common.{◌≡◌, ◌≢◌, ◌+◌, ◌≤◌, length, Bool, true, false, List, ◌∷◌, refl, sym, ◌∙◌, ap, subst, Option, Some, None, ◌⊎◌, inl, inr, arith}
-use Rattle.std.proofs.lemmas.Bool.{true≢false}
-use Rattle.serial_law.proofs.Names.{TimeParts, StampParts, ObjectId, Value, Mark, left_after, Seen, scan, lt, same_stamp, stamp_lt, Answer, Stored, asks, at, HasValue, Tree, after, Objects, value_at, scan-passes, starts-all, two-tests, top-all, AtMost, Passes, Starts, lt-stamps, same_stamp-is, same_stamp-of}
+use Rattle.serial_law.proofs.Names.{TimeParts, StampParts, ObjectId, Value, Mark, left_after, Seen, scan, lt, same_stamp, stamp_lt, Answer, Stored, asks, at, HasValue, Tree, after, Objects, value_at, scan-passes, starts-all, two-tests, top-all, AtMost, Passes, Starts, lt-stamps, same_stamp-is, same_stamp-of, ◌≡◌, ◌≢◌, ◌+◌, ◌≤◌, length, Bool, true, false, List, ◌∷◌, refl, sym, ◌∙◌, ap, subst, Option, Some, None, ◌⊎◌, inl, inr, arith, true≢false}
 use Rattle.serial_law.proofs.Own.{Kinds, NoneWritten, LastWritten, own-map, fronts, same-value}
 use Rattle.serial_law.proofs.Lone.{Lone}
 use Rattle.serial_law.proofs.Puts.{Picked, PutAt, at-most, picked}
@@ -31,24 +29,20 @@ pub record Grows (f h : StampParts → Bool) (s : StampParts) : Type 0 where
   pub only : (x : StampParts) → h x ≡ true → x ≢ s → f x ≡ true
 
 -- with a put of s: the greatest of the larger test is of s
-top-is-s : (f h : StampParts → Bool) (s : StampParts) → Grows f h s → (r : Option Seen) (q : Seen) → q.start.stamp ≡ s → AtMost r q.start →
-    Passes (on h) r → Passes (on (λ x. same_stamp x s)) r
+top-is-s : (f h : StampParts → Bool) (s : StampParts) → Grows f h s → (r : Option Seen) (q : Seen) → q.start.stamp ≡ s → AtMost r q.start → Passes (on h) r → Passes (on (λ x. same_stamp x s)) r
 top-is-s f h s g None q e a p = tt
 top-is-s f h s g (Some r) q e a p = cases (same_stamp r.start.stamp s) refl
   where
     cases : (b : Bool) → same_stamp r.start.stamp s ≡ b → same_stamp r.start.stamp s ≡ true
     cases true k = k
-    cases false k =
-        let low : stamp_lt r.start.stamp s ≡ true = g.low r.start.stamp (g.only r.start.stamp p (stamp-no r.start.stamp s k)) in
-        absurd (true≢false (sym (lt-stamps r.start q.start (subst (λ z. stamp_lt r.start.stamp z ≡ true) (sym e) low)) ∙ a))
+    cases false k = absurd (true≢false (sym (lt-stamps r.start q.start (subst (λ z. stamp_lt r.start.stamp z ≡ true) (sym e) (g.low r.start.stamp (g.only r.start.stamp p (stamp-no r.start.stamp s k))))) ∙ a))
 
 -- without one: the greatest of the larger test passes the smaller
 top-is-f : (f h : StampParts → Bool) (s : StampParts) (o : ObjectId) (m : List Mark) → Grows f h s → Starts (λ y. same_stamp y.stamp s ≡ true → ⊥) o m →
     (r : Option Seen) → Picked o m r → Passes (on h) r → Passes (on f) r
 unfolding Picked
 top-is-f f h s o m g none None st p = tt
-top-is-f f h s o m g none (Some r) st p =
-    g.only r.start.stamp p (λ e. at-most (λ y. same_stamp y.stamp s) o r.start r.value m None none st (same_stamp-of r.start.stamp s e))
+top-is-f f h s o m g none (Some r) st p = g.only r.start.stamp p (λ e. at-most (λ y. same_stamp y.stamp s) o r.start r.value m None none st (same_stamp-of r.start.stamp s e))
 
 value-of : (r : Option Seen) (q : Seen) (v : Value) → r ≡ Some q → v ≡ q.value → HasValue r v
 value-of None q v e h = absurd (cc e)
@@ -79,8 +73,7 @@ fold-one marks f h s g m n deed holds o (Some q) e =
     value-of (scan (on h) o (marks o)) q (value_at n o) (sym same ∙ e) now
 
 -- one step of the fold
-pub fold-step : (marks : ObjectId → List Mark) (f h : StampParts → Bool) (s : StampParts) → Grows f h s → (m n : Objects) → Deed marks s m n →
-    Holds marks f m → Holds marks h n
+pub fold-step : (marks : ObjectId → List Mark) (f h : StampParts → Bool) (s : StampParts) → Grows f h s → (m n : Objects) → Deed marks s m n → Holds marks f m → Holds marks h n
 fold-step marks f h s g m n deed holds o = fold-one marks f h s g m n deed holds o (scan (on (λ x. same_stamp x s)) o (marks o)) refl
 
 deed-one : (t : Tree) (ans : List Answer) (s : StampParts) (marks : ObjectId → List Mark) (sure : StampParts → Bool) → Lone t ans s marks sure →
@@ -89,17 +82,13 @@ deed-one : (t : Tree) (ans : List Answer) (s : StampParts) (marks : ObjectId →
     (r : Option Seen) → Picked o (marks o) r → Passes (on (λ x. same_stamp x s)) r → Starts (λ y. same_stamp y.stamp s ≡ true → AtMost r y) o (marks o) →
     Deed_at r old new
 unfolding Picked
-deed-one t ans s marks sure f whole old new o (inl k) None st pas top =
-    absurd (at-most (λ y. same_stamp y.stamp s) o (at s k.0) k.1 (marks o) None top (f.stored o k.1 k.0 k.2.0) (same_stamp-of s s refl))
+deed-one t ans s marks sure f whole old new o (inl k) None st pas top = absurd (at-most (λ y. same_stamp y.stamp s) o (at s k.0) k.1 (marks o) None top (f.stored o k.1 k.0 k.2.0) (same_stamp-of s s refl))
 deed-one t ans s marks sure f whole old new o (inl k) (Some q) st pas top =
     let own : q.start.stamp ≡ s = same_stamp-is q.start.stamp s pas in
     let am : lt q.start (at s k.0) ≡ false =
     at-most (λ y. same_stamp y.stamp s) o (at s k.0) k.1 (marks o) (Some q) top (f.stored o k.1 k.0 k.2.0) (same_stamp-of s s refl) in
     let w = f.puts o q.start q.value st own (whole o q.start q.value st own) in
-    let lo : length k.0 + 1 ≤ q.start.step = inside-low q.start s (length k.0 + 1) am own in
-    let up : length w.0 ≤ length k.0 = k.2.1 w.0 q.value w.2 in
-    let at_w : q.start.step ≡ length w.0 + 1 = w.1 in
-    let eq : w.0 ≡ k.0 = fronts w.0 k.0 (Stored ∷ w.2.0.0) (Stored ∷ k.2.0.0.0) (sym w.2.0.1 ∙ k.2.0.0.1) (omega (arith, lo, up, at_w)) in
+    let eq : w.0 ≡ k.0 = fronts w.0 k.0 (Stored ∷ w.2.0.0) (Stored ∷ k.2.0.0.0) (sym w.2.0.1 ∙ k.2.0.0.1) (omega (arith, inside-low q.start s (length k.0 + 1) am own, k.2.1 w.0 q.value w.2, w.1)) in
     k.3 ∙ sym (same-value o q.value k.1 (sym w.2.1 ∙ ap (λ x. asks (after t x)) eq ∙ k.2.0.1))
 deed-one t ans s marks sure f whole old new o (inr k) None st pas top = k.1
 deed-one t ans s marks sure f whole old new o (inr k) (Some q) st pas top =

@@ -1,12 +1,8 @@
 -- Given writes, set in the order of their starts, leave what a deed of their stamp leaves.
-use Rattle.std.proofs.Common.{◌≡◌, ◌≢◌, ℕ, ◌≤◌, zero, suc, Bool, true, false, List, [], ◌∷◌, refl, sym, ◌∙◌, ap, subst, Option, Some, None, ◌⊎◌, inl, inr, arith, if◌then◌else◌}
-use Rattle.std.proofs.lemmas.Bool.{false≢true}
-use Rattle.serial_law.proofs.Names.{TimeParts, StampParts, ObjectId, Value, Mark, Put, Stretch, Settle, Floor, Post, Seen, scan, same_object, Distinct, lt, same_stamp, RunLogs, Version, in_run, log_of, marks_at, put_in, puts_of, puts_to, written, RunFacts, marks, Objects, value_at, same_object-is, same_object-of, scan-passes, top-all, AtMost, Passes, Starts, lt-total, same_stamp-is, same_stamp-of}
+use Rattle.serial_law.proofs.Names.{TimeParts, StampParts, ObjectId, Value, Mark, Put, Stretch, Post, Seen, scan, same_object, Distinct, lt, same_stamp, RunLogs, Version, in_run, log_of, marks_at, put_in, puts_of, puts_to, written, RunFacts, marks, Objects, value_at, same_object-is, same_object-of, scan-passes, top-all, AtMost, Passes, Starts, lt-total, same_stamp-is, same_stamp-of, ◌≡◌, ◌≢◌, ℕ, ◌≤◌, zero, suc, Bool, true, false, List, [], ◌∷◌, refl, sym, ◌∙◌, ap, subst, Option, Some, None, ◌⊎◌, inl, inr, arith, if◌then◌else◌, false≢true, set_all, lt-asymmetric}
 use Rattle.serial_law.proofs.LogLemmas.{le-cases, in-low, in-high, in-both, marks-put, marks-in, marks-cases, put-marks}
 use Rattle.serial_law.proofs.Fold.{Deed, Deed_at, on}
 use Rattle.serial_law.proofs.Premises.{put-at}
-use Rattle.world_core.specs.Deeds.{set_all}
-use Rattle.pseudo_time.proofs.OrderLemmas.{lt-asymmetric}
 use Rattle.serial_law.proofs.Puts.{Picked, PutAt, at-most, picked, starts-at}
 use Rattle.serial_law.proofs.Own.{value-insert}
 use Rattle.serial_law.proofs.Times.{not-lt-trans}
@@ -27,8 +23,7 @@ Sorted [] = Unit {0}
 Sorted (p ∷ ps) = AllFrom p.start ps × Sorted ps
 
 -- an insertion has the put and the rest
-in-choose : (b : Bool) (w p : Version) (ps qs : List Version) (v : Version) → In (if b then w ∷ p ∷ ps else p ∷ qs) v → (In qs v → (v ≡ w) ⊎ In ps v) →
-    (v ≡ w) ⊎ In (p ∷ ps) v
+in-choose : (b : Bool) (w p : Version) (ps qs : List Version) (v : Version) → In (if b then w ∷ p ∷ ps else p ∷ qs) v → (In qs v → (v ≡ w) ⊎ In ps v) → (v ≡ w) ⊎ In (p ∷ ps) v
 in-choose false w p ps qs v (inl e) h = inr (inl e)
 in-choose false w p ps qs v (inr j) h = elim (h j) [ inl e ↦ inl e | inr i ↦ inr (inr i) ]
 in-choose true w p ps qs v (inl e) h = inl e
@@ -70,11 +65,9 @@ from-is x (p ∷ ps) v h (inr j) = from-is x ps v h.1 j
 from-is x [] v h j = absurd j
 
 from-put : (x : TimeParts) (w : Version) (ps : List Version) → AllFrom x ps → lt w.start x ≡ false → AllFrom x (put_in w ps)
-from-put x w ps h k =
-    from-of x (put_in w ps) (λ v j. elim (in-put w ps v j) [ inl e ↦ ap (λ z. lt z.start x) e ∙ k | inr i ↦ from-is x ps v h i ])
+from-put x w ps h k = from-of x (put_in w ps) (λ v j. elim (in-put w ps v j) [ inl e ↦ ap (λ z. lt z.start x) e ∙ k | inr i ↦ from-is x ps v h i ])
 
-sorted-one : (b : Bool) (w p : Version) (ps : List Version) → lt w.start p.start ≡ b → Sorted (p ∷ ps) → Sorted (put_in w ps) →
-    Sorted (if b then w ∷ p ∷ ps else p ∷ put_in w ps)
+sorted-one : (b : Bool) (w p : Version) (ps : List Version) → lt w.start p.start ≡ b → Sorted (p ∷ ps) → Sorted (put_in w ps) → Sorted (if b then w ∷ p ∷ ps else p ∷ put_in w ps)
 sorted-one false w p ps e h k = (from-put p.start w ps h.0 e, k)
 sorted-one true w p ps e h k =
     let not : lt p.start w.start ≡ false = lt-asymmetric w.start p.start e in
@@ -92,11 +85,8 @@ sorted-if false w ps h = h
 sorted-of : (s : StampParts) (m : List Mark) (ps : List Version) → Sorted ps → Sorted (puts_of s m ps)
 unfolding puts_of
 sorted-of s [] ps h = h
-sorted-of s (Put o x v ∷ m) ps h =
-    sorted-if (same_stamp x.stamp s) (record { object = o; start = x; value = v }) (puts_of s m ps) (sorted-of s m ps h)
-sorted-of s (Stretch o x ∷ m) ps h = sorted-of s m ps h
-sorted-of s (Settle t c ∷ m) ps h = sorted-of s m ps h
-sorted-of s (Floor z ∷ m) ps h = sorted-of s m ps h
+sorted-of s (Put o x v ∷ m) ps h = sorted-if (same_stamp x.stamp s) (record { object = o; start = x; value = v }) (puts_of s m ps) (sorted-of s m ps h)
+sorted-of s (_ ∷ m) ps h = sorted-of s m ps h
 
 pub sorted-to : (k : RunLogs) (s : StampParts) (n : ℕ) → Sorted (puts_to k s n)
 unfolding puts_to
@@ -120,9 +110,7 @@ pub in-of : (s : StampParts) (m : List Mark) (ps : List Version) (v : Version) �
 unfolding puts_of
 in-of s [] ps v j = inr j
 in-of s (Put o x w ∷ m) ps v j = of-if (same_stamp x.stamp s) s o x w m ps (puts_of s m ps) v refl j (in-of s m ps v)
-in-of s (Stretch o x ∷ m) ps v j = in-of s m ps v j
-in-of s (Settle t c ∷ m) ps v j = in-of s m ps v j
-in-of s (Floor z ∷ m) ps v j = in-of s m ps v j
+in-of s (_ ∷ m) ps v j = in-of s m ps v j
 
 old-if : (b : Bool) (w : Version) (qs : List Version) (v : Version) → In qs v → In (if b then put_in w qs else qs) v
 old-if true w qs v j = put-old w qs v j
@@ -132,9 +120,7 @@ old-of : (s : StampParts) (m : List Mark) (ps : List Version) (v : Version) → 
 unfolding puts_of
 old-of s [] ps v j = j
 old-of s (Put o x w ∷ m) ps v j = old-if (same_stamp x.stamp s) (record { object = o; start = x; value = w }) (puts_of s m ps) v (old-of s m ps v j)
-old-of s (Stretch o x ∷ m) ps v j = old-of s m ps v j
-old-of s (Settle t c ∷ m) ps v j = old-of s m ps v j
-old-of s (Floor z ∷ m) ps v j = old-of s m ps v j
+old-of s (_ ∷ m) ps v j = old-of s m ps v j
 
 new-if : (b : Bool) (w : Version) (qs : List Version) → b ≡ true → In (if b then put_in w qs else qs) w
 new-if true w qs h = put-in w qs
@@ -153,11 +139,9 @@ of-in s (Put a y w ∷ m) ps o x v (inl h) e =
     subst (λ z. In (if same_stamp y.stamp s then put_in (record { object = a; start = y; value = w }) (puts_of s m ps) else puts_of s m ps) z)
     (version-path a o y x w v h.0 h.1 h.2)
     (new-if (same_stamp y.stamp s) (record { object = a; start = y; value = w }) (puts_of s m ps) (same_stamp-of y.stamp s (ap (λ z. z.stamp) h.1 ∙ e)))
-of-in s (Put a y w ∷ m) ps o x v (inr h) e =
-    old-if (same_stamp y.stamp s) (record { object = a; start = y; value = w }) (puts_of s m ps) (record { object = o; start = x; value = v }) (of-in s m ps o x v h e)
+of-in s (Put a y w ∷ m) ps o x v (inr h) e = old-if (same_stamp y.stamp s) (record { object = a; start = y; value = w }) (puts_of s m ps) (record { object = o; start = x; value = v }) (of-in s m ps o x v h e)
 of-in s (Stretch a y ∷ m) ps o x v h e = of-in s m ps o x v h e
-of-in s (Settle t c ∷ m) ps o x v h e = of-in s m ps o x v h e
-of-in s (Floor z ∷ m) ps o x v h e = of-in s m ps o x v h e
+of-in s (_ ∷ m) ps o x v h e = of-in s m ps o x v h e
 
 pub in-to : (k : RunLogs) (s : StampParts) (n : ℕ) (v : Version) → In (puts_to k s n) v → (r : ℕ) × (1 ≤ r) × (r ≤ n) × Of s (marks (log_of k r)) v
 unfolding puts_to
@@ -189,15 +173,13 @@ written-at k ever f s v j =
       w.3.1,
     )
 
-pub at-written : (k : RunLogs) (s : StampParts) (o : ObjectId) (x : TimeParts) (v : Value) → PutAt o x v (marks_at k o) → x.stamp ≡ s →
-    In (written k s) (record { object = o; start = x; value = v })
+pub at-written : (k : RunLogs) (s : StampParts) (o : ObjectId) (x : TimeParts) (v : Value) → PutAt o x v (marks_at k o) → x.stamp ≡ s → In (written k s) (record { object = o; start = x; value = v })
 at-written k s o x v h e =
     let w = put-at k o x v h in
     to-in k s k.repositories o.repository o x v (in-low k o.repository w.0) (in-high k o.repository w.0) (put-marks (log_of k o.repository) o x v w.1) e
 
 -- of puts that are set in order the last one of an object counts
-kept-one : (ws : List Version) (m : Objects) (o : ObjectId) (v : Value) → ((u : Version) → In ws u → u.object ≡ o → u.value ≡ v) → value_at m o ≡ v →
-    value_at (set_all ws m) o ≡ v
+kept-one : (ws : List Version) (m : Objects) (o : ObjectId) (v : Value) → ((u : Version) → In ws u → u.object ≡ o → u.value ≡ v) → value_at m o ≡ v → value_at (set_all ws m) o ≡ v
 kept-one [] m o v h e = e
 kept-one (p ∷ ps) m o v h e =
     kept-one ps (finite.insert m p.object p.value) o v (λ u j. h u (inr j)) (value-insert m p.object o p.value ∙ now (same_object o p.object) refl)
@@ -210,8 +192,7 @@ last-one : (ws : List Version) (m : Objects) (o : ObjectId) (x : TimeParts) (v :
     ((u : Version) → In ws u → u.object ≡ o → lt x u.start ≡ false) → ((u : Version) → In ws u → u.object ≡ o → u.start ≡ x → u.value ≡ v) →
     value_at (set_all ws m) o ≡ v
 last-one [] m o x v s j h g = absurd j
-last-one (p ∷ ps) m o x v s (inr j) h g =
-    last-one ps (finite.insert m p.object p.value) o x v s.1 j (λ u i. h u (inr i)) (λ u i. g u (inr i))
+last-one (p ∷ ps) m o x v s (inr j) h g = last-one ps (finite.insert m p.object p.value) o x v s.1 j (λ u i. h u (inr i)) (λ u i. g u (inr i))
 last-one (p ∷ ps) m o x v s (inl e) h g =
     kept-one ps (finite.insert m p.object p.value) o v
     (λ u i q. g u (inr i) q (lt-total u.start x (ap (λ z. lt u.start z) (ap (λ z. z.start) e) ∙ from-is p.start ps u s.0 i) (h u (inr i) q)))
@@ -234,8 +215,7 @@ one-value (Put a y u ∷ m) o x v w d (inr h) (inl j) = absurd (starts-at (λ z.
     moved e f p = subst (λ z. PutAt z y v m) (sym e) (subst (λ z. PutAt o z v m) (sym f) p)
 one-value (Put a y u ∷ m) o x v w d (inr h) (inr j) = one-value m o x v w d.1 h j
 one-value (Stretch a y ∷ m) o x v w d h j = one-value m o x v w d h j
-one-value (Settle t c ∷ m) o x v w d h j = one-value m o x v w d h j
-one-value (Floor z ∷ m) o x v w d h j = one-value m o x v w d h j
+one-value (_ ∷ m) o x v w d h j = one-value m o x v w d h j
 
 pub distinct-at : (k : RunLogs) (ever : List Post) → RunFacts k ever → (o : ObjectId) → Distinct (marks_at k o)
 distinct-at k ever f o = marks-cases k o (λ m. Distinct m) (λ i. f.distinct o.repository i) tt
@@ -243,8 +223,7 @@ distinct-at k ever f o = marks-cases k o (λ m. Distinct m) (λ i. f.distinct o.
 -- a listed put of the object, at its marks
 listed : (k : RunLogs) (ever : List Post) → RunFacts k ever → (s : StampParts) (u : Version) → In (written k s) u → (o : ObjectId) → u.object ≡ o →
     PutAt o u.start u.value (marks_at k o) × (u.start.stamp ≡ s)
-listed k ever f s u j o e =
-    let w = written-at k ever f s u j in (subst (λ p. PutAt p u.start u.value (marks_at k p)) e w.0, w.1)
+listed k ever f s u j o e = let w = written-at k ever f s u j in (subst (λ p. PutAt p u.start u.value (marks_at k p)) e w.0, w.1)
 
 given-one : (k : RunLogs) (ever : List Post) → RunFacts k ever → (s : StampParts) (m : Objects) (o : ObjectId) (r : Option Seen) → Picked o (marks_at k o) r →
     Passes (on (λ x. same_stamp x s)) r → Starts (λ y. same_stamp y.stamp s ≡ true → AtMost r y) o (marks_at k o) →

@@ -1,19 +1,14 @@
 -- A script that keeps to the repositories of its plan asks for objects of these alone.
-use Rattle.std.proofs.Common.{◌≡◌, ℕ, zero, suc, ◌^◌, nat_lt, Bool, true, false, List, [], ◌∷◌, ◌++◌, refl, subst, ap, Some, Result, Ok, Err, if◌then◌else◌, pos, negsuc}
-use Rattle.std.proofs.lemmas.Option.{same_Some}
 use Rattle.value_form.specs.declared.fail_kinds.FailKind.{FailKind}
 use Rattle.value_form.specs.declared.fail_kinds.FailKind.TheVariants as fails
-use Rattle.serial_law.proofs.Names.{ObjectId, Value, Request, Answer, Got, Stored, Tree, Ends, Says, Reads, Writes, after, InRange, asks, asked_of}
+use Rattle.serial_law.proofs.Names.{ObjectId, Value, Request, Answer, Got, Stored, Tree, Ends, Says, Reads, Writes, after, InRange, asks, asked_of, ◌≡◌, ℕ, zero, suc, ◌^◌, nat_lt, Bool, true, false, List, [], ◌∷◌, ◌++◌, refl, subst, ap, Some, Result, Ok, Err, if◌then◌else◌, pos, negsuc, same_Some, Spot, Fixed, At, Step, Let, Read, Write, Print, If, IfElse, Repeat, Withdraw, Block, End, Then, value, object_at, condition, count, Onward, asked_with, asked_turns, asked, all_asked, denote}
 use Rattle.value_form.specs.declared.values.Value.TheVariants as v
-use Rattle.value_form.specs.Mirror.{Spot, Fixed, At, Step, Let, Read, Write, Print, If, IfElse, Repeat, Withdraw, Block, End, Then}
 use Rattle.script_meaning.specs.Names.{Names, with_name}
 use Rattle.script_meaning.specs.Operations.{◌>>=◌, object_in}
-use Rattle.script_meaning.specs.Meaning.{value, object_at, condition, count}
 use Rattle.script_form.specs.Row as r
 use Rattle.script_form.specs.Rows.{Numbered, on, step_rows, rows}
 use Rattle.script_form.specs.RowTexts.{SpotInLimits, SpotUpTo}
 use Rattle.script_form.specs.Printable.{RowsInLimits}
-use Rattle.serial_model.specs.Questions.{Onward, asked_with, asked_turns, asked, all_asked, denote}
 
 -- each request of the script is for an object of these repositories
 abbrev pub Inside : ℕ → Tree → Type 0
@@ -29,10 +24,9 @@ InsideOn n go = (names : Names) (left : ℕ) → Inside n (go names left)
 pub inside-after : (n : ℕ) (t : Tree) (ans : List Answer) → Inside n t → Inside n (after t ans)
 inside-after n (Ends e) ans h = tt
 inside-after n (Says a t) ans h = inside-after n t ans h
-inside-after n (Reads o k) [] h = h
 inside-after n (Reads o k) (Got a ∷ ans) h = inside-after n (k a) ans (h.1 a)
 inside-after n (Reads o k) (Stored ∷ ans) h = h
-inside-after n (Writes o a t) [] h = h
+inside-after n _ [] h = h
 inside-after n (Writes o a t) (Stored ∷ ans) h = inside-after n t ans h.1
 inside-after n (Writes o a t) (Got b ∷ ans) h = h
 
@@ -50,22 +44,17 @@ same-object : (p o : ObjectId) → good p ≡ Ok o → p ≡ o
 same-object p o h = cc h
 
 object-in : (m : ℕ) (a : Value) (o : ObjectId) → object_in m a ≡ Ok o → m ≡ o.repository
-object-in m v.Nothing o h = absurd (cc h)
 object-in m (v.Number (pos k)) o h = below (nat_lt k (2 ^ 32)) h
   where
     below : (b : Bool) → (if b then Ok (record { repository = m; number = k }) else Err fails.Object) ≡ Ok o → m ≡ o.repository
     below true h = ap (λ (x : ObjectId). x.repository) (same-object (record { repository = m; number = k }) o h)
     below false h = absurd (cc h)
 object-in m (v.Number (negsuc k)) o h = absurd (cc h)
-object-in m (v.Text bytes) o h = absurd (cc h)
+object-in m _ o h = absurd (cc h)
 
 object-inside : (n : ℕ) (names : Names) (place : Spot) (o : ObjectId) → SpotInLimits place → SpotUpTo n place → object_at names place ≡ Ok o → InRange n o.repository
 object-inside n names (Fixed p) o limits up h = subst (λ (x : ObjectId). InRange n x.repository) (same-object p o h) (limits.0.0, up)
-object-inside n names (At m x) o limits up h = valued (value names x) h
-  where
-    valued : (found : Result Value FailKind) → (found >>= λ a. object_in m a) ≡ Ok o → InRange n o.repository
-    valued (Ok a) h = subst (InRange n) (object-in m a o h) (limits.0.0, up)
-    valued (Err k) h = absurd (cc h)
+object-inside n names (At m x) o limits up h = (elim (value names x) as (λ found. (found >>= λ a. object_in m a) ≡ Ok o → InRange n o.repository) [ Ok a ↦ λ h. subst (InRange n) (object-in m a o h) (limits.0.0, up) | Err k ↦ λ h. absurd (cc h) ]) h
 
 -- ---- statements
 
@@ -91,25 +80,21 @@ InsidePart n part = (names : Names) (left : ℕ) (go : Onward) → InsideOn n go
 
 inside-turns : (n count : ℕ) (part : Names → ℕ → Onward → Tree) → InsidePart n part → (names : Names) (left : ℕ) (go : Onward) → InsideOn n go → Inside n (asked_turns count part names left go)
 inside-turns n zero part h names left go b = b names left
-inside-turns n (suc k) part h names left go b =
-    h names left (λ names' left'. asked_turns k part names' left' go) (λ names' left'. inside-turns n k part h names' left' go b)
+inside-turns n (suc k) part h names left go b = h names left (λ names' left'. asked_turns k part names' left' go) (λ names' left'. inside-turns n k part h names' left' go b)
 
 mutual
   inside-step : (n : ℕ) (x : Step) (names : Names) (left : ℕ) (go : Onward) → RowsInLimits n (step_rows x) → InsideOn n go → Inside n (asked x names left go)
   inside-step n (Let l name x) names left go h b = inside-with n (value names x) l _ (λ a e. b (with_name names name a) left)
-  inside-step n (Read l name place) names left go h b =
-      inside-with n (object_at names place) l _ (λ o e. (object-inside n names place o h.0.1 h.1 e, λ a. b (with_name names name a) left))
-  inside-step n (Write l place x) names left go h b =
-      inside-with n (object_at names place) l _ (λ o e. inside-with n (value names x) l _ (λ a d. (object-inside n names place o h.0.0 h.1 e, b names left)))
+  inside-step n (Read l name place) names left go h b = inside-with n (object_at names place) l _ (λ o e. (object-inside n names place o h.0.1 h.1 e, λ a. b (with_name names name a) left))
+  inside-step n (Write l place x) names left go h b = inside-with n (object_at names place) l _ (λ o e. inside-with n (value names x) l _ (λ a d. (object-inside n names place o h.0.0 h.1 e, b names left)))
   inside-step n (Print l x) names left go h b = inside-with n (value names x) l _ (λ a e. b names left)
   inside-step n (If l x part m) names left go h b =
       inside-with n (condition names x) l _ (λ holds e. inside-if n holds _ _
       (inside-part n part names left go (left-limits n (rows part) (on m r.End ∷ []) h.2) b) (b names left))
   inside-step n (IfElse l x first m second k) names left go h b =
-      let rest : RowsInLimits n (on m r.Else ∷ (rows second ++ on k r.End ∷ [])) = right-limits n (rows first) (on m r.Else ∷ (rows second ++ on k r.End ∷ [])) h.2 in
       inside-with n (condition names x) l _ (λ holds e. inside-if n holds _ _
       (inside-part n first names left go (left-limits n (rows first) (on m r.Else ∷ (rows second ++ on k r.End ∷ [])) h.2) b)
-      (inside-part n second names left go (left-limits n (rows second) (on k r.End ∷ []) rest.2) b))
+      (inside-part n second names left go (left-limits n (rows second) (on k r.End ∷ []) (right-limits n (rows first) (on m r.Else ∷ (rows second ++ on k r.End ∷ [])) h.2).2) b))
   inside-step n (Repeat l x part m) names left go h b =
       inside-with n (count names x) l _ (λ k e. inside-turns n k (all_asked part)
       (λ names' left' go' b'. inside-part n part names' left' go' (left-limits n (rows part) (on m r.End ∷ []) h.2) b') names left go b)

@@ -1,7 +1,5 @@
 -- the puts of a committed try are the Wrote lines of its transcript
-use Rattle.std.proofs.Common.{◌≡◌, ◌≢◌, ℕ, ◌+◌, ◌≤◌, ◌<◌, zero, suc, length, Bool, true, false, List, [], ◌∷◌, refl, sym, ◌∙◌, ap, subst, Some, inl, inr, arith, if◌then◌else◌}
-use Rattle.std.proofs.lemmas.Bool.{true≢false}
-use Rattle.serial_law.proofs.Names.{TimeParts, StampParts, ObjectId, Value, Mark, Put, Stretch, Settle, Floor, Post, Distinct, lt, same_stamp, Answer, Got, Stored, ToWrite, RunLogs, Try, Version, committed, in_run, lines_written, log_of, marks_at, put_in, puts_of, puts_to, written, RunFacts, asks, at, marks, Ends, Reads, Says, Tree, Writes, after, talked, Line, Has, lt-total, same_stamp-is}
+use Rattle.serial_law.proofs.Names.{TimeParts, StampParts, ObjectId, Value, Mark, Put, Post, Distinct, lt, same_stamp, Answer, Got, Stored, ToWrite, RunLogs, Try, Version, committed, in_run, lines_written, log_of, marks_at, put_in, puts_of, puts_to, written, RunFacts, asks, at, marks, Ends, Reads, Says, Tree, Writes, after, talked, Line, Has, lt-total, same_stamp-is, ◌≡◌, ◌≢◌, ℕ, ◌+◌, ◌≤◌, ◌<◌, zero, suc, length, Bool, true, false, List, [], ◌∷◌, refl, sym, ◌∙◌, ap, subst, Some, inl, inr, arith, if◌then◌else◌, true≢false, lt-irreflexive, lt-trans}
 use Rattle.serial_law.proofs.LogLemmas.{marks-put, in-both}
 use Rattle.serial_law.proofs.Own.{Kinds, Written, fronts, no-split, tail_of}
 use Rattle.serial_law.proofs.Premises.{lone, write-stored, put-written}
@@ -9,7 +7,6 @@ use Rattle.serial_law.proofs.Talking.{kinds-all}
 use Rattle.serial_law.proofs.Given.{In, in-put, in-of, in-to, version-path, written-at, at-written}
 use Rattle.serial_law.proofs.Before.{whole-puts}
 use Rattle.value_form.specs.declared.transcripts.Line.TheVariants as line
-use Rattle.pseudo_time.proofs.OrderLemmas.{lt-irreflexive, lt-trans}
 use Rattle.serial_law.proofs.Puts.{PutAt, starts-at}
 use Rattle.serial_law.proofs.Times.{lt-step}
 
@@ -48,14 +45,12 @@ pub line-of : (s : StampParts) (t : Tree) (ans : List Answer) (n : ℕ) (v : Ver
 unfolding lines_written
 line-of s (Ends e) ans n v j = absurd j
 line-of s (Says w t) ans n v j = line-of s t ans n v j
-line-of s (Reads o k) [] n v j = absurd j
 line-of s (Reads o k) (Got w ∷ ans) n v j =
     let r = line-of s (k w) ans (n + 1) v j in
     (Got w ∷ r.0, r.1, len-one n r.0 (Got w) v.start.step r.2, ((r.3.0.0, ap (λ xs. Got w ∷ xs) r.3.0.1), r.3.1))
 line-of s (Reads o k) (Stored ∷ ans) n v j = absurd j
-line-of s (Writes o w t) [] n v j = absurd j
-line-of s (Writes o w t) (Stored ∷ ans) n v (inl e) =
-    ([], ap (λ z. z.start.stamp) e, (let p = ap (λ z. z.start.step) e in omega (arith, p)), ((ans, refl), sym (ap (λ z. Some (ToWrite z.object z.value)) e)))
+line-of s _ [] n v j = absurd j
+line-of s (Writes o w t) (Stored ∷ ans) n v (inl e) = ([], ap (λ z. z.start.stamp) e, (let p = ap (λ z. z.start.step) e in omega (arith, p)), ((ans, refl), sym (ap (λ z. Some (ToWrite z.object z.value)) e)))
 line-of s (Writes o w t) (Stored ∷ ans) n v (inr j) =
     let r = line-of s t ans (n + 1) v j in
     (Stored ∷ r.0, r.1, len-one n r.0 Stored v.start.step r.2, ((r.3.0.0, ap (λ xs. Stored ∷ xs) r.3.0.1), r.3.1))
@@ -83,7 +78,6 @@ pub of-line : (s : StampParts) (t : Tree) (ans : List Answer) (n : ℕ) (o : Obj
 unfolding lines_written tail_of got_of version
 of-line s (Ends e) ans n o pre w k h = absurd (cc h.1)
 of-line s (Says v t) ans n o pre w k h = of-line s t ans n o pre w k h
-of-line s (Reads p f) [] n o pre w k h = absurd (no-split pre h.0.0 Stored h.0.1)
 of-line s (Reads p f) (Got v ∷ ans) n o [] w k h = absurd (cc h.1)
 of-line s (Reads p f) (Got v ∷ ans) n o (Stored ∷ q) w k h = absurd (cc (h.0.1))
 of-line s (Reads p f) (Got v ∷ ans) n o (Got u ∷ q) w k h =
@@ -93,9 +87,8 @@ of-line s (Reads p f) (Got v ∷ ans) n o (Got u ∷ q) w k h =
     (step-path o o s ((n + 1) + length q) (n + length (Got u ∷ q)) w w refl (omega arith) refl)
     (of-line s (f v) ans (n + 1) o q w k ((h.0.0, ap (λ xs. tail_of xs) h.0.1), subst P (sym e) h.1))
 of-line s (Reads p f) (Stored ∷ ans) n o pre w k h = absurd k
-of-line s (Writes p v t) [] n o pre w k h = absurd (no-split pre h.0.0 Stored h.0.1)
-of-line s (Writes p v t) (Stored ∷ ans) n o [] w k h =
-    inl (step-path o p s (n + length {A = Answer} []) n w v (sym (write-object p o v w h.1)) (omega arith) (sym (write-value p o v w h.1)))
+of-line s _ [] n o pre w k h = absurd (no-split pre h.0.0 Stored h.0.1)
+of-line s (Writes p v t) (Stored ∷ ans) n o [] w k h = inl (step-path o p s (n + length {A = Answer} []) n w v (sym (write-object p o v w h.1)) (omega arith) (sym (write-value p o v w h.1)))
 of-line s (Writes p v t) (Stored ∷ ans) n o (Got u ∷ q) w k h = absurd (cc (h.0.1))
 of-line s (Writes p v t) (Stored ∷ ans) n o (Stored ∷ q) w k h =
     inr (subst (λ z. In (lines_written s (n + 1) (talked t ans).lines) z)
@@ -120,8 +113,7 @@ unfolding lines_written
 strict-lines s n [] = tt
 strict-lines s n (line.Print w ∷ ls) = strict-lines s n ls
 strict-lines s n (line.Read o w ∷ ls) = strict-lines s (n + 1) ls
-strict-lines s n (line.Wrote o w ∷ ls) =
-    ((λ u j. let r = line-after s (n + 1) ls u j in later-than s n u.start r.0 (let le = r.1 in omega (arith, le))), strict-lines s (n + 1) ls)
+strict-lines s n (line.Wrote o w ∷ ls) = ((λ u j. let r = line-after s (n + 1) ls u j in later-than s n u.start r.0 (let le = r.1 in omega (arith, le))), strict-lines s (n + 1) ls)
 
 -- the puts of a try have rising starts
 strict-one : (b : Bool) (w p : Version) (ps : List Version) → lt w.start p.start ≡ b → Strict (p ∷ ps) → ((u : Version) → In (p ∷ ps) u → u.start ≡ w.start → ⊥) →
@@ -132,12 +124,8 @@ strict-one true w p ps e h k j = ((λ u i. below u i), h)
     below u (inl q) = ap (λ z. lt w.start z.start) q ∙ e
     below u (inr i) = lt-trans w.start p.start u.start e (h.0 u i)
 strict-one false w p ps e h k j =
-    let pw : lt p.start w.start ≡ true = cases (lt p.start w.start) refl in
+    let pw : lt p.start w.start ≡ true = (elim (lt p.start w.start) as (λ b. lt p.start w.start ≡ b → lt p.start w.start ≡ true) [ true ↦ λ q. q | false ↦ λ q. absurd (k p (inl refl) (lt-total p.start w.start q e)) ]) refl in
     ((λ u i. elim (in-put w ps u i) [ inl q ↦ ap (λ z. lt p.start z.start) q ∙ pw | inr q ↦ h.0 u q ]), j)
-  where
-    cases : (b : Bool) → lt p.start w.start ≡ b → lt p.start w.start ≡ true
-    cases true q = q
-    cases false q = absurd (k p (inl refl) (lt-total p.start w.start q e))
 
 strict-put : (w : Version) (ps : List Version) → Strict ps → ((u : Version) → In ps u → u.start ≡ w.start → ⊥) → Strict (put_in w ps)
 unfolding put_in
@@ -165,13 +153,10 @@ strict-of s (Put o x v ∷ m) ps d h k j =
     (λ b u i e. elim (in-of s m ps u i) [
       | inl r ↦
           let own : PutAt u.object x u.value m = subst (λ y. PutAt u.object y u.value m) e r.0 in
-          let same : u.object ≡ o = h u.object o x u.value v (same_stamp-is x.stamp s b) (inr own) (inl (refl, refl, refl)) in
-          starts-at (λ y. y ≢ x) o x u.value m d.0 (subst (λ y. PutAt y x u.value m) same own) refl
+          starts-at (λ y. y ≢ x) o x u.value m d.0 (subst (λ y. PutAt y x u.value m) (h u.object o x u.value v (same_stamp-is x.stamp s b) (inr own) (inl (refl, refl, refl))) own) refl
       | inr r ↦ k o x v (same_stamp-is x.stamp s b) (inl (refl, refl, refl)) u r e
     ])
-strict-of s (Stretch a y ∷ m) ps d h k j = strict-of s m ps d h k j
-strict-of s (Settle t c ∷ m) ps d h k j = strict-of s m ps d h k j
-strict-of s (Floor z ∷ m) ps d h k j = strict-of s m ps d h k j
+strict-of s (_ ∷ m) ps d h k j = strict-of s m ps d h k j
 
 -- a put of the try's stamp in a log of the run: what its script asks there
 one-log : (k : RunLogs) (ever : List Post) → RunFacts k ever → (T : Try) → Has T k.tries → (r q : ℕ) → in_run k r ≡ true → in_run k q ≡ true →
@@ -182,8 +167,7 @@ one-log k ever f T a r q i j o p x v w e h g =
     let ha = f.write_asked T x o v a hp.1 e in
     let ga = f.write_asked T x p w a gp.1 e in
     let n : length ha.0 ≡ length ga.0 = (let m = ha.3 in let m2 = ga.3 in omega (arith, m, m2)) in
-    let same : ha.0 ≡ ga.0 = fronts ha.0 ga.0 ha.1 ga.1 (sym ha.2 ∙ ga.2) n in
-    let obj : o ≡ p = write-object o p v w (sym ha.4 ∙ ap (λ xs. asks (after T.script xs)) same ∙ ga.4) in
+    let obj : o ≡ p = write-object o p v w (sym ha.4 ∙ ap (λ xs. asks (after T.script xs)) (fronts ha.0 ga.0 ha.1 ga.1 (sym ha.2 ∙ ga.2) n) ∙ ga.4) in
     (obj, sym hp.0 ∙ ap (λ z. z.repository) obj ∙ gp.0)
 
 strict-to : (k : RunLogs) (ever : List Post) → RunFacts k ever → (T : Try) → Has T k.tries → (n : ℕ) → n ≤ k.repositories → Strict (puts_to k T.stamp n)
@@ -196,8 +180,7 @@ strict-to k ever f T a (suc n) le =
     (λ o x v e h u i q.
     let r = in-to k T.stamp n u i in
     let hi = r.2 in
-    let there : in_run k r.0 ≡ true = in-both k r.0 r.1 (omega (arith, hi, le)) in
-    let eq : suc n ≡ r.0 = (one-log k ever f T a (suc n) r.0 here there o u.object x v u.value e h (subst (λ y. PutAt u.object y u.value (marks (log_of k r.0))) q r.3.0)).1 in
+    let eq : suc n ≡ r.0 = (one-log k ever f T a (suc n) r.0 here (in-both k r.0 r.1 (omega (arith, hi, le))) o u.object x v u.value e h (subst (λ y. PutAt u.object y u.value (marks (log_of k r.0))) q r.3.0)).1 in
     absurd (omega (arith, eq, hi)))
     (strict-to k ever f T a n (omega (arith, le)))
 
@@ -216,11 +199,9 @@ puts-are-lines k ever f T a c =
     (of-line T.stamp T.script T.answers 1 v.object p.0 v.value (kinds-all T.script T.answers T.stamp (marks_at k) (committed k) (lone k ever f T a)) p.2))
     (λ v j.
     let r = line-of T.stamp T.script T.answers 1 v j in
-    let put = write-stored k ever f T a v.object v.value r.0 r.3 in
-    subst (λ z. In (written k T.stamp) z) (forth v r.0 r.1 r.2) (at-written k T.stamp v.object (at T.stamp r.0) v.value put refl))
+    subst (λ z. In (written k T.stamp) z) (forth v r.0 r.1 r.2) (at-written k T.stamp v.object (at T.stamp r.0) v.value (write-stored k ever f T a v.object v.value r.0 r.3) refl))
   where
-    time-path : (s t : StampParts) (n m : ℕ) → s ≡ t → n ≡ m →
-        (let a : TimeParts = record { stamp = s; step = n } in let b : TimeParts = record { stamp = t; step = m } in a ≡ b)
+    time-path : (s t : StampParts) (n m : ℕ) → s ≡ t → n ≡ m → (let a : TimeParts = record { stamp = s; step = n } in let b : TimeParts = record { stamp = t; step = m } in a ≡ b)
     time-path s t n m e f = λ i. record { stamp = e i; step = f i }
 
     back : (v : Version) → v.start.stamp ≡ T.stamp → (pre : List Answer) → v.start.step ≡ length pre + 1 → version v.object T.stamp (1 + length pre) v.value ≡ v

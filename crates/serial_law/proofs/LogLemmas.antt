@@ -1,11 +1,8 @@
 -- logs, their marks, and tests on them
-use Rattle.std.proofs.Common.{◌≡◌, ℕ, ◌≤◌, zero, suc, Bool, true, false, List, [], ◌∷◌, refl, sym, ◌∙◌, ap, Option, Some, None, ◌⊎◌, inl, inr, ◌||◌, ◌&&◌, not, subst, nat_le, arith, if◌then◌else◌}
 use Rattle.std.proofs.lemmas.Grind.{common_steps}
-use Rattle.std.proofs.lemmas.Bool.{false≢true, or_left, or_right, or_cases, leb-true, le-leb}
-use Rattle.serial_law.proofs.Names.{TimeParts, StampParts, ObjectId, Value, Effect, Decision, Mark, settle_of, Has, same_stamp, RunLogs, has_commit, has_learned, in_run, log_of, marks_at, some_of, is_commit, marks, knows, and-both, and-left, and-right, same_stamp-is, same_stamp-of}
+use Rattle.serial_law.proofs.Names.{TimeParts, StampParts, ObjectId, Value, Effect, Decision, Mark, settle_of, Has, same_stamp, RunLogs, has_commit, has_learned, in_run, log_of, marks_at, some_of, is_commit, marks, knows, and-both, and-left, and-right, same_stamp-is, same_stamp-of, ◌≡◌, ℕ, ◌≤◌, zero, suc, Bool, true, false, List, [], ◌∷◌, refl, sym, ◌∙◌, ap, Option, Some, None, ◌⊎◌, inl, inr, ◌||◌, ◌&&◌, not, subst, nat_le, arith, if◌then◌else◌, false≢true, or_left, or_right, or_cases, leb-true, le-leb, or_else}
 use Rattle.effect_form.specs.declared.effects.Effect.TheVariants as effect
 use Rattle.pseudo_time.specs.declared.decisions.Decision.TheVariants as decision
-use Rattle.object_history.specs.History.{or_else}
 use Rattle.serial_law.proofs.Puts.{PutAt}
 
 put-path : (o p : ObjectId) (x y : TimeParts) (v w : Value) → p ≡ o → y ≡ x → w ≡ v → effect.Put p y w ≡ effect.Put o x v
@@ -84,8 +81,7 @@ skip f log s (inr h) = inr (h.0, inr h.1)
 pub knows-has : (log : List Effect) (s : StampParts) → knows log s ≡ true → Known log s
 unfolding knows
 knows-has [] s h = absurd (false≢true h)
-knows-has (effect.Decide t d ∷ log) s h =
-    elim (or_cases (same_stamp t s) (knows log s) h) [ inl e ↦ inl (d, inl (decide-path s t d (same_stamp-is t s e))) | inr e ↦ skip (effect.Decide t d) log s (knows-has log s e) ]
+knows-has (effect.Decide t d ∷ log) s h = elim (or_cases (same_stamp t s) (knows log s) h) [ inl e ↦ inl (d, inl (decide-path s t d (same_stamp-is t s e))) | inr e ↦ skip (effect.Decide t d) log s (knows-has log s e) ]
 knows-has (effect.Learn t c ∷ log) s h =
     elim (or_cases (same_stamp t s) (knows log s) h) [ inl e ↦ inr (c, inl (learn-path s t c c (same_stamp-is t s e) refl)) | inr e ↦ skip (effect.Learn t c) log s (knows-has log s e) ]
 knows-has (f ∷ log) s h = skip f log s (knows-has log s h)
@@ -166,29 +162,19 @@ pub in-both : (k : RunLogs) (r : ℕ) → 1 ≤ r → r ≤ k.repositories → i
 in-both k r h j = and-both (nat_le 1 r) (nat_le r k.repositories) (le-leb 1 r h) (le-leb r k.repositories j)
 
 pub le-cases : (r n : ℕ) → r ≤ suc n → (r ≡ suc n) ⊎ (r ≤ n)
-le-cases r n h = cases (nat_le r n) refl
-  where
-    cases : (b : Bool) → nat_le r n ≡ b → (r ≡ suc n) ⊎ (r ≤ n)
-    cases true e = inr (grind (arith, common_steps))
-    cases false e = inl (grind (arith, common_steps))
+le-cases r n h = (elim (nat_le r n) as (λ b. nat_le r n ≡ b → (r ≡ suc n) ⊎ (r ≤ n)) [ true ↦ λ e. inr (grind (arith, common_steps)) | false ↦ λ e. inl (grind (arith, common_steps)) ]) refl
 
 pub some-yes : (n : ℕ) (f : ℕ → Bool) (r : ℕ) → 1 ≤ r → r ≤ n → f r ≡ true → some_of n f ≡ true
 unfolding some_of
 some-yes zero f r h j k = absurd (omega (arith, h, j))
 some-yes (suc n) f r h j k =
-    elim (le-cases r n j) [
-      | inl e ↦ or_left (f (suc n)) (some_of n f) (ap f (sym e) ∙ k)
-      | inr e ↦ or_right (f (suc n)) (some_of n f) (some-yes n f r h e k)
-    ]
+    elim (le-cases r n j) [ inl e ↦ or_left (f (suc n)) (some_of n f) (ap f (sym e) ∙ k) | inr e ↦ or_right (f (suc n)) (some_of n f) (some-yes n f r h e k) ]
 
 pub some-is : (n : ℕ) (f : ℕ → Bool) → some_of n f ≡ true → (r : ℕ) × (1 ≤ r) × (r ≤ n) × (f r ≡ true)
 unfolding some_of
 some-is zero f h = absurd (false≢true h)
 some-is (suc n) f h =
-    elim (or_cases (f (suc n)) (some_of n f) h) [
-      | inl e ↦ (suc n, omega arith, omega arith, e)
-      | inr e ↦ let w = some-is n f e in (w.0, w.1, (let le = w.2 in omega (arith, le)), w.3)
-    ]
+    elim (or_cases (f (suc n)) (some_of n f) h) [ inl e ↦ (suc n, omega arith, omega arith, e) | inr e ↦ let w = some-is n f e in (w.0, w.1, (let le = w.2 in omega (arith, le)), w.3) ]
 
 -- the marks of an object are those of its repository's log, or none
 if-in : (b : Bool) (x y : List Mark) → b ≡ true → x ≡ (if b then x else y)
@@ -199,11 +185,6 @@ pub marks-in : (k : RunLogs) (o : ObjectId) → in_run k o.repository ≡ true �
 unfolding marks_at
 marks-in k o h = if-in (in_run k o.repository) (marks (log_of k o.repository)) [] h
 
-pub marks-cases : (k : RunLogs) (o : ObjectId) (P : List Mark → Type 0) → (in_run k o.repository ≡ true → P (marks (log_of k o.repository))) → P [] →
-    P (marks_at k o)
+pub marks-cases : (k : RunLogs) (o : ObjectId) (P : List Mark → Type 0) → (in_run k o.repository ≡ true → P (marks (log_of k o.repository))) → P [] → P (marks_at k o)
 unfolding marks_at
-marks-cases k o P h j = cases (in_run k o.repository) refl
-  where
-    cases : (b : Bool) → in_run k o.repository ≡ b → P (if b then marks (log_of k o.repository) else [])
-    cases true e = h e
-    cases false e = j
+marks-cases k o P h j = (elim (in_run k o.repository) as (λ b. in_run k o.repository ≡ b → P (if b then marks (log_of k o.repository) else [])) [ true ↦ λ e. h e | false ↦ λ e. j ]) refl

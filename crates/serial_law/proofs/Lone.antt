@@ -1,10 +1,6 @@
 -- one try: the premises of the second part, and the value lemma
-use Rattle.std.proofs.Common.{◌≡◌, ◌+◌, ◌≤◌, ◌<◌, length, Bool, true, false, List, ◌∷◌, ◌++◌, refl, sym, ◌∙◌, ap, subst, Option, Some, None, inl, inr, ◌&&◌, arith}
-use Rattle.std.proofs.lemmas.Bool.{true≢false, or_left, or_right}
-use Rattle.serial_law.proofs.Names.{TimeParts, StampParts, ObjectId, Value, Mark, left_after, Seen, alive, scan, settle_of, shows, views, lt, same_stamp, stamp_lt, Answer, Got, Stored, ToRead, ToWrite, Sees, asks, at, HasValue, Tree, after, Objects, value_at, and-both, and-left, and-right, scan-passes, starts-all, two-tests, top-all, AtMost, Passes, Starts, same_stamp-of}
+use Rattle.serial_law.proofs.Names.{TimeParts, StampParts, ObjectId, Value, Mark, left_after, Seen, alive, scan, settle_of, shows, views, lt, same_stamp, stamp_lt, Answer, Got, Stored, ToRead, ToWrite, Sees, asks, at, HasValue, Tree, after, Objects, value_at, and-both, and-left, and-right, scan-passes, starts-all, two-tests, top-all, AtMost, Passes, Starts, same_stamp-of, ◌≡◌, ◌+◌, ◌≤◌, ◌<◌, length, Bool, true, false, List, ◌∷◌, ◌++◌, refl, sym, ◌∙◌, ap, subst, Option, Some, None, inl, inr, ◌&&◌, arith, true≢false, or_left, or_right, is_alive, Firm}
 use Rattle.serial_law.proofs.Own.{Kinds, Written, NoneWritten, LastWritten, own-map, fronts, longer, same-value, same-read, shorter, widen, front-short}
-use Rattle.object_history.specs.History.{is_alive}
-use Rattle.object_history.specs.Views.{Firm}
 use Rattle.serial_law.proofs.Puts.{Picked, PutAt, at-most, picked}
 use Rattle.serial_law.proofs.Times.{below-stamp, inside, inside-high, inside-low, lt-step, stamp-below}
 
@@ -12,13 +8,10 @@ use Rattle.serial_law.proofs.Times.{below-stamp, inside, inside-high, inside-low
 pub record Lone (t : Tree) (ans : List Answer) (s : StampParts) (marks : ObjectId → List Mark) (sure : StampParts → Bool) : Type 0 where
   pub yes : (o : ObjectId) (x : StampParts) → settle_of (marks o) x ≡ Some true → sure x ≡ true
   pub no : (o : ObjectId) (x : StampParts) → settle_of (marks o) x ≡ Some false → sure x ≡ false
-  pub got : (pre post : List Answer) (v : Value) → ans ≡ pre ++ (Got v ∷ post) →
-      (o : ObjectId) × (asks (after t pre) ≡ Some (ToRead o)) × Sees (marks o) o (at s pre) v
-  pub wrote : (pre post : List Answer) → ans ≡ pre ++ (Stored ∷ post) →
-      (o : ObjectId) × (w : Value) × (asks (after t pre) ≡ Some (ToWrite o w))
+  pub got : (pre post : List Answer) (v : Value) → ans ≡ pre ++ (Got v ∷ post) → (o : ObjectId) × (asks (after t pre) ≡ Some (ToRead o)) × Sees (marks o) o (at s pre) v
+  pub wrote : (pre post : List Answer) → ans ≡ pre ++ (Stored ∷ post) → (o : ObjectId) × (w : Value) × (asks (after t pre) ≡ Some (ToWrite o w))
   pub stored : (o : ObjectId) (w : Value) (pre : List Answer) → Written t ans o pre w → PutAt o (at s pre) w (marks o)
-  pub puts : (o : ObjectId) (x : TimeParts) (w : Value) → PutAt o x w (marks o) → x.stamp ≡ s → x.step ≤ length ans →
-      (pre : List Answer) × (x.step ≡ length pre + 1) × Written t ans o pre w
+  pub puts : (o : ObjectId) (x : TimeParts) (w : Value) → PutAt o x w (marks o) → x.stamp ≡ s → x.step ≤ length ans → (pre : List Answer) × (x.step ≡ length pre + 1) × Written t ans o pre w
 
 -- The map holds the committed puts below the stamp
 abbrev pub Holds_below : (ObjectId → List Mark) → (StampParts → Bool) → StampParts → Objects → Type 0
@@ -39,8 +32,7 @@ own-line : (t : Tree) (ans : List Answer) (s : StampParts) (marks : ObjectId →
     lt q.start (at s pre) ≡ true → (p : List Answer) × (q.start.step ≡ length p + 1) × Written t pre o p q.value
 own-line t ans s marks sure f pre y o q e j k b =
     let hi : q.start.step < length pre + 1 = inside-high q.start s (length pre + 1) b k in
-    let le : length pre ≤ length ans = front-short pre y ans e in
-    let w = f.puts o q.start q.value j k (omega (arith, hi, le)) in
+    let w = f.puts o q.start q.value j k (omega (arith, hi, front-short pre y ans e)) in
     (w.0, w.1, shorter t ans pre y o w.0 q.value e (let st = w.1 in omega (arith, hi, st)) w.2)
 
 own-case : (t : Tree) (ans : List Answer) (s : StampParts) (marks : ObjectId → List Mark) (sure : StampParts → Bool) → Lone t ans s marks sure →
@@ -49,12 +41,10 @@ own-case : (t : Tree) (ans : List Answer) (s : StampParts) (marks : ObjectId →
     (p : List Answer) (w : Value) → LastWritten t pre o p w → v ≡ w
 unfolding Picked
 own-case t ans s marks sure f pre y o v e r val st pas top p w l =
-    let put : PutAt o (at s p) w (marks o) = f.stored o w p (widen t ans pre y o p w e l.0) in
-    let less : length p < length pre = longer p pre Stored l.0.0.0 l.0.0.1 in
     let shown : shows (marks o) (at s pre) (at s p) ≡ true =
-    and-both (lt (at s p) (at s pre)) _ (lt-step s (length p + 1) (length pre + 1) (omega (arith, less)))
+    and-both (lt (at s p) (at s pre)) _ (lt-step s (length p + 1) (length pre + 1) (omega (arith, longer p pre Stored l.0.0.0 l.0.0.1)))
     (or_right (alive (marks o) (at s p)) (same_stamp s s) (same_stamp-of s s refl)) in
-    own-end r val st pas (at-most (λ x. shows (marks o) (at s pre) x) o (at s p) w (marks o) r top put shown)
+    own-end r val st pas (at-most (λ x. shows (marks o) (at s pre) x) o (at s p) w (marks o) r top (f.stored o w p (widen t ans pre y o p w e l.0)) shown)
   where
     own-end : (r : Option Seen) → HasValue r v → Picked o (marks o) r → Passes (λ x. shows (marks o) (at s pre) x) r → AtMost r (at s p) → v ≡ w
     own-end None val st pas am = absurd am
@@ -62,10 +52,7 @@ own-case t ans s marks sure f pre y o v e r val st pas top p w l =
         let b : lt q.start (at s pre) ≡ true = and-left (lt q.start (at s pre)) _ pas in
         let own : q.start.stamp ≡ s = inside q.start s (length p + 1) (length pre + 1) am b in
         let k = own-line t ans s marks sure f pre y o q e st own b in
-        let lo : length p + 1 ≤ q.start.step = inside-low q.start s (length p + 1) am own in
-        let up : length k.0 ≤ length p = l.1 k.0 q.value k.2 in
-        let at_k : q.start.step ≡ length k.0 + 1 = k.1 in
-        let eq : k.0 ≡ p = fronts k.0 p (Stored ∷ k.2.0.0) (Stored ∷ l.0.0.0) (sym k.2.0.1 ∙ l.0.0.1) (omega (arith, lo, up, at_k)) in
+        let eq : k.0 ≡ p = fronts k.0 p (Stored ∷ k.2.0.0) (Stored ∷ l.0.0.0) (sym k.2.0.1 ∙ l.0.0.1) (omega (arith, inside-low q.start s (length p + 1) am own, l.1 k.0 q.value k.2, k.1)) in
         val ∙ same-value o q.value w (sym k.2.1 ∙ ap (λ x. asks (after t x)) eq ∙ l.0.1)
 
 -- what is seen and isn't own is the committed put below the stamp

@@ -1,15 +1,12 @@
 -- Serial from the facts
-use Rattle.std.proofs.Common.{◌≡◌, Bool, true, false, List, refl, subst, Some}
-use Rattle.std.proofs.lemmas.Bool.{false≢true}
 use Rattle.pseudo_time.specs.declared.decisions.Decision.TheVariants as decision
-use Rattle.serial_law.proofs.Names.{Outcome, Post, Answer, Over, RunLogs, Try, before, committed, marks_at, RunFacts, IsSerial, Serial, Tree, talked, talked_alone, Objects, Ending, Has, MayCommit}
+use Rattle.serial_law.proofs.Names.{Outcome, Post, Answer, Over, RunLogs, Try, before, committed, marks_at, RunFacts, IsSerial, Serial, Tree, talked, talked_alone, Objects, Ending, Has, MayCommit, ◌≡◌, Bool, true, false, List, refl, subst, Some, false≢true, IsComplete}
 use Rattle.effect_form.specs.declared.outcomes.Outcome.TheVariants as outcome
 use Rattle.serial_law.proofs.Talking.{Alike, alone}
 use Rattle.serial_law.proofs.Settled.{at-home, committed-home}
 use Rattle.serial_law.proofs.Premises.{lone}
 use Rattle.serial_law.proofs.Before.{whole, before-holds}
 use Rattle.serial_law.proofs.Lines.{puts-are-lines}
-use Rattle.serial_law.specs.Serial.{IsComplete}
 use Rattle.value_form.specs.declared.endings.Ending.TheVariants as ending
 
 whole-of : (t : Tree) (ans : List Answer) (m : Objects) (e : Ending) → Alike t ans m → (talked t ans).stop ≡ Over e → IsComplete (talked t ans) (talked_alone t m) e
@@ -23,8 +20,7 @@ not-other k ever f T a (outcome.Expired d t) h n c m =
     (f.decided T.stamp (decision.Expired d t) (f.end_expired T d t a h)) (at-home k ever f T.stamp c))
 not-other k ever f T a e h n c m = absurd m
 
-pub serial-try : (k : RunLogs) (ever : List Post) → RunFacts k ever → (T : Try) → Has T k.tries →
-    IsSerial k T (talked T.script T.answers) (talked_alone T.script (before k T.stamp))
+pub serial-try : (k : RunLogs) (ever : List Post) → RunFacts k ever → (T : Try) → Has T k.tries → IsSerial k T (talked T.script T.answers) (talked_alone T.script (before k T.stamp))
 serial-try k ever f T a =
     let al = alone T.script T.answers T.stamp (marks_at k) (committed k) (lone k ever f T a) (before k T.stamp) (before-holds k ever f T.stamp) in
     record {
@@ -39,8 +35,7 @@ serial-try k ever f T a =
   where
     other : (e : Outcome) → T.ended ≡ Some e → (e ≡ outcome.Committed → ⊥) → (b : Bool) → committed k T.stamp ≡ b → committed k T.stamp ≡ false
     other e h n false c = c
-    other e h n true c =
-        absurd (not-other k ever f T a e h n c (subst MayCommit h (f.commit_asked T a (f.commit T.stamp (at-home k ever f T.stamp c))).1))
+    other e h n true c = absurd (not-other k ever f T a e h n c (subst MayCommit h (f.commit_asked T a (f.commit T.stamp (at-home k ever f T.stamp c))).1))
 
 -- the second part
 pub serial : (k : RunLogs) (ever : List Post) → RunFacts k ever → Serial k

@@ -1,16 +1,8 @@
 -- One reading for a plan and all plans of the runs among earlier calls.
-use Rattle.std.proofs.Common.{◌≡◌, ℕ, List, [], ◌∷◌, ◌++◌, refl, ◌∙◌, ap, subst, reverse, if◌then◌else◌, take}
-use Rattle.serial_law.proofs.Names.{Every, Has, repository, TimeParts, has-left, has-right, NodeId, ActSpec, Effect, Asked, Tree, Plan, IsOfLanguage, reading, Scripted, Trace, in_plan, alike, own_reading, IsLegal, World, sent_by, own-reading, walk-same, AreEarlier, AreOfLanguage, Earlier, WereLeftOrRetired, replaced, sent_earlier, Running, Retiring}
-use Rattle.pseudo_time.specs.Nodes.{same_node}
-use Rattle.pseudo_time.proofs.ListLemmas.{every-append}
-use Rattle.object_retirement.specs.Forward.{MayRetire, forward}
+use Rattle.serial_law.proofs.Names.{Every, Has, repository, TimeParts, has-left, has-right, NodeId, ActSpec, Effect, Asked, Tree, Plan, IsOfLanguage, reading, Scripted, Trace, in_plan, alike, own_reading, IsLegal, World, sent_by, own-reading, walk-same, AreEarlier, AreOfLanguage, Earlier, WereLeftOrRetired, replaced, sent_earlier, Running, Retiring, ◌≡◌, ℕ, List, [], ◌∷◌, ◌++◌, refl, ◌∙◌, ap, subst, reverse, if◌then◌else◌, take, same_node, every-append, MayRetire, forward, Legal, Call, log_left, legal-same, logs_left}
 use Rattle.broker_core.specs.Ledgers.{IsBrokerAct}
 use Rattle.broker_core.proofs.ReadingLemmas.{reads-all}
-use Rattle.world_core.specs.Legal.{Legal}
-use Rattle.world_core.specs.Pasts.{Call, log_left}
 use Rattle.world_core.proofs.PlanRangeLemmas.{plan-acts}
-use Rattle.world_core.proofs.SameWorlds.{legal-same}
-use Rattle.world_facts.specs.Earlier.{logs_left}
 
 acts_of_all : List Earlier → List ActSpec
 acts_of_all [] = []
@@ -48,21 +40,17 @@ module _ (all : List ActSpec) (ps : Every IsBrokerAct all) where
 
   logs-same : (cs : List Earlier) → AreOfLanguage cs → Within cs → (n : NodeId) → logs_left own_reading cs n ≡ logs_left (alike common) cs n
   logs-same [] w h n = refl
-  logs-same (Running c ∷ cs) w h n =
-      λ i. if in_plan c.plan n then left-same c (own-reading c.plan w.0) (read-all c cs w.0 h) n i else logs-same cs w.1 (in-rest c cs h) n i
-  logs-same (Retiring r at ∷ cs) w h n =
-      λ i. if same_node (repository r) n then forward (logs-same cs w (in-same r at cs h) n i) at else logs-same cs w (in-same r at cs h) n i
+  logs-same (Running c ∷ cs) w h n = λ i. if in_plan c.plan n then left-same c (own-reading c.plan w.0) (read-all c cs w.0 h) n i else logs-same cs w.1 (in-rest c cs h) n i
+  logs-same (Retiring r at ∷ cs) w h n = λ i. if same_node (repository r) n then forward (logs-same cs w (in-same r at cs h) n i) at else logs-same cs w (in-same r at cs h) n i
 
   replaced-same : (cs : List Earlier) → AreOfLanguage cs → Within cs → (n : NodeId) → replaced own_reading cs n ≡ replaced (alike common) cs n
   replaced-same [] w h n = refl
   replaced-same (Running c ∷ cs) w h n = replaced-same cs w.1 (in-rest c cs h) n
-  replaced-same (Retiring r at ∷ cs) w h n =
-      λ i. if same_node (repository r) n then logs-same cs w (in-same r at cs h) n i ∷ replaced-same cs w (in-same r at cs h) n i else replaced-same cs w (in-same r at cs h) n i
+  replaced-same (Retiring r at ∷ cs) w h n = λ i. if same_node (repository r) n then logs-same cs w (in-same r at cs h) n i ∷ replaced-same cs w (in-same r at cs h) n i else replaced-same cs w (in-same r at cs h) n i
 
   sent-same : (cs : List Earlier) → AreOfLanguage cs → Within cs → sent_earlier own_reading cs ≡ sent_earlier (alike common) cs
   sent-same [] w h = refl
-  sent-same (Running c ∷ cs) w h =
-      λ i. sent-same cs w.1 (in-rest c cs h) i ++ sent_by (walk-same (reading c.plan.acts) common c.plan (own-reading c.plan w.0) (read-all c cs w.0 h) c.trace c.trace.entries i)
+  sent-same (Running c ∷ cs) w h = λ i. sent-same cs w.1 (in-rest c cs h) i ++ sent_by (walk-same (reading c.plan.acts) common c.plan (own-reading c.plan w.0) (read-all c cs w.0 h) c.trace c.trace.entries i)
   sent-same (Retiring r at ∷ cs) w h = sent-same cs w (in-same r at cs h)
 
   are-earlier : (cs : List Earlier) → AreEarlier own_reading cs → AreOfLanguage cs → Within cs → AreEarlier (alike common) cs
@@ -75,8 +63,7 @@ module _ (all : List ActSpec) (ps : Every IsBrokerAct all) where
       opened = k.1.opened;
     },
   )
-  are-earlier (Retiring r at ∷ cs) k w h =
-      (are-earlier cs k.0 w (in-same r at cs h), subst (λ log. MayRetire (reverse log) at) (logs-same cs w (in-same r at cs h) (repository r)) k.1)
+  are-earlier (Retiring r at ∷ cs) k w h = (are-earlier cs k.0 w (in-same r at cs h), subst (λ log. MayRetire (reverse log) at) (logs-same cs w (in-same r at cs h) (repository r)) k.1)
 
 -- what one reading gives of a plan, a trace and what earlier calls left
 pub record OneReading (plan : Plan) (asked : List Asked) (t : Trace) (logs : NodeId → List Effect) (cs : List Earlier) : Type 0 where

@@ -1,10 +1,6 @@
 -- A script's own map: what it wrote last to an object, or what was there before.
-use Rattle.std.proofs.Common.{◌≡◌, ◌≤◌, ◌<◌, length, Bool, true, false, List, [], ◌∷◌, ◌++◌, refl, sym, ◌∙◌, ap, subst, Option, Some, None, ◌⊎◌, inl, inr, arith, if◌then◌else◌, cond}
-use Rattle.std.proofs.lemmas.Bool.{false≢true}
-use Rattle.serial_law.proofs.Names.{ObjectId, Value, Nothing, same_object, Answer, Got, Request, Stored, ToRead, ToWrite, asks, Ends, Reads, Says, Tree, Writes, after, left_after, Objects, object_cmp, value_at, same_object-is, same_object-of}
+use Rattle.serial_law.proofs.Names.{ObjectId, Value, Nothing, same_object, Answer, Got, Request, Stored, ToRead, ToWrite, asks, Ends, Reads, Says, Tree, Writes, after, left_after, Objects, object_cmp, value_at, same_object-is, same_object-of, ◌≡◌, ◌≤◌, ◌<◌, length, Bool, true, false, List, [], ◌∷◌, ◌++◌, refl, sym, ◌∙◌, ap, subst, Option, Some, None, ◌⊎◌, inl, inr, arith, if◌then◌else◌, cond, false≢true, is_eq, unwrap_or}
 use Rattle.value_form.proofs.ObjectLemmas.{object_cmp-total}
-use Rattle.std.specs.Ordering.{is_eq}
-use Rattle.std.specs.Option.{unwrap_or}
 use Rattle.std.specs.FinMap as finite
 
 -- what a map holds after a write
@@ -18,13 +14,11 @@ value-insert m o p v = ap (λ r. unwrap_or r Nothing) (finite.get-insert object_
 
 -- each answer is of the kind that its request asks for
 abbrev pub Kinds : Tree → List Answer → Type 0
-Kinds (Ends e) [] = Unit {0}
 Kinds (Ends e) (a ∷ ans) = ⊥
 Kinds (Says v t) ans = Kinds t ans
-Kinds (Reads o k) [] = Unit {0}
 Kinds (Reads o k) (Got v ∷ ans) = Kinds (k v) ans
 Kinds (Reads o k) (Stored ∷ ans) = ⊥
-Kinds (Writes o v t) [] = Unit {0}
+Kinds _ [] = Unit {0}
 Kinds (Writes o v t) (Stored ∷ ans) = Kinds t ans
 Kinds (Writes o v t) (Got w ∷ ans) = ⊥
 
@@ -92,14 +86,10 @@ at-write true p v t ans m o e l none =
       v,
       (
         ((ans, refl), ap (λ x. Some (ToWrite x v)) (sym (same_object-is o p e))),
-        λ q u h. first q u h,
+        λ q u h. (elim q as (λ q. (u : Value) → Written (Writes p v t) (Stored ∷ ans) o q u → length q ≤ 0) [ [] ↦ λ u h. omega arith | x ∷ q ↦ λ u h. absurd (none q u (write-tail p v t ans o x q u h)) ]) u h,
       ),
       l,
     )
-  where
-    first : (q : List Answer) (u : Value) → Written (Writes p v t) (Stored ∷ ans) o q u → length q ≤ 0
-    first [] u h = omega arith
-    first (x ∷ q) u h = absurd (none q u (write-tail p v t ans o x q u h))
 at-write false p v t ans m o e l none =
     inr ((λ q u h. neither q u h), l)
   where
@@ -119,33 +109,21 @@ pub own-map : (t : Tree) (ans : List Answer) (m : Objects) (o : ObjectId) → Ki
     ⊎ (NoneWritten t ans o × (value_at (left_after t ans m) o ≡ value_at m o))
 own-map (Ends e) ans m o h = inr ((λ q u w. cc (w.1)), refl)
 own-map (Says v t) ans m o h = own-map t ans m o h
-own-map (Reads p k) [] m o h = inr ((λ q u w. no-split q w.0.0 Stored w.0.1), refl)
 own-map (Reads p k) (Got v ∷ ans) m o h =
     elim (own-map (k v) ans m o h) [
       | inl r ↦ inl (
         Got v ∷ r.0,
         r.1,
-        (
-          ((r.2.0.0.0, ap (λ xs. Got v ∷ xs) r.2.0.0.1), r.2.0.1),
-          λ q u w. let s = read-tail p v k ans o q u w in let n = r.2.1 s.0 u s.3 in rw s.2 (omega (arith, n)),
-        ),
+        (((r.2.0.0.0, ap (λ xs. Got v ∷ xs) r.2.0.0.1), r.2.0.1), λ q u w. let s = read-tail p v k ans o q u w in let n = r.2.1 s.0 u s.3 in rw s.2 (omega (arith, n))),
         r.3,
       )
       | inr r ↦ inr ((λ q u w. let s = read-tail p v k ans o q u w in r.0 s.0 u s.3), r.1)
     ]
 own-map (Reads p k) (Stored ∷ ans) m o h = absurd h
-own-map (Writes p v t) [] m o h = inr ((λ q u w. no-split q w.0.0 Stored w.0.1), refl)
+own-map _ [] m o h = inr ((λ q u w. no-split q w.0.0 Stored w.0.1), refl)
 own-map (Writes p v t) (Stored ∷ ans) m o h =
     elim (own-map t ans (finite.insert m p v) o h) [
-      | inl r ↦ inl (
-        Stored ∷ r.0,
-        r.1,
-        (
-          ((r.2.0.0.0, ap (λ xs. Stored ∷ xs) r.2.0.0.1), r.2.0.1),
-          λ q u w. later p v t ans o r.0 r.2.1 q u w,
-        ),
-        r.3,
-      )
+      | inl r ↦ inl (Stored ∷ r.0, r.1, (((r.2.0.0.0, ap (λ xs. Stored ∷ xs) r.2.0.0.1), r.2.0.1), λ q u w. later p v t ans o r.0 r.2.1 q u w), r.3)
       | inr r ↦ at-write (same_object o p) p v t ans m o refl (r.1 ∙ value-insert m p o v) r.0
     ]
 own-map (Writes p v t) (Got w ∷ ans) m o h = absurd h
@@ -170,8 +148,7 @@ unfolding tail_of head_of
 fronts [] [] y z e h = refl
 fronts [] (b ∷ q) y z e h = absurd (omega (arith, h))
 fronts (c ∷ p) [] y z e h = absurd (omega (arith, h))
-fronts (c ∷ p) (b ∷ q) y z e h =
-    ap (λ d. d ∷ p) (ap (λ xs. head_of xs) e) ∙ ap (λ xs. b ∷ xs) (fronts p q y z (ap (λ xs. tail_of xs) e) (omega (arith, h)))
+fronts (c ∷ p) (b ∷ q) y z e h = ap (λ d. d ∷ p) (ap (λ xs. head_of xs) e) ∙ ap (λ xs. b ∷ xs) (fronts p q y z (ap (λ xs. tail_of xs) e) (omega (arith, h)))
 
 pub longer : (p q : List Answer) (a : Answer) (x : List Answer) → q ≡ p ++ (a ∷ x) → length p < length q
 longer [] q a x e = rw e (omega arith)
@@ -183,14 +160,11 @@ same-value o v w e = cc e
 pub same-read : (o p : ObjectId) → Some (ToRead o) ≡ Some (ToRead p) → o ≡ p
 same-read o p e = cc e
 
-pub shorter : (t : Tree) (ans pre y : List Answer) (o : ObjectId) (p : List Answer) (w : Value) → ans ≡ pre ++ y → length p < length pre →
-    Written t ans o p w → Written t pre o p w
-shorter t ans pre y o p w e h k =
-    let r = front p pre k.0.0 y Stored (sym k.0.1 ∙ e) h in ((r.0, r.1), k.1)
+pub shorter : (t : Tree) (ans pre y : List Answer) (o : ObjectId) (p : List Answer) (w : Value) → ans ≡ pre ++ y → length p < length pre → Written t ans o p w → Written t pre o p w
+shorter t ans pre y o p w e h k = let r = front p pre k.0.0 y Stored (sym k.0.1 ∙ e) h in ((r.0, r.1), k.1)
 
 pub widen : (t : Tree) (ans pre y : List Answer) (o : ObjectId) (p : List Answer) (w : Value) → ans ≡ pre ++ y → Written t pre o p w → Written t ans o p w
-widen t ans pre y o p w e k =
-    ((k.0.0 ++ y, e ∙ ap (λ xs. xs ++ y) k.0.1 ∙ assoc p (Stored ∷ k.0.0) y), k.1)
+widen t ans pre y o p w e k = ((k.0.0 ++ y, e ∙ ap (λ xs. xs ++ y) k.0.1 ∙ assoc p (Stored ∷ k.0.0) y), k.1)
 
 pub front-short : (pre y ans : List Answer) → ans ≡ pre ++ y → length pre ≤ length ans
 front-short [] y ans e = omega arith

@@ -1,9 +1,5 @@
 -- Each answer comes from the repository of the object that was asked for; one pseudotime carries one request; a read shows the reader's own last write.
-use Rattle.std.proofs.Common.{◌≡◌, inl, inr, ℕ, ◌+◌, ◌≤◌, ◌<◌, true, false, ◌||◌, List, [], ◌∷◌, ◌++◌, length, map, reverse, refl, sym, ◌∙◌, ap, subst, Option, Some, None, arith}
-use Rattle.std.proofs.lemmas.List.{length-append}
-use Rattle.std.proofs.lemmas.Bool.{or_right}
-use Rattle.std.proofs.lemmas.Option.{same_Some}
-use Rattle.serial_law.proofs.Names.{Every, Has, lt, same_stamp, StampParts, TimeParts, NodeId, NodeKind, Repository, Broker, every-has, same_stamp-of, ObjectId, Value, Effect, Message, Post, WasSent, Mark, Seen, alive, shows, views, value_of, Viewed, and-both, and-left, scan-passes, top-all, AtMost, Passes, Answer, Got, Stored, Request, ToRead, ToWrite, Asks, stop, marks, book, tries, broker, repository, IsAskOf, IsBelow, IsPlayed, IsProven, clocks, kind_post, asked_of, Position, TickedBefore, log_at, sent_before, world_at, alike, replaced, sent_earlier, base_of, sent_by, logs_at, some-log}
+use Rattle.serial_law.proofs.Names.{Every, Has, lt, same_stamp, StampParts, TimeParts, NodeId, NodeKind, Repository, Broker, every-has, same_stamp-of, ObjectId, Value, Effect, Message, Post, WasSent, Mark, Seen, alive, shows, views, value_of, Viewed, and-both, and-left, scan-passes, top-all, AtMost, Passes, Answer, Got, Stored, Request, ToRead, ToWrite, Asks, stop, marks, book, tries, broker, repository, IsAskOf, IsBelow, IsPlayed, IsProven, clocks, kind_post, asked_of, Position, TickedBefore, log_at, sent_before, world_at, alike, replaced, sent_earlier, base_of, sent_by, logs_at, some-log, ◌≡◌, inl, inr, ℕ, ◌+◌, ◌≤◌, ◌<◌, true, false, ◌||◌, List, [], ◌∷◌, ◌++◌, length, map, reverse, refl, sym, ◌∙◌, ap, subst, Option, Some, None, arith, length-append, or_right, same_Some, each-found, one-request, every-of, ViewedThere, viewed-there}
 use Rattle.effect_form.specs.declared.effects.Effect.TheVariants as effect
 use Rattle.effect_form.specs.declared.outcomes.Outcome.TheVariants as outcome
 use Rattle.message_form.specs.declared.messages.Message.TheVariants as message
@@ -11,15 +7,12 @@ use Rattle.object_history.specs.declared.marks.Mark.TheVariants as mark
 use Rattle.repository_laws.specs.Facts as repositories
 use Rattle.broker_core.specs.Book.{Try, find}
 use Rattle.broker_laws.specs.Posts.{IsFitting, at}
-use Rattle.broker_laws.proofs.Found.{each-found, one-request}
 use Rattle.serial_law.specs.Answers.{brings, IsAnsweredThere, StoredBefore}
 use Rattle.serial_law.proofs.Attempts.{found-try, found-in}
 use Rattle.serial_law.proofs.Own.{front-short}
 use Rattle.serial_law.proofs.Puts.{Picked, at-most, picked, put-stands, stands-put}
 use Rattle.serial_law.proofs.Times.{inside, inside-high, inside-low}
 use Rattle.serial_law.proofs.Traces.{place-facts, broker-tidy, stamps-apart, answers-asked, answers-sent, requests-right}
-use Rattle.world_facts.proofs.Growths.{every-of}
-use Rattle.world_facts.proofs.AnswerLemmas.{ViewedThere, viewed-there}
 
 read-same : (o p : ObjectId) → ToRead o ≡ ToRead p → o ≡ p
 read-same o p e = cc e
@@ -187,10 +180,9 @@ module _ (p : Position) where
   own-write-read x v o y w asked came before last =
       let r : ℕ = o.repository in
       let val = holds Repository r x.stamp.broker (message.Value x v) came in
-      let object : val.2.0 ≡ o = one-read x.stamp.broker (repository r) (repository r) x val.2.0 o val.2.1.0 asked in
       let k : ViewedThere p.script (base_of p.script p.plan p.trace) (logs_at p.logs (world_at p)) (replaced (alike p.script) p.past.0) (sent_earlier (alike p.script) p.past.0) (sent_by (world_at p)) (TickedBefore p) (place-facts p) r o x v =
       viewed-there p.script (base_of p.script p.plan p.trace) (logs_at p.logs (world_at p)) (replaced (alike p.script) p.past.0) (sent_earlier (alike p.script) p.past.0) (sent_by (world_at p)) (TickedBefore p) (place-facts p) r
-      o x v val.0 val.1 val.2.4 (subst (λ z. Viewed (marks val.0) z x v) object val.2.3) in
+      o x v val.0 val.1 val.2.4 (subst (λ z. Viewed (marks val.0) z x v) (one-read x.stamp.broker (repository r) (repository r) x val.2.0 o val.2.1.0 asked) val.2.3) in
       let sto = holds Repository r y.stamp.broker (message.Stored y) before.stored in
       let both : (sto.2.0 ≡ o) × (sto.2.1 ≡ w) = one-write y.stamp.broker (repository r) (repository r) y sto.2.0 o sto.2.1 w sto.2.2.0 before.asked in
       let put : Has (effect.Put o y w) sto.0 = subst (λ z. Has (effect.Put z y w) sto.0) both.0 (subst (λ z. Has (effect.Put sto.2.0 y z) sto.0) both.1 sto.2.3) in
@@ -210,12 +202,10 @@ module _ (p : Position) where
           let under : lt q.start x ≡ true = and-left (lt q.start x) _ pass in
           let above : lt q.start (at x.stamp y.step) ≡ false = subst (λ z. lt q.start (at z y.step) ≡ false) before.same most in
           let own : q.start.stamp ≡ x.stamp = inside q.start x.stamp y.step x.step above under in
-          let low : y.step ≤ q.start.step = inside-low q.start x.stamp y.step above own in
-          let high : q.start.step < x.step = inside-high q.start x.stamp x.step under own in
           let sent = wanted q.start q.value (stands-put m o q.start q.value put) in
           let its : WasSent ever (broker b) (repository r) (message.Write q.start o q.value) = subst (λ z. WasSent ever (broker z) (repository r) (message.Write q.start o q.value)) (ap (λ (z : StampParts). z.broker) own) sent.0 in
           let stored : WasSent ever (repository r) (broker b) (message.Stored q.start) =
-          stored-first b x q.start o o q.value own high (read-asks b (repository r) x o asked) (write-asks b (repository r) q.start o q.value its) in
+          stored-first b x q.start o o q.value own (inside-high q.start x.stamp x.step under own) (read-asks b (repository r) x o asked) (write-asks b (repository r) q.start o q.value its) in
           let back : b ≡ q.start.stamp.broker = ap (λ (z : StampParts). z.broker) (sym own) in
           let here : StoredBefore ever x o q.start q.value = record {
             same = own;
@@ -225,6 +215,6 @@ module _ (p : Position) where
           } in
           let not_over : lt y (at x.stamp q.start.step) ≡ false = subst (λ z. lt y (at z q.start.step) ≡ false) own (last q.start q.value here) in
           let up : q.start.step ≤ y.step = inside-low y x.stamp q.start.step not_over before.same in
-          let same : q.start ≡ y = same-time q.start y (own ∙ sym before.same) (omega (arith, low, up)) in
+          let same : q.start ≡ y = same-time q.start y (own ∙ sym before.same) (omega (arith, inside-low q.start x.stamp y.step above own, up)) in
           let mine : WasSent ever (broker y.stamp.broker) (repository r) (message.Write y o q.value) = subst (λ (z : TimeParts). WasSent ever (broker z.stamp.broker) (repository r) (message.Write z o q.value)) same sent.0 in
           (one-write y.stamp.broker (repository r) (repository r) y o o q.value w mine before.asked).1

@@ -1,11 +1,9 @@
 -- Refusals and causes by two readings of scripts.
-use Rattle.std.proofs.Common.{◌≡◌, ◌⊎◌, inl, inr, ℕ, true, List, [], ◌∷◌, reverse, subst, Some}
-use Rattle.serial_law.proofs.Names.{Has, repository, TimeParts, ObjectId, Value, NodeId, Effect, Outcome, WriteStep, read_step, write_step, Request, ToRead, ToWrite, Tree, after, Plan, marks, reading, Scripted, Entry, Trace, WasAnswered, WasRefused, RunLogs, Try, in_run, log_of, base_of, alike, own_reading, AreEarlier, AreOfLanguage, Earlier, Running, Retiring, Base, World, own-reading, walk-same, Happened, HasReason, HasStood, asked_of, asks, AnsweredBy, RefusedBy, InSome}
+use Rattle.serial_law.proofs.Names.{Has, repository, TimeParts, ObjectId, Value, NodeId, Effect, Outcome, WriteStep, read_step, write_step, Request, ToRead, ToWrite, Tree, after, Plan, marks, reading, Scripted, Entry, Trace, WasAnswered, WasRefused, RunLogs, Try, in_run, log_of, base_of, alike, own_reading, AreEarlier, AreOfLanguage, Earlier, Running, Retiring, Base, World, own-reading, walk-same, Happened, HasReason, HasStood, asked_of, asks, AnsweredBy, RefusedBy, InSome, ◌≡◌, ◌⊎◌, inl, inr, ℕ, true, List, [], ◌∷◌, reverse, subst, Some, all_effects, numbered}
 use Rattle.pseudo_time.specs.declared.decisions.Decision.TheVariants as decision
 use Rattle.effect_form.specs.declared.effects.Effect.TheVariants as effect
 use Rattle.effect_form.specs.declared.outcomes.Outcome.TheVariants as outcome
 use Rattle.object_history.specs.declared.steps.ReadStep.TheVariants as read
-use Rattle.world_core.specs.Walks.{all_effects, numbered}
 
 -- ---- refusals
 
@@ -79,8 +77,6 @@ module _ (k k' : RunLogs) (same : (r : ℕ) → in_run k r ≡ true → log_of k
   pub reason-same : (try : Try) (o : Outcome) → in_run k try.stamp.home ≡ true → ((q : Request) → asks (after try.script try.answers) ≡ Some q → in_run k (asked_of q).repository ≡ true) →
       HasReason k olds h try o → HasReason k' olds' h' try o
   reason-same try outcome.Committed home within c = subst (Has (effect.Decide try.stamp decision.Committed)) (same try.stamp.home home) c
-  reason-same try (outcome.Withdrawn l) home within c = c
-  reason-same try (outcome.Failed l kind) home within c = c
   reason-same try (outcome.Expired d m) home within c = (
     subst (Has (effect.Decide try.stamp (decision.Expired d m))) (same try.stamp.home home) c.0,
     subst (Has (effect.Begin try.stamp d)) (same try.stamp.home home) c.1,
@@ -90,6 +86,5 @@ module _ (k k' : RunLogs) (same : (r : ℕ) → in_run k r ≡ true → log_of k
   reason-same try (outcome.LaterRead o e) home within (less, inl (v, writes, stood, was)) =
       (less, inl (v, writes, either-same o.repository (effect.Stretch o e) (effect.Mark e) (within (ToWrite o v) writes) stood, answered _ o v _ was))
   reason-same try (outcome.LaterRead o e) home within (less, inr (reads, stood, was)) = (less, inr (reads, stood-same o.repository (effect.Mark e) (within (ToRead o) reads) stood, refused _ o e was))
-  reason-same try (outcome.LaterVersion o x) home within (v, writes, less, (u, stood), was) =
-      (v, writes, less, (u, stood-same o.repository (effect.Put o x u) (within (ToWrite o v) writes) stood), answered _ o v _ was)
-  reason-same try (outcome.Spent n) home within c = c
+  reason-same try (outcome.LaterVersion o x) home within (v, writes, less, (u, stood), was) = (v, writes, less, (u, stood-same o.repository (effect.Put o x u) (within (ToWrite o v) writes) stood), answered _ o v _ was)
+  reason-same try _ home within c = c

@@ -1,7 +1,5 @@
 -- What Serial refuses: the run over two repositories with one thing wrong, and a plan without the object's repository.
-use Rattle.std.proofs.Common.{◌≡◌, Bool, true, false, List, [], ◌∷◌, refl, sym, ◌∙◌, ap, Option, Some, None, inl, inr}
-use Rattle.std.proofs.lemmas.Bool.{false≢true, true≢false}
-use Rattle.serial_law.proofs.Names.{same_stamp, stamp_lt, lt, Line, Value, Nothing, value_at, Effect, Outcome, Answer, Got, Stored, book, knows, Try, RunLogs, Version, has_commit, committed, put_in, puts_of, puts_to, find, stamp_in, stamp_if, put_stamps, log_stamps, try_stamps, all_deeds, before, lines_written, Serial}
+use Rattle.serial_law.proofs.Names.{same_stamp, stamp_lt, lt, Line, Value, Nothing, value_at, Effect, Outcome, Answer, Got, Stored, book, knows, Try, RunLogs, Version, has_commit, committed, put_in, puts_of, puts_to, find, stamp_in, stamp_if, put_stamps, log_stamps, try_stamps, all_deeds, before, lines_written, Serial, ◌≡◌, Bool, true, false, List, [], ◌∷◌, refl, sym, ◌∙◌, ap, Option, Some, None, inl, inr, false≢true, true≢false}
 use Rattle.value_form.specs.declared.transcripts.Line.TheVariants as line
 use Rattle.effect_form.specs.declared.effects.Effect.TheVariants as effect
 use Rattle.effect_form.specs.declared.outcomes.Outcome.TheVariants as outcome
@@ -22,9 +20,8 @@ abbrev read_nothing : RunLogs
 read_nothing = elsewhere_with elsewhere_home elsewhere_other (reader (Got Nothing ∷ []) None ∷ writer (Stored ∷ []) (Some outcome.Committed) ∷ [])
 
 read_value : List Line → Value
-read_value [] = int 0
 read_value (line.Read o v ∷ ls) = v
-read_value (l ∷ ls) = int 0
+read_value _ = int 0
 
 read_nothing-before : before read_nothing (stamp 2 1 1) ≡ one (object 2 1) (int 4)
 unfolding before all_deeds log_stamps put_stamps try_stamps stamp_if stamp_in committed has_commit knows find puts_to puts_of put_in same_stamp stamp_lt lt

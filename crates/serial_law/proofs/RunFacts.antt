@@ -1,29 +1,18 @@
 -- What holds of all logs and messages of a legal run gives the facts that keep it serial.
-use Rattle.std.proofs.Common.{◌≡◌, ◌⊎◌, ℕ, ◌+◌, ◌≤◌, true, List, [], ◌∷◌, ◌++◌, map, reverse, refl, sym, ◌∙◌, ap, subst, Some, is_some, inl, inr, ◌==◌}
 use Rattle.std.proofs.lemmas.List.{append-nil}
-use Rattle.serial_law.proofs.Names.{Every, Has, StampParts, TimeParts, Decision, NodeId, NodeKind, Repository, Broker, every-has, ActSpec, ObjectId, Value, Effect, Outcome, Message, Post, WasSent, Distinct, Viewed, all_stood, Got, Stored, Request, ToRead, ToWrite, Asks, Over, Tree, after, stop, talked, talked-stop, Plan, InRange, IsOfLanguage, is_commit, marks, Once, decide-home, decided-once, book, tries, tries_of, broker, repository, Task, tasks, Scripted, IsAskOf, IsBelow, IsPlayed, IsProven, MayCommit, clocks, distinct, played, proven, acts_of, Base, opened_log, kind_post, node_facts, Causes, Happened, HasReason, HasStood, Try, RunLogs, in_run, Sees, at, asks, asked_of, RunFacts, whole_log, whole_run, attempt, keep, WriteStep, read_step, write_step, lt, each-has, broker-post, some-history, some-log}
+use Rattle.serial_law.proofs.Names.{Every, Has, StampParts, TimeParts, Decision, NodeId, NodeKind, Repository, Broker, every-has, ActSpec, ObjectId, Value, Effect, Outcome, Message, Post, WasSent, Distinct, Viewed, all_stood, Got, Stored, Request, ToRead, ToWrite, Asks, Over, Tree, after, stop, talked, talked-stop, Plan, InRange, IsOfLanguage, is_commit, marks, Once, decide-home, decided-once, book, tries, tries_of, broker, repository, Task, tasks, Scripted, IsAskOf, IsBelow, IsPlayed, IsProven, MayCommit, clocks, distinct, played, proven, acts_of, Base, opened_log, kind_post, node_facts, Causes, Happened, HasReason, HasStood, Try, RunLogs, in_run, Sees, at, asks, asked_of, RunFacts, whole_log, whole_run, attempt, keep, WriteStep, read_step, write_step, lt, each-has, broker-post, some-history, some-log, ◌≡◌, ◌⊎◌, ℕ, ◌+◌, ◌≤◌, true, List, [], ◌∷◌, ◌++◌, map, reverse, refl, sym, ◌∙◌, ap, subst, Some, is_some, inl, inr, ◌==◌, block, IsOnFloor, chain-view, Stop, EachAct, learn-home, decide-cause, task_of, IsCommitOf, IsPlanned, planned, run_of, every-filter, every-at}
 use Rattle.pseudo_time.specs.declared.decisions.Decision.TheVariants as decision
 use Rattle.value_form.specs.declared.endings.Ending.TheVariants as ending
-use Rattle.value_form.specs.Mirror.{block}
 use Rattle.effect_form.specs.declared.effects.Effect.TheVariants as effect
 use Rattle.effect_form.specs.declared.outcomes.Outcome.TheVariants as outcome
 use Rattle.message_form.specs.declared.messages.Message.TheVariants as message
-use Rattle.object_history.specs.Views.{IsOnFloor}
-use Rattle.object_retirement.proofs.ChainLemmas.{chain-view}
-use Rattle.script_meaning.specs.Meaning.{Stop}
-use Rattle.plan_form.specs.PlanTexts.{EachAct}
 use Rattle.repository_laws.specs.Facts as repositories
-use Rattle.repository_laws.proofs.Logs.{learn-home, decide-cause}
 use Rattle.broker_core.specs.Book as books
 use Rattle.broker_core.specs.Book.{find}
-use Rattle.broker_core.specs.Tasks.{task_of}
 use Rattle.broker_laws.specs.Fits as brokers
-use Rattle.broker_laws.specs.Posts.{IsCommitOf, IsPlanned}
 use Rattle.broker_laws.specs.Posts as posts
-use Rattle.broker_laws.proofs.Found.{planned}
 use Rattle.world_facts.specs.Refines as refines
 use Rattle.serial_law.specs.Facts.{Said, request_at, Asked}
-use Rattle.serial_law.specs.Runs.{run_of}
 use Rattle.broker_laws.proofs.Kept.{kept}
 use Rattle.serial_law.proofs.Attempts.{IsTryOf, try-of, tries-kept, try-home, of-book, found-try}
 use Rattle.object_history.specs.declared.steps.WriteStep.TheVariants as write
@@ -35,7 +24,6 @@ use Rattle.serial_law.proofs.Inside.{Inside, inside-after, inside-asks, inside-s
 use Rattle.serial_law.proofs.LogLemmas.{in-both}
 use Rattle.serial_law.proofs.WholeFacts.{its-all, its-chain, put-asked, put-whole}
 use Rattle.serial_law.proofs.Premises.{asked-here}
-use Rattle.world_facts.proofs.Growths.{every-filter, every-at}
 use Rattle.world_facts.specs.Rules.{SomeOf}
 use Rattle.world_facts.proofs.AnswerLemmas as answers
 
@@ -66,8 +54,7 @@ IsKept script n task = InRange n task.home × Inside n (script task.script)
 
 pub kept-acts : (script : List ℕ → Tree) (n k first : ℕ) (acts : List ActSpec) → EachAct n k first acts → Scripted script acts → Every (λ a. IsKept script n (task_of a)) acts
 kept-acts script n k first [] h s = tt
-kept-acts script n k first (a ∷ acts) h s =
-    ((h.0.home, subst (Inside n) (sym s.0) (inside-script n (block a.script.lines) h.0.script.limits)), kept-acts script n k (first + 1) acts h.1 s.1)
+kept-acts script n k first (a ∷ acts) h s = ((h.0.home, subst (Inside n) (sym s.0) (inside-script n (block a.script.lines) h.0.script.limits)), kept-acts script n k (first + 1) acts h.1 s.1)
 
 pub kept-tasks : (script : List ℕ → Tree) (n : ℕ) (acts : List ActSpec) → Every (λ a. IsKept script n (task_of a)) acts → Every (IsKept script n) (tasks acts)
 kept-tasks script n [] h = tt
@@ -390,16 +377,14 @@ module _ (script : List ℕ → Tree) (b : Base) (plan : Plan) (logs : NodeId �
         Once (λ k. write_step (marks k) p time w ≡ write.LaterRead e) l → ToldRequest ever i Answered Refused time (write.LaterRead e) → HasReason run before happened mine-try (outcome.LaterRead o e)
     write-refused i o p e v w l k less stands sent once (inr t) = absurd (no-read i o t.0 v t.3 stands)
     write-refused i o p e v w l k less stands sent once (inl t) =
-        let r : p ≡ o = is-write i o p v w sent stands in
         let q : t.0 ≡ o = is-write i o t.0 v t.1 t.2 stands in
-        let there = stretched-in i p e l k (once-read l p time e w once) in
         subst (λ y. HasReason run before happened mine-try (outcome.LaterRead y e)) q (
           less,
           inl (
             t.1,
             asked-write i t.0 t.1 t.2,
-            subst (λ y. HasStood run before y.repository (effect.Stretch y e) ⊎ HasStood run before y.repository (effect.Mark e)) (r ∙ sym q)
-                (subst (λ j. HasStood run before j (effect.Stretch p e) ⊎ HasStood run before j (effect.Mark e)) (sym sent.1) there),
+            subst (λ y. HasStood run before y.repository (effect.Stretch y e) ⊎ HasStood run before y.repository (effect.Mark e)) ((is-write i o p v w sent stands) ∙ sym q)
+                (subst (λ j. HasStood run before j (effect.Stretch p e) ⊎ HasStood run before j (effect.Mark e)) (sym sent.1) (stretched-in i p e l k (once-read l p time e w once))),
             t.3,
           ),
         )
@@ -409,7 +394,6 @@ module _ (script : List ℕ → Tree) (b : Base) (plan : Plan) (logs : NodeId �
         Once (λ k. read_step (marks k) p time ≡ read.LaterRead e) l → ToldRequest ever i Answered Refused time (write.LaterRead e) → HasReason run before happened mine-try (outcome.LaterRead o e)
     read-refused i o p e l k less stands sent once (inl t) = absurd (no-write i o t.0 t.1 t.2 stands)
     read-refused i o p e l k less stands sent once (inr t) =
-        let r : p ≡ o = is-read i o p sent stands in
         let q : t.0 ≡ o = is-read i o t.0 t.3 stands in
         let end : t.1 ≡ e = cc (sym t.2) in
         let there = stood-in i (effect.Mark e) l k (once-refused l p time e once) in
@@ -417,7 +401,7 @@ module _ (script : List ℕ → Tree) (b : Base) (plan : Plan) (logs : NodeId �
           less,
           inr (
             asked-read i t.0 t.3,
-            subst (λ y. HasStood run before y.repository (effect.Mark e)) (r ∙ sym q) (subst (λ j. HasStood run before j (effect.Mark e)) (sym sent.1) there),
+            subst (λ y. HasStood run before y.repository (effect.Mark e)) ((is-read i o p sent stands) ∙ sym q) (subst (λ j. HasStood run before j (effect.Mark e)) (sym sent.1) there),
             subst (λ z. Refused time t.0 z) end t.4,
           ),
         )
@@ -457,8 +441,6 @@ module _ (script : List ℕ → Tree) (b : Base) (plan : Plan) (logs : NodeId �
 
     try-cause : (o : Outcome) → m.try.end ≡ Some o → HasReason run before happened mine-try o
     try-cause outcome.Committed e = decided-said m.try.stamp decision.Committed (came m.number _ ((its-proof a m).ends outcome.Committed e))
-    try-cause (outcome.Withdrawn l) e = talked-stop (script m.try.task.script) m.try.answers ∙ (its-play a m).ends (outcome.Withdrawn l) e
-    try-cause (outcome.Failed l k) e = talked-stop (script m.try.task.script) m.try.answers ∙ (its-play a m).ends (outcome.Failed l k) e
     try-cause (outcome.Expired d n) e =
         let decided = decided-said m.try.stamp (decision.Expired d n) (came m.number _ ((its-proof a m).ends (outcome.Expired d n) e)) in
         let c = decide-cause m.try.stamp.home (log (repository m.try.stamp.home)) m.try.stamp (decision.Expired d n) (f.tidy (repository m.try.stamp.home)) decided in
@@ -466,6 +448,7 @@ module _ (script : List ℕ → Tree) (b : Base) (plan : Plan) (logs : NodeId �
     try-cause (outcome.LaterRead o x) e = refused-later o x ((its-play a m).ends (outcome.LaterRead o x) e) (posted-from _ (came m.number _ ((its-proof a m).ends (outcome.LaterRead o x) e)))
     try-cause (outcome.LaterVersion o x) e = refused-version o x ((its-play a m).ends (outcome.LaterVersion o x) e) (posted-from _ (came m.number _ ((its-proof a m).ends (outcome.LaterVersion o x) e)))
     try-cause (outcome.Spent c) e = absurd ((its-play a m).ends (outcome.Spent c) e)
+    try-cause f e = talked-stop (script m.try.task.script) m.try.answers ∙ (its-play a m).ends f e
 
   pub run-causes : (Answered : TimeParts → ObjectId → Value → WriteStep → Type 0) (Refused : TimeParts → ObjectId → TimeParts → Type 0) → TellsOf Answered Refused →
       Causes run before (record { Ticked = May; Answered = Answered; Refused = Refused })

@@ -1,10 +1,7 @@
 -- Runs that agree in the logs of their repositories and in their tries are serial together.
-use Rattle.std.proofs.Common.{◌≡◌, ◌⊎◌, ℕ, zero, suc, ◌≤◌, Bool, true, false, ◌&&◌, ◌||◌, nat_le, map, List, [], ◌∷◌, ◌++◌, refl, sym, ◌∙◌, ap, subst, if◌then◌else◌, arith}
 use Rattle.std.specs.FinMap as finite
-use Rattle.std.proofs.lemmas.Bool.{le-leb}
-use Rattle.serial_law.proofs.Names.{Every, Has, StampParts, stamp_lt, repository, NodeId, ObjectId, Objects, Effect, Mark, Put, Stretch, Settle, Floor, scan, value_of, marks, talked, talked_alone, Try, RunLogs, in_run, some_of, has_commit, has_learned, committed, puts_of, puts_to, written, find, deed_of, deed, put_stamps, log_stamps, try_stamps, deed_stamps, all_deeds, before, finals, marks_at, Serial, IsSerial, KeepsPuts, PutsStand, WasGivenUp, wrote, last_values, marks_to}
+use Rattle.serial_law.proofs.Names.{Every, Has, StampParts, stamp_lt, repository, NodeId, ObjectId, Objects, Effect, Mark, Put, scan, value_of, marks, talked, talked_alone, Try, RunLogs, in_run, some_of, has_commit, has_learned, committed, puts_of, puts_to, written, find, deed_of, deed, put_stamps, log_stamps, try_stamps, deed_stamps, all_deeds, before, finals, marks_at, Serial, IsSerial, KeepsPuts, PutsStand, WasGivenUp, wrote, last_values, marks_to, ◌≡◌, ◌⊎◌, ℕ, zero, suc, ◌≤◌, Bool, true, false, ◌&&◌, ◌||◌, nat_le, map, List, [], ◌∷◌, ◌++◌, refl, sym, ◌∙◌, ap, subst, if◌then◌else◌, arith, le-leb, holding}
 use Rattle.serial_model.specs.Deeds.{after_deeds, stamp_if}
-use Rattle.trace_report.specs.Finals.{holding}
 use Rattle.broker_laws.proofs.TestLemmas.{and-both}
 
 abbrev run_with : ℕ → (NodeId → List Effect) → List Try → RunLogs
@@ -45,18 +42,13 @@ module _ (most : ℕ) (f g : NodeId → List Effect) (tries : List Try) (same : 
   written-same : (s : StampParts) → written k s ≡ written k' s
   written-same s = to-puts s most (omega arith)
 
-  deed-same : (s : StampParts) → deed k s ≡ deed k' s
-  deed-same s = ap (deed_of (find s tries)) (written-same s)
-
   -- ---- the map before a stamp
 
   marks-stamps : (ok ok' : StampParts → Bool) → ((s : StampParts) → ok s ≡ ok' s) → (m : List Mark) (ss : List StampParts) → put_stamps ok m ss ≡ put_stamps ok' m ss
   unfolding put_stamps
   marks-stamps ok ok' e [] ss = refl
   marks-stamps ok ok' e (Put o x v ∷ m) ss = λ i. stamp_if (e x.stamp i) x.stamp (marks-stamps ok ok' e m ss i)
-  marks-stamps ok ok' e (Stretch o x ∷ m) ss = marks-stamps ok ok' e m ss
-  marks-stamps ok ok' e (Settle t c ∷ m) ss = marks-stamps ok ok' e m ss
-  marks-stamps ok ok' e (Floor at ∷ m) ss = marks-stamps ok ok' e m ss
+  marks-stamps ok ok' e (_ ∷ m) ss = marks-stamps ok ok' e m ss
 
   tries-stamps : (ok ok' : StampParts → Bool) → ((s : StampParts) → ok s ≡ ok' s) → (ts : List Try) → try_stamps ok ts ≡ try_stamps ok' ts
   unfolding try_stamps
@@ -72,7 +64,7 @@ module _ (most : ℕ) (f g : NodeId → List Effect) (tries : List Try) (same : 
 
   map-same : (ss : List StampParts) → map (deed k) ss ≡ map (deed k') ss
   map-same [] = refl
-  map-same (s ∷ ss) = λ i. deed-same s i ∷ map-same ss i
+  map-same (s ∷ ss) = λ i. (ap (deed_of (find s tries)) (written-same s)) i ∷ map-same ss i
 
   deeds-same : (ss : List StampParts) (m : Objects) → all_deeds k ss m ≡ all_deeds k' ss m
   unfolding all_deeds
@@ -115,8 +107,7 @@ module _ (most : ℕ) (f g : NodeId → List Effect) (tries : List Try) (same : 
 
   pub serial-same : Serial k → Serial k'
   serial-same h t j =
-      let p = h t j in
-      let p' : IsSerial k t (talked t.script t.answers) (talked_alone t.script (before k' t.stamp)) = subst (λ m. IsSerial k t (talked t.script t.answers) (talked_alone t.script m)) (before-same t.stamp) p in
+      let p' : IsSerial k t (talked t.script t.answers) (talked_alone t.script (before k' t.stamp)) = subst (λ m. IsSerial k t (talked t.script t.answers) (talked_alone t.script m)) (before-same t.stamp) (h t j) in
       let c : committed k' t.stamp ≡ committed k t.stamp = sym (committed-same t.stamp) in
       record {
         front = p'.front;

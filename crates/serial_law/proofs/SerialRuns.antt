@@ -1,19 +1,13 @@
 -- What the top call promises of serial runs, from the law of serial runs.
-use Rattle.std.proofs.Common.{◌≡◌, ℕ, zero, suc, ◌≤◌, ◌==◌, nat_le, Bool, true, false, ◌&&◌, List, [], ◌∷◌, ◌++◌, append-nil, length, map, refl, sym, ◌∙◌, ap, subst, if◌then◌else◌, arith}
-use Rattle.std.proofs.lemmas.Bool.{eqb-true, le-leb}
-use Rattle.std.specs.Prelude.{reverse}
-use Rattle.serial_law.proofs.Names.{Every, NodeId, ActSpec, Effect, Asked, Tree, Plan, IsOfLanguage, Task, tasks, Scripted, Book, Act, tries_of, Trace, acts_of, World, start_world, base_of, in_plan, Try, finals, broker, repository, reading, counted, IsLegal, OpenedWith, AnsweredBefore, Position, RefusedBefore, TickedBefore, happened_before, log_at, olds_at, run_at, sent_before, whole_at, world_at, Serial, KeepsPuts, whole_log, last_values, value_at, Earlier, TickedBy, WereLeftOrRetired, Causes, RunFacts, Has, TimeParts, ObjectId, Value, WriteStep, AnsweredBy, RefusedBy, walk-same, own-reading, walk-known}
+use Rattle.serial_law.proofs.Names.{Every, NodeId, ActSpec, Effect, Asked, Tree, Plan, IsOfLanguage, Task, tasks, Scripted, Act, tries_of, Trace, acts_of, World, start_world, base_of, in_plan, Try, finals, broker, repository, reading, counted, IsLegal, OpenedWith, AnsweredBefore, Position, RefusedBefore, TickedBefore, happened_before, log_at, olds_at, run_at, sent_before, whole_at, world_at, Serial, KeepsPuts, whole_log, last_values, value_at, Earlier, TickedBy, WereLeftOrRetired, Causes, RunFacts, Has, TimeParts, ObjectId, Value, WriteStep, AnsweredBy, RefusedBy, walk-same, own-reading, walk-known, ◌≡◌, ℕ, zero, suc, ◌≤◌, ◌==◌, nat_le, Bool, true, false, ◌&&◌, List, [], ◌∷◌, ◌++◌, append-nil, length, map, refl, sym, ◌∙◌, ap, subst, if◌then◌else◌, arith, eqb-true, le-leb, reverse, gated_log, HaveReasons, happened_by, Agree, agree-of}
 use Rattle.broker_core.specs.Book as books
 use Rattle.broker_core.specs.Sound.{Started, OfAct}
 use Rattle.world_core.specs.Deeds.{attempt, book_tries, run_tries}
-use Rattle.world_core.specs.Readings.{gated_log}
-use Rattle.serial_law.specs.Reasons.{HaveReasons, happened_by}
 use Rattle.serial_law.proofs.ReasonRuns.{answered-own, reason-same, refused-own}
 use Rattle.serial_law.specs.Serials.{HoldsFinals, IsSerialOver, olds_in, run_in, whole_in}
 use Rattle.broker_laws.proofs.TestLemmas.{and-both}
 use Rattle.broker_core.proofs.SoundLemmas.{sound-kept}
 use Rattle.broker_core.proofs.SameTurns.{book-same}
-use Rattle.world_core.proofs.SameWorlds.{Agree, agree-of}
 use Rattle.serial_law.proofs.OlderReading.{OneReading, older-reading}
 use Rattle.serial_law.proofs.SameRuns.{finals-same, last-same, puts-same, serial-same}
 
@@ -125,13 +119,11 @@ module _ (plan : Plan) (t : Trace) (cs : List Earlier) (k : Placed plan t cs) wh
 
 module _ (law : (p : Position) → Serial (whole_at p)) (puts : (p : Position) → KeepsPuts (run_at p)) where
   pub serial-over : (plan : Plan) (asked : List Asked) (t : Trace) → IsOfLanguage plan → IsLegal plan asked t → IsSerialOver plan t
-  serial-over plan asked t w l logs left agrees =
-      let k = placed plan asked t w l logs left agrees in (serial-run plan t left.0 k (law k.place), puts-run plan t left.0 k (puts k.place))
+  serial-over plan asked t w l logs left agrees = let k = placed plan asked t w l logs left agrees in (serial-run plan t left.0 k (law k.place), puts-run plan t left.0 k (puts k.place))
 
 module _ (law : (p : Position) (o : ObjectId) → value_at (last_values (run_at p)) o ≡ value_at (finals (whole_at p)) o) where
   pub finals-over : (plan : Plan) (asked : List Asked) (t : Trace) → IsOfLanguage plan → IsLegal plan asked t → HoldsFinals plan t
-  finals-over plan asked t w l logs left agrees o =
-      let k = placed plan asked t w l logs left agrees in finals-run plan t left.0 k o (law k.place o)
+  finals-over plan asked t w l logs left agrees o = let k = placed plan asked t w l logs left agrees in finals-run plan t left.0 k o (law k.place o)
 
 module _ (facts : (p : Position) → RunFacts (whole_at p) (sent_before p)) (law : (p : Position) → Causes (run_at p) (olds_at p) (happened_before p)) where
   pub reasons-over : (plan : Plan) (asked : List Asked) (t : Trace) → IsOfLanguage plan → IsLegal plan asked t → HaveReasons plan t

@@ -1,7 +1,5 @@
 -- the list of the stamps of deeds: rising, and complete
-use Rattle.std.proofs.Common.{◌≡◌, ℕ, ◌≤◌, zero, suc, Bool, true, false, List, [], ◌∷◌, refl, ◌∙◌, ap, subst, ◌⊎◌, inl, inr, arith, if◌then◌else◌}
-use Rattle.std.proofs.lemmas.Bool.{false≢true}
-use Rattle.serial_law.proofs.Names.{TimeParts, StampParts, ObjectId, Value, Mark, Put, Stretch, Settle, Floor, same_stamp, stamp_lt, RunLogs, Try, deed_stamps, log_of, log_stamps, marks_at, put_stamps, stamp_if, stamp_in, try_stamps, marks, same_stamp-is}
+use Rattle.serial_law.proofs.Names.{TimeParts, StampParts, ObjectId, Value, Mark, Put, Stretch, same_stamp, stamp_lt, RunLogs, Try, deed_stamps, log_of, log_stamps, marks_at, put_stamps, stamp_if, stamp_in, try_stamps, marks, same_stamp-is, ◌≡◌, ℕ, ◌≤◌, zero, suc, Bool, true, false, List, [], ◌∷◌, refl, ◌∙◌, ap, subst, ◌⊎◌, inl, inr, arith, if◌then◌else◌, false≢true}
 use Rattle.serial_law.proofs.LogLemmas.{le-cases, in-low, in-high, put-marks}
 use Rattle.serial_law.proofs.Premises.{put-at}
 use Rattle.serial_law.proofs.Puts.{PutAt}
@@ -39,8 +37,7 @@ unfolding stamp_in
 stamp-new s [] = inl refl
 stamp-new s (t ∷ ts) = choose-new (same_stamp s t) (stamp_lt s t) s t ts (stamp_in s ts) (same_stamp-is s t) (stamp-new s ts)
 
-choose-old : (b c : Bool) (s t : StampParts) (ts us : List StampParts) (x : StampParts) → InS (t ∷ ts) x → (InS ts x → InS us x) →
-    InS (if b then t ∷ ts else (if c then s ∷ t ∷ ts else t ∷ us)) x
+choose-old : (b c : Bool) (s t : StampParts) (ts us : List StampParts) (x : StampParts) → InS (t ∷ ts) x → (InS ts x → InS us x) → InS (if b then t ∷ ts else (if c then s ∷ t ∷ ts else t ∷ us)) x
 choose-old true c s t ts us x j h = j
 choose-old false true s t ts us x j h = inr j
 choose-old false false s t ts us x (inl e) h = inl e
@@ -59,8 +56,7 @@ choose-rising : (b c : Bool) (s t : StampParts) (ts : List StampParts) → same_
     Rising (if b then t ∷ ts else (if c then s ∷ t ∷ ts else t ∷ stamp_in s ts))
 choose-rising true c s t ts e f h k = h
 choose-rising false true s t ts e f h k = (above-all s t ts f h.0, h)
-choose-rising false false s t ts e f h k =
-    ((λ x j. elim (in-stamp s ts x j) [ inl p ↦ ap (λ z. stamp_lt t z) p ∙ stamp_lt-else s t e f | inr i ↦ h.0 x i ]), k)
+choose-rising false false s t ts e f h k = ((λ x j. elim (in-stamp s ts x j) [ inl p ↦ ap (λ z. stamp_lt t z) p ∙ stamp_lt-else s t e f | inr i ↦ h.0 x i ]), k)
 
 rising-in : (s : StampParts) (ts : List StampParts) → Rising ts → Rising (stamp_in s ts)
 unfolding stamp_in
@@ -95,9 +91,7 @@ rising-puts : (ok : StampParts → Bool) (m : List Mark) (ss : List StampParts) 
 unfolding put_stamps
 rising-puts ok [] ss h = h
 rising-puts ok (Put o x v ∷ m) ss h = rising-if (ok x.stamp) x.stamp (put_stamps ok m ss) (rising-puts ok m ss h)
-rising-puts ok (Stretch o x ∷ m) ss h = rising-puts ok m ss h
-rising-puts ok (Settle t c ∷ m) ss h = rising-puts ok m ss h
-rising-puts ok (Floor z ∷ m) ss h = rising-puts ok m ss h
+rising-puts ok (_ ∷ m) ss h = rising-puts ok m ss h
 
 rising-logs : (k : RunLogs) (ok : StampParts → Bool) (n : ℕ) (ss : List StampParts) → Rising ss → Rising (log_stamps k ok n ss)
 unfolding log_stamps
@@ -116,9 +110,7 @@ pass-puts : (ok : StampParts → Bool) (m : List Mark) (ss : List StampParts) �
 unfolding put_stamps
 pass-puts ok [] ss h = h
 pass-puts ok (Put o x v ∷ m) ss h = pass-if ok (ok x.stamp) x.stamp (put_stamps ok m ss) refl (pass-puts ok m ss h)
-pass-puts ok (Stretch o x ∷ m) ss h = pass-puts ok m ss h
-pass-puts ok (Settle t c ∷ m) ss h = pass-puts ok m ss h
-pass-puts ok (Floor z ∷ m) ss h = pass-puts ok m ss h
+pass-puts ok (_ ∷ m) ss h = pass-puts ok m ss h
 
 pass-logs : (k : RunLogs) (ok : StampParts → Bool) (n : ℕ) (ss : List StampParts) → All_pass ok ss → All_pass ok (log_stamps k ok n ss)
 unfolding log_stamps
@@ -137,12 +129,9 @@ keep-puts : (ok : StampParts → Bool) (m : List Mark) (ss : List StampParts) (x
 unfolding put_stamps
 keep-puts ok [] ss x j = j
 keep-puts ok (Put o y v ∷ m) ss x j = old-if (ok y.stamp) y.stamp (put_stamps ok m ss) x (keep-puts ok m ss x j)
-keep-puts ok (Stretch o y ∷ m) ss x j = keep-puts ok m ss x j
-keep-puts ok (Settle t c ∷ m) ss x j = keep-puts ok m ss x j
-keep-puts ok (Floor z ∷ m) ss x j = keep-puts ok m ss x j
+keep-puts ok (_ ∷ m) ss x j = keep-puts ok m ss x j
 
-here-puts : (ok : StampParts → Bool) (m : List Mark) (ss : List StampParts) (o : ObjectId) (x : TimeParts) (v : Value) → PutAt o x v m → ok x.stamp ≡ true →
-    InS (put_stamps ok m ss) x.stamp
+here-puts : (ok : StampParts → Bool) (m : List Mark) (ss : List StampParts) (o : ObjectId) (x : TimeParts) (v : Value) → PutAt o x v m → ok x.stamp ≡ true → InS (put_stamps ok m ss) x.stamp
 unfolding put_stamps
 here-puts ok [] ss o x v h e = absurd h
 here-puts ok (Put a y w ∷ m) ss o x v (inl h) e =
@@ -150,8 +139,7 @@ here-puts ok (Put a y w ∷ m) ss o x v (inl h) e =
     (new-if (ok y.stamp) y.stamp (put_stamps ok m ss) (ap (λ z. ok z.stamp) h.1 ∙ e))
 here-puts ok (Put a y w ∷ m) ss o x v (inr h) e = old-if (ok y.stamp) y.stamp (put_stamps ok m ss) x.stamp (here-puts ok m ss o x v h e)
 here-puts ok (Stretch a y ∷ m) ss o x v h e = here-puts ok m ss o x v h e
-here-puts ok (Settle t c ∷ m) ss o x v h e = here-puts ok m ss o x v h e
-here-puts ok (Floor z ∷ m) ss o x v h e = here-puts ok m ss o x v h e
+here-puts ok (_ ∷ m) ss o x v h e = here-puts ok m ss o x v h e
 
 here-logs : (k : RunLogs) (ok : StampParts → Bool) (n r : ℕ) (ss : List StampParts) (o : ObjectId) (x : TimeParts) (v : Value) → 1 ≤ r → r ≤ n →
     PutAt o x v (marks (log_of k r)) → ok x.stamp ≡ true → InS (log_stamps k ok n ss) x.stamp
@@ -164,8 +152,7 @@ here-logs k ok (suc n) r ss o x v h j p e =
     ]
 
 -- the stamp of each put of the run's logs is listed, where it passes
-pub put-listed : (k : RunLogs) (ok : StampParts → Bool) (o : ObjectId) (x : TimeParts) (v : Value) → PutAt o x v (marks_at k o) → ok x.stamp ≡ true →
-    InS (deed_stamps k ok) x.stamp
+pub put-listed : (k : RunLogs) (ok : StampParts → Bool) (o : ObjectId) (x : TimeParts) (v : Value) → PutAt o x v (marks_at k o) → ok x.stamp ≡ true → InS (deed_stamps k ok) x.stamp
 put-listed k ok o x v h e =
     let w = put-at k o x v h in
     here-logs k ok k.repositories o.repository (try_stamps ok k.tries) o x v (in-low k o.repository w.0) (in-high k o.repository w.0)

@@ -1,9 +1,6 @@
 -- What of a committed attempt, and of all that is committed, the logs as they stand tell.
-use Rattle.std.proofs.Common.{◌≡◌, ℕ, zero, suc, ◌≤◌, ◌+◌, Bool, true, false, List, [], ◌∷◌, ◌++◌, refl, sym, ◌∙◌, ap, subst, Option, Some, None, ◌⊎◌, inl, inr, ◌&&◌, arith, if◌then◌else◌}
-use Rattle.std.proofs.lemmas.Bool.{true≢false}
-use Rattle.serial_law.proofs.Names.{Every, Has, repository, StampParts, TimeParts, NodeId, ObjectId, Value, value_at, Effect, Post, Mark, Put, Stretch, Settle, Floor, Seen, pick, scan, settle_of, version_count, same_object, value_of, same_object-is, Gone, Same, marks, RunLogs, Try, Version, committed, finals, in_run, log_of, marks_at, written, last_put, last_values, marks_to, RunFacts, KeepsPuts, WasGivenUp, whole_run, wrote}
+use Rattle.serial_law.proofs.Names.{Every, Has, repository, StampParts, TimeParts, NodeId, ObjectId, Value, value_at, Effect, Post, Mark, Put, Seen, pick, scan, settle_of, version_count, same_object, value_of, same_object-is, Gone, Same, marks, RunLogs, Try, Version, committed, finals, in_run, log_of, marks_at, written, last_put, last_values, marks_to, RunFacts, KeepsPuts, WasGivenUp, whole_run, wrote, ◌≡◌, ℕ, zero, suc, ◌≤◌, ◌+◌, Bool, true, false, List, [], ◌∷◌, ◌++◌, refl, sym, ◌∙◌, ap, subst, Option, Some, None, ◌⊎◌, inl, inr, ◌&&◌, arith, if◌then◌else◌, true≢false, all_marks}
 use Rattle.effect_form.specs.declared.effects.Effect.TheVariants as effect
-use Rattle.trace_report.specs.Finals.{all_marks}
 use Rattle.trace_report.proofs.FinalLemmas.{last-value}
 use Rattle.serial_law.proofs.Before.{finals-hold}
 use Rattle.serial_law.proofs.Given.{In, in-to, to-in}
@@ -38,11 +35,8 @@ module _ (o : ObjectId) where
   count-lacking : (m : List Mark) → Lacks o m → version_count o m ≡ 0
   unfolding version_count
   count-lacking [] l = refl
-  count-lacking (Put a x v ∷ m) l =
-      ap (λ b. if b then version_count o m + 1 else version_count o m) (other-object a x v m l (same_object a o) refl) ∙ count-lacking m (λ y w h. l y w (inr h))
-  count-lacking (Stretch a x ∷ m) l = count-lacking m (λ y w h. l y w (inr h))
-  count-lacking (Settle s c ∷ m) l = count-lacking m (λ y w h. l y w (inr h))
-  count-lacking (Floor z ∷ m) l = count-lacking m (λ y w h. l y w (inr h))
+  count-lacking (Put a x v ∷ m) l = ap (λ b. if b then version_count o m + 1 else version_count o m) (other-object a x v m l (same_object a o) refl) ∙ count-lacking m (λ y w h. l y w (inr h))
+  count-lacking (_ ∷ m) l = count-lacking m (λ y w h. l y w (inr h))
 
   module _ (ok : TimeParts → Bool) where
     scan-lacking : (m more : List Mark) → Lacks o m → scan ok o (m ++ more) ≡ scan ok o more
@@ -51,9 +45,7 @@ module _ (o : ObjectId) where
     scan-lacking (Put a x v ∷ m) more l =
         ap (λ b. pick (b && ok x) (record { place = version_count o (m ++ more); start = x; value = v }) (scan ok o (m ++ more))) (other-object a x v m l (same_object a o) refl)
         ∙ scan-lacking m more (λ y w h. l y w (inr h))
-    scan-lacking (Stretch a x ∷ m) more l = scan-lacking m more (λ y w h. l y w (inr h))
-    scan-lacking (Settle s c ∷ m) more l = scan-lacking m more (λ y w h. l y w (inr h))
-    scan-lacking (Floor z ∷ m) more l = scan-lacking m more (λ y w h. l y w (inr h))
+    scan-lacking (_ ∷ m) more l = scan-lacking m more (λ y w h. l y w (inr h))
 
     scan-none : (m : List Mark) → Lacks o m → scan ok o m ≡ None
     unfolding scan pick
@@ -61,25 +53,19 @@ module _ (o : ObjectId) where
     scan-none (Put a x v ∷ m) l =
         ap (λ b. pick (b && ok x) (record { place = version_count o m; start = x; value = v }) (scan ok o m)) (other-object a x v m l (same_object a o) refl)
         ∙ scan-none m (λ y w h. l y w (inr h))
-    scan-none (Stretch a x ∷ m) l = scan-none m (λ y w h. l y w (inr h))
-    scan-none (Settle s c ∷ m) l = scan-none m (λ y w h. l y w (inr h))
-    scan-none (Floor z ∷ m) l = scan-none m (λ y w h. l y w (inr h))
+    scan-none (_ ∷ m) l = scan-none m (λ y w h. l y w (inr h))
 
     count-over : (m more : List Mark) → Lacks o more → version_count o (m ++ more) ≡ version_count o m
     unfolding version_count
     count-over [] more l = count-lacking more l
     count-over (Put a x v ∷ m) more l = ap (λ n. if same_object a o then n + 1 else n) (count-over m more l)
-    count-over (Stretch a x ∷ m) more l = count-over m more l
-    count-over (Settle s c ∷ m) more l = count-over m more l
-    count-over (Floor z ∷ m) more l = count-over m more l
+    count-over (_ ∷ m) more l = count-over m more l
 
     scan-over : (m more : List Mark) → Lacks o more → scan ok o (m ++ more) ≡ scan ok o m
     unfolding scan
     scan-over [] more l = scan-none more l
     scan-over (Put a x v ∷ m) more l = λ i. pick (same_object a o && ok x) (record { place = count-over m more l i; start = x; value = v }) (scan-over m more l i)
-    scan-over (Stretch a x ∷ m) more l = scan-over m more l
-    scan-over (Settle s c ∷ m) more l = scan-over m more l
-    scan-over (Floor z ∷ m) more l = scan-over m more l
+    scan-over (_ ∷ m) more l = scan-over m more l
 
 -- ---- a run as its logs stand, with the facts of all versions that ever stood
 
@@ -122,8 +108,7 @@ module _ (olds : NodeId → List (List Effect)) (k : RunLogs) (ever : List Post)
         by r low high here own at (inl h) = inl (has-of (written k T.stamp) v (to-in k T.stamp k.repositories r v.object v.start v.value low high (put-marks (log_of k r) v.object v.start v.value h) own))
         by r low high here own at (inr (e, floor, below, inl dead)) =
             absurd (true≢false (sym c ∙ ap (committed all) (sym own) ∙ sure-no all ever f r v.start.stamp here (settle-whole (olds (repository r)) (log_of k r) v.start.stamp ∙ dead)))
-        by r low high here own at (inr (e, floor, below, inr later)) =
-            inr (subst (λ m. WasGivenUp m v) (ap (λ q. marks (log_of k q)) (sym at) ∙ marks-in k v.object (ap (in_run k) at ∙ here)) (e, floor, below, later))
+        by r low high here own at (inr (e, floor, below, inr later)) = inr (subst (λ m. WasGivenUp m v) (ap (λ q. marks (log_of k q)) (sym at) ∙ marks-in k v.object (ap (in_run k) at ∙ here)) (e, floor, below, later))
 
     pub puts-stand : KeepsPuts k
     puts-stand T a c =

@@ -1,9 +1,7 @@
 -- answers that agree with a map give what the script does alone
-use Rattle.std.proofs.Common.{◌≡◌, Bool, List, [], ◌∷◌, ◌++◌, refl, sym, ◌∙◌, ap, subst, Option, Some, None}
-use Rattle.serial_law.proofs.Names.{StampParts, ObjectId, Value, Mark, left_after, Answer, Got, Over, Request, Stored, ToRead, ToWrite, asks, Ends, Reads, Says, Tree, Writes, after, left_by, talked, talked_alone, Objects, value_at, Ending, talked-stop}
+use Rattle.serial_law.proofs.Names.{StampParts, ObjectId, Value, Mark, left_after, Answer, Got, Over, Request, Stored, ToRead, ToWrite, asks, Ends, Reads, Says, Tree, Writes, after, left_by, talked, talked_alone, Objects, value_at, Ending, talked-stop, ◌≡◌, Bool, List, [], ◌∷◌, ◌++◌, refl, sym, ◌∙◌, ap, subst, Option, Some, None, AnswersOf, IsFrontOf, Talked}
 use Rattle.serial_law.proofs.Own.{Kinds, Kind_fits, assoc}
 use Rattle.serial_law.proofs.Lone.{Lone, Holds_below, value}
-use Rattle.serial_model.specs.Questions.{AnswersOf, IsFrontOf, Talked}
 use Rattle.value_form.specs.declared.transcripts.Line.TheVariants as line
 use Rattle.std.specs.FinMap as finite
 use Rattle.serial_model.proofs.AgreeLemmas.{agrees-whole}
@@ -25,13 +23,12 @@ alike-front : (t : Tree) (ans : List Answer) (m : Objects) → AnswersOf t ans m
 alike-front (Ends e) [] m h = ([], refl)
 alike-front (Ends e) (a ∷ ans) m h = absurd h
 alike-front (Says v t) ans m h = let r = alike-front t ans m h in (r.0, ap (λ xs. line.Print v ∷ xs) r.1)
-alike-front (Reads o k) [] m h = (_, refl)
 alike-front (Reads o k) (Got v ∷ ans) m h =
     let P : Value → Type 0 = λ w. IsFrontOf (talked (Reads o k) (Got v ∷ ans)).lines (line.Read o w ∷ (talked_alone (k w) m).lines) in
     let r = alike-front (k v) ans m h.1 in
     subst P h.0 (r.0, ap (λ xs. line.Read o v ∷ xs) r.1)
 alike-front (Reads o k) (Stored ∷ ans) m h = absurd h
-alike-front (Writes o v t) [] m h = (_, refl)
+alike-front _ [] m h = (_, refl)
 alike-front (Writes o v t) (Stored ∷ ans) m h = let r = alike-front t ans (finite.insert m o v) h in (r.0, ap (λ xs. line.Wrote o v ∷ xs) r.1)
 alike-front (Writes o v t) (Got w ∷ ans) m h = absurd h
 
@@ -45,41 +42,31 @@ alike t ans m h = record {
 agrees : (t : Tree) (ans : List Answer) (m : Objects) →
     ((pre post : List Answer) (a : Answer) → ans ≡ pre ++ (a ∷ post) → Right (asks (after t pre)) a (left_after t pre m)) →
     AnswersOf t ans m
-agrees (Ends e) [] m h = tt
 agrees (Ends e) (a ∷ ans) m h = h [] ans a refl
 agrees (Says v t) ans m h = agrees t ans m h
-agrees (Reads o k) [] m h = tt
-agrees (Reads o k) (Got v ∷ ans) m h =
-    (h [] ans (Got v) refl, agrees (k v) ans m (λ pre post a e. h (Got v ∷ pre) post a (ap (λ xs. Got v ∷ xs) e)))
+agrees (Reads o k) (Got v ∷ ans) m h = (h [] ans (Got v) refl, agrees (k v) ans m (λ pre post a e. h (Got v ∷ pre) post a (ap (λ xs. Got v ∷ xs) e)))
 agrees (Reads o k) (Stored ∷ ans) m h = h [] ans Stored refl
-agrees (Writes o v t) [] m h = tt
-agrees (Writes o v t) (Stored ∷ ans) m h =
-    agrees t ans (finite.insert m o v) (λ pre post a e. h (Stored ∷ pre) post a (ap (λ xs. Stored ∷ xs) e))
+agrees _ [] m h = tt
+agrees (Writes o v t) (Stored ∷ ans) m h = agrees t ans (finite.insert m o v) (λ pre post a e. h (Stored ∷ pre) post a (ap (λ xs. Stored ∷ xs) e))
 agrees (Writes o v t) (Got w ∷ ans) m h = h [] ans (Got w) refl
 
-kinds-of : (t : Tree) (ans : List Answer) →
-    ((pre post : List Answer) (a : Answer) → ans ≡ pre ++ (a ∷ post) → Kind_fits (asks (after t pre)) a) → Kinds t ans
-kinds-of (Ends e) [] h = tt
+kinds-of : (t : Tree) (ans : List Answer) → ((pre post : List Answer) (a : Answer) → ans ≡ pre ++ (a ∷ post) → Kind_fits (asks (after t pre)) a) → Kinds t ans
 kinds-of (Ends e) (a ∷ ans) h = h [] ans a refl
 kinds-of (Says v t) ans h = kinds-of t ans h
-kinds-of (Reads o k) [] h = tt
 kinds-of (Reads o k) (Got v ∷ ans) h = kinds-of (k v) ans (λ pre post a e. h (Got v ∷ pre) post a (ap (λ xs. Got v ∷ xs) e))
 kinds-of (Reads o k) (Stored ∷ ans) h = h [] ans Stored refl
-kinds-of (Writes o v t) [] h = tt
+kinds-of _ [] h = tt
 kinds-of (Writes o v t) (Stored ∷ ans) h = kinds-of t ans (λ pre post a e. h (Stored ∷ pre) post a (ap (λ xs. Stored ∷ xs) e))
 kinds-of (Writes o v t) (Got w ∷ ans) h = h [] ans (Got w) refl
 
 kind-at : (t : Tree) (ans : List Answer) (s : StampParts) (marks : ObjectId → List Mark) (sure : StampParts → Bool) → Lone t ans s marks sure →
     (pre post : List Answer) (a : Answer) → ans ≡ pre ++ (a ∷ post) → Kind_fits (asks (after t pre)) a
-kind-at t ans s marks sure f pre post (Got v) e =
-    let g = f.got pre post v e in subst (λ r. Kind_fits r (Got v)) (sym g.1) tt
-kind-at t ans s marks sure f pre post Stored e =
-    let g = f.wrote pre post e in subst (λ r. Kind_fits r Stored) (sym g.2) tt
+kind-at t ans s marks sure f pre post (Got v) e = let g = f.got pre post v e in subst (λ r. Kind_fits r (Got v)) (sym g.1) tt
+kind-at t ans s marks sure f pre post Stored e = let g = f.wrote pre post e in subst (λ r. Kind_fits r Stored) (sym g.2) tt
 
 pub kinds-front : (t : Tree) (ans : List Answer) (s : StampParts) (marks : ObjectId → List Mark) (sure : StampParts → Bool) → Lone t ans s marks sure →
     (pre y : List Answer) → ans ≡ pre ++ y → Kinds t pre
-kinds-front t ans s marks sure f pre y e =
-    kinds-of t pre (λ p x a k. kind-at t ans s marks sure f p (x ++ y) a (e ∙ ap (λ xs. xs ++ y) k ∙ assoc p (a ∷ x) y))
+kinds-front t ans s marks sure f pre y e = kinds-of t pre (λ p x a k. kind-at t ans s marks sure f p (x ++ y) a (e ∙ ap (λ xs. xs ++ y) k ∙ assoc p (a ∷ x) y))
 
 pub kinds-all : (t : Tree) (ans : List Answer) (s : StampParts) (marks : ObjectId → List Mark) (sure : StampParts → Bool) → Lone t ans s marks sure → Kinds t ans
 kinds-all t ans s marks sure f = kinds-of t ans (λ p x a k. kind-at t ans s marks sure f p x a k)
@@ -91,8 +78,7 @@ right-at t ans s marks sure f m before pre post (Got v) e =
     let g = f.got pre post v e in
     subst (λ r. Right r (Got v) (left_after t pre m)) (sym g.1)
     (value t ans s marks sure f m before pre post v g.0 (kinds-front t ans s marks sure f pre (Got v ∷ post) e) e g.1)
-right-at t ans s marks sure f m before pre post Stored e =
-    let g = f.wrote pre post e in subst (λ r. Right r Stored (left_after t pre m)) (sym g.2) tt
+right-at t ans s marks sure f m before pre post Stored e = let g = f.wrote pre post e in subst (λ r. Right r Stored (left_after t pre m)) (sym g.2) tt
 
 -- for every try, committed or not
 pub alone : (t : Tree) (ans : List Answer) (s : StampParts) (marks : ObjectId → List Mark) (sure : StampParts → Bool) → Lone t ans s marks sure →

@@ -1,14 +1,8 @@
 -- Stamps in their order, and times of one stamp.
-use Rattle.std.proofs.Common.{◌≡◌, ◌≢◌, ℕ, ◌≤◌, ◌<◌, true, false, refl, sym, ◌∙◌, ap, subst}
-use Rattle.std.proofs.lemmas.Bool.{false≢true, true≢false, lt-ltb, ltb-true, ltb-false}
-use Rattle.std.specs.Ordering.{is_lt, is_eq, ordering_reverse}
 use Rattle.std.specs.declared.cmp.Ordering.{Ordering}
 use Rattle.std.specs.declared.cmp.Ordering.TheVariants.{Less, Equal, Greater}
 use Rattle.std.specs.Cmp.{tied_itself}
-use Rattle.serial_law.proofs.Names.{StampParts, TimeParts, same_stamp, stamp_lt, lt, same_stamp-of, lt-stamps}
-use Rattle.pseudo_time.specs.StampParts.{stamp_cmp}
-use Rattle.pseudo_time.proofs.OrderLemmas.{is_less, stamp_cmp-total, lt-split, lt-own, lt-steps, between}
-use Rattle.object_history.proofs.BoolLemmas.{not-false, not-true}
+use Rattle.serial_law.proofs.Names.{StampParts, TimeParts, same_stamp, stamp_lt, lt, same_stamp-of, lt-stamps, ◌≡◌, ◌≢◌, ℕ, ◌≤◌, ◌<◌, true, false, refl, sym, ◌∙◌, ap, subst, false≢true, true≢false, lt-ltb, ltb-true, ltb-false, is_lt, is_eq, ordering_reverse, stamp_cmp, is_less, stamp_cmp-total, lt-split, lt-own, lt-steps, between, not-false, not-true}
 
 abbrev pub time : StampParts → ℕ → TimeParts
 time s n = record { stamp = s; step = n }

@@ -1,15 +1,10 @@
 -- The laws of legal traces, from the facts of their logs and messages.
-use Rattle.std.proofs.Common.{◌≡◌, inl, inr, ℕ, Bool, ◌≤◌, true, List, [], ◌∷◌, ◌++◌, map, reverse, refl, ◌∙◌, subst, is_some, nat_le}
-use Rattle.std.proofs.lemmas.Bool.{le-leb}
-use Rattle.serial_law.proofs.Names.{Every, Has, StampParts, TimeParts, Decision, NodeId, every-has, has-either, has-left, has-right, and-both, ObjectId, Value, Effect, Message, Post, WasSent, each_below, book, tries, broker, repository, WriteSent, decide-home, decided-once, MayTry, IsPlayed, IsProven, distinct, played, proven, WriteStep, Entry, WasAnswered, WasRefused, Base, opened_log, sent_by, start_world, walk, Meets, base_of, fates_of, alike, Reason, meets-front, post-answered, write-sent, read-sent, node_facts, AreEarlier, Earlier, replaced, sent_earlier, Running, Retiring, logs_at, broker-post, older-facts, RunFacts, AnsweredBefore, InSome, Position, RefusedBefore, TickedBefore, happened_before, log_at, olds_at, run_at, sent_before, whole_at, world_at, Causes, IsSpent, Serial, KeepsPuts, last_values, value_at, committed, finals, each-has}
+use Rattle.serial_law.proofs.Names.{Every, Has, StampParts, TimeParts, Decision, NodeId, every-has, has-either, has-left, has-right, and-both, ObjectId, Value, Effect, Message, Post, WasSent, each_below, book, tries, broker, repository, WriteSent, decide-home, decided-once, MayTry, IsPlayed, IsProven, distinct, played, proven, WriteStep, Entry, WasAnswered, WasRefused, Base, opened_log, sent_by, start_world, walk, Meets, base_of, fates_of, alike, Reason, meets-front, post-answered, write-sent, read-sent, node_facts, AreEarlier, Earlier, replaced, sent_earlier, Running, Retiring, logs_at, broker-post, older-facts, RunFacts, AnsweredBefore, InSome, Position, RefusedBefore, TickedBefore, happened_before, log_at, olds_at, run_at, sent_before, whole_at, world_at, Causes, IsSpent, Serial, KeepsPuts, last_values, value_at, committed, finals, each-has, ◌≡◌, inl, inr, ℕ, Bool, ◌≤◌, true, List, [], ◌∷◌, ◌++◌, map, reverse, refl, ◌∙◌, subst, is_some, nat_le, le-leb, every-left, IsDecidedAt, learned-elsewhere}
 use Rattle.pseudo_time.specs.declared.decisions.Decision.TheVariants as decision
-use Rattle.pseudo_time.proofs.ListLemmas.{every-left}
 use Rattle.effect_form.specs.declared.effects.Effect.TheVariants as effect
 use Rattle.message_form.specs.declared.messages.Message.TheVariants as message
 use Rattle.effect_form.specs.declared.outcomes.Outcome.TheVariants as outcome
 use Rattle.repository_laws.specs.Facts as repositories
-use Rattle.repository_laws.specs.Facts.{IsDecidedAt}
-use Rattle.repository_laws.proofs.Logs.{learned-elsewhere}
 use Rattle.broker_laws.specs.Fits as brokers
 use Rattle.broker_laws.specs.Posts.{Distinct, IsWithinLimits, PostHolds}
 use Rattle.broker_laws.proofs.Limits.{within}

@@ -1,13 +1,8 @@
 -- The versions that ever stood in the logs of a repository: which of them stand still, and which one is the last.
-use Rattle.std.proofs.Common.{◌≡◌, ℕ, Bool, true, false, List, ◌∷◌, ◌++◌, map, reverse, sym, subst, ◌⊎◌, inl, inr, Some}
-use Rattle.serial_law.proofs.Names.{Every, Has, repository, StampParts, TimeParts, NodeId, every-has, ObjectId, Value, Effect, Post, Mark, scan, settle_of, Gone, Same, all_stood, WriteSent, put-logged, marks, Tree, Base, node_facts, OlderFacts, each-has, some-history, whole_log}
+use Rattle.serial_law.proofs.Names.{Every, Has, repository, StampParts, TimeParts, NodeId, every-has, ObjectId, Value, Effect, Post, Mark, scan, settle_of, Gone, Same, all_stood, WriteSent, put-logged, marks, Tree, Base, node_facts, OlderFacts, each-has, some-history, whole_log, ◌≡◌, ℕ, Bool, true, false, List, ◌∷◌, ◌++◌, map, reverse, sym, subst, ◌⊎◌, inl, inr, Some, chain-given, last-stays, some-given, OldOk, all-of, chain-of}
 use Rattle.effect_form.specs.declared.effects.Effect.TheVariants as effect
 use Rattle.object_history.specs.declared.marks.Mark.TheVariants as mark
 use Rattle.object_retirement.specs.Chains as chains
-use Rattle.object_retirement.proofs.ChainLemmas.{chain-given, last-stays, some-given}
-use Rattle.world_facts.specs.Soft.{OldOk}
-use Rattle.world_facts.proofs.AnswerLemmas.{all-of}
-use Rattle.world_facts.proofs.OldChains.{chain-of}
 use Rattle.serial_law.proofs.LogLemmas.{put-marks}
 use Rattle.serial_law.proofs.Puts.{stands-put}
 use Rattle.serial_law.proofs.WholeLemmas.{marks-whole, put-once}

@@ -1,10 +1,8 @@
 -- A log with all versions that ever stood has the marks that its histories tell, and says of attempts what the log itself says.
-use Rattle.std.proofs.Common.{◌≡◌, ℕ, zero, suc, Bool, true, false, List, [], ◌∷◌, map, refl, ◌∙◌, ap, subst, ◌⊎◌, inl, inr, ◌||◌, if◌then◌else◌}
-use Rattle.serial_law.proofs.Names.{Has, repository, StampParts, NodeId, Effect, settle_of, all_stood, has_start, knows, marks, RunLogs, committed, has_commit, has_learned, in_run, log_of, some_of, whole_log, whole_run, with_puts}
-use Rattle.effect_form.specs.declared.effects.Effect.TheVariants.{Put, Stretch, Begin, Decide, Learn}
+use Rattle.serial_law.proofs.Names.{Has, repository, StampParts, NodeId, Effect, settle_of, all_stood, has_start, knows, marks, RunLogs, committed, has_commit, has_learned, in_run, log_of, some_of, whole_log, whole_run, with_puts, ◌≡◌, ℕ, zero, suc, Bool, true, false, List, [], ◌∷◌, map, refl, ◌∙◌, ap, subst, ◌⊎◌, inl, inr, ◌||◌, if◌then◌else◌, with_old}
+use Rattle.effect_form.specs.declared.effects.Effect.TheVariants.{Put, Stretch, Decide, Learn}
 use Rattle.effect_form.specs.declared.effects.Effect.TheVariants as effect
 use Rattle.object_history.specs.declared.marks.Mark.TheVariants as mark
-use Rattle.object_retirement.specs.Stood.{with_old}
 
 -- ---- marks
 
@@ -12,12 +10,8 @@ pub marks-with : (met l : List Effect) → marks (with_puts met l) ≡ with_old 
 unfolding with_puts with_old
 marks-with met [] = refl
 marks-with met (Put o x v ∷ l) =
-    choose (has_start o x (marks (with_puts met l)))
+    elim (has_start o x (marks (with_puts met l))) as (λ b. marks (if b then with_puts met l else Put o x v ∷ with_puts met l) ≡ (if b then marks (with_puts met l) else mark.Put o x v ∷ marks (with_puts met l))) [ true ↦ refl | false ↦ refl ]
     ∙ ap (λ z. if has_start o x z then z else mark.Put o x v ∷ z) (marks-with met l)
-  where
-    choose : (b : Bool) → marks (if b then with_puts met l else Put o x v ∷ with_puts met l) ≡ (if b then marks (with_puts met l) else mark.Put o x v ∷ marks (with_puts met l))
-    choose true = refl
-    choose false = refl
 marks-with met (Stretch o x ∷ l) = marks-with met l
 marks-with met (Decide s d ∷ l) = marks-with met l
 marks-with met (Learn s c ∷ l) = marks-with met l
@@ -52,11 +46,7 @@ IsPut _ = ⊥
 with-has : (met l : List Effect) (f : Effect) → Has f met → Has f (with_puts met l)
 unfolding with_puts
 with-has met [] f h = h
-with-has met (Put o x v ∷ l) f h = choose (has_start o x (marks (with_puts met l))) (with-has met l f h)
-  where
-    choose : (b : Bool) → Has f (with_puts met l) → Has f (if b then with_puts met l else Put o x v ∷ with_puts met l)
-    choose true k = k
-    choose false k = inr k
+with-has met (Put o x v ∷ l) f h = (elim (has_start o x (marks (with_puts met l))) as (λ b. Has f (with_puts met l) → Has f (if b then with_puts met l else Put o x v ∷ with_puts met l)) [ true ↦ λ k. k | false ↦ λ k. inr k ]) (with-has met l f h)
 with-has met (g ∷ l) f h = with-has met l f h
 
 pub whole-has : (olds : List (List Effect)) (log : List Effect) (f : Effect) → Has f log → Has f (whole_log olds log)
@@ -82,10 +72,7 @@ has-with met (g ∷ l) f h = deeper met l f g (has-with met l f h)
 pub has-whole : (olds : List (List Effect)) (log : List Effect) (f : Effect) → Has f (whole_log olds log) → Has f log ⊎ (((old : List Effect) × Has old olds × Has f old) × IsPut f)
 has-whole [] log f h = inl h
 has-whole (old ∷ olds) log f h = elim (has-with (whole_log olds log) old f h) [
-  | inl k ↦ elim (has-whole olds log f k) [
-    | inl j ↦ inl j
-    | inr j ↦ inr ((j.0.0, inr j.0.1, j.0.2), j.1)
-  ]
+  | inl k ↦ elim (has-whole olds log f k) [ inl j ↦ inl j | inr j ↦ inr ((j.0.0, inr j.0.1, j.0.2), j.1) ]
   | inr k ↦ inr ((old, inl refl, k.0), k.1)
 ]
 
@@ -102,11 +89,7 @@ module _ (s : StampParts) where
   knows-with : (met l : List Effect) → knows (with_puts met l) s ≡ knows met s
   unfolding with_puts knows
   knows-with met [] = refl
-  knows-with met (Put o x v ∷ l) = choose (has_start o x (marks (with_puts met l))) ∙ knows-with met l
-    where
-      choose : (b : Bool) → knows (if b then with_puts met l else Put o x v ∷ with_puts met l) s ≡ knows (with_puts met l) s
-      choose true = refl
-      choose false = refl
+  knows-with met (Put o x v ∷ l) = (elim (has_start o x (marks (with_puts met l))) as (λ b. knows (if b then with_puts met l else Put o x v ∷ with_puts met l) s ≡ knows (with_puts met l) s) [ true ↦ refl | false ↦ refl ]) ∙ knows-with met l
   knows-with met (g ∷ l) = knows-with met l
 
   commit-with : (met l : List Effect) → has_commit s (with_puts met l) ≡ has_commit s met

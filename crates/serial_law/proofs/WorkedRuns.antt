@@ -1,14 +1,10 @@
 -- Runs worked by hand: the definitions compute what they come to. Logs stand newest first.
-use Rattle.std.proofs.Common.{◌≡◌, ℕ, true, false, List, [], ◌∷◌, refl, ◌∙◌, ap, Some, ◌==◌, if◌then◌else◌}
-use Rattle.std.specs.Prelude.{pos}
-use Rattle.std.specs.Option.{unwrap_or}
-use Rattle.serial_law.proofs.Names.{same_object-of, StampParts, TimeParts, NodeKind, Repository, Broker, same_stamp, stamp_lt, lt, ObjectId, Line, Value, Nothing, Objects, object_cmp, value_at, Effect, Got, Stored, ToRead, Asks, Over, Tree, Ends, Says, Reads, Writes, talked, talked_alone, left_by, NodeId, Plan, book, knows, Try, RunLogs, some_of, has_commit, has_learned, committed, put_in, puts_of, puts_to, written, find, stamp_in, stamp_if, put_stamps, log_stamps, try_stamps, all_deeds, before, finals, lines_written}
+use Rattle.serial_law.proofs.Names.{same_object-of, StampParts, TimeParts, NodeKind, Repository, Broker, same_stamp, stamp_lt, lt, ObjectId, Line, Value, Nothing, Objects, object_cmp, value_at, Effect, Got, Stored, ToRead, Asks, Over, Tree, Ends, Says, Reads, Writes, talked, talked_alone, left_by, NodeId, Plan, book, knows, Try, RunLogs, some_of, has_commit, has_learned, committed, put_in, puts_of, puts_to, written, find, stamp_in, stamp_if, put_stamps, log_stamps, try_stamps, all_deeds, before, finals, lines_written, ◌≡◌, ℕ, true, false, List, [], ◌∷◌, refl, ◌∙◌, ap, Some, ◌==◌, if◌then◌else◌, pos, unwrap_or, Number}
 use Rattle.serial_law.proofs.Own.{value-insert}
 use Rattle.std.specs.FinMap as finite
 use Rattle.pseudo_time.specs.declared.decisions.Decision.TheVariants as decision
 use Rattle.value_form.specs.declared.endings.Ending.TheVariants as ending
 use Rattle.value_form.specs.declared.transcripts.Line.TheVariants as line
-use Rattle.value_form.specs.declared.values.Value.TheVariants.{Number}
 use Rattle.effect_form.specs.declared.effects.Effect.TheVariants as effect
 use Rattle.effect_form.specs.declared.outcomes.Outcome.TheVariants as outcome
 use Rattle.serial_law.proofs.Attempts.{booked_tries}
@@ -174,8 +170,7 @@ elsewhere_home =
     effect.Begin (stamp 1 1 1) 5 ∷ []
 
 abbrev pub elsewhere_other : List Effect
-elsewhere_other =
-    effect.Stretch (object 2 1) (time (stamp 2 1 1) 1) ∷ effect.Learn (stamp 1 1 1) true ∷ effect.Put (object 2 1) (time (stamp 1 1 1) 1) (int 4) ∷ []
+elsewhere_other = effect.Stretch (object 2 1) (time (stamp 2 1 1) 1) ∷ effect.Learn (stamp 1 1 1) true ∷ effect.Put (object 2 1) (time (stamp 1 1 1) 1) (int 4) ∷ []
 
 abbrev pub elsewhere_broker : List Effect
 elsewhere_broker =
@@ -215,8 +210,7 @@ withdrawn_home =
     effect.Begin (stamp 1 1 1) 5 ∷ []
 
 abbrev pub withdrawn_other : List Effect
-withdrawn_other =
-    effect.Stretch (object 2 1) (time (stamp 2 1 1) 1) ∷ effect.Learn (stamp 1 1 1) false ∷ effect.Put (object 2 1) (time (stamp 1 1 1) 1) (int 7) ∷ []
+withdrawn_other = effect.Stretch (object 2 1) (time (stamp 2 1 1) 1) ∷ effect.Learn (stamp 1 1 1) false ∷ effect.Put (object 2 1) (time (stamp 1 1 1) 1) (int 7) ∷ []
 
 abbrev pub withdrawn_broker : List Effect
 withdrawn_broker =

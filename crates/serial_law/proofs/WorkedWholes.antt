@@ -1,14 +1,10 @@
 -- Three acts, a retirement, and a run after it, worked by hand: the definitions compute what they come to. Logs stand newest first.
-use Rattle.std.proofs.Common.{◌≡◌, ℕ, List, [], ◌∷◌, refl, sym, ◌∙◌, ap, Some, inl, inr, ◌==◌, if◌then◌else◌}
 use Rattle.std.specs.FinMap as finite
-use Rattle.serial_law.proofs.Names.{same_stamp, stamp_lt, lt, NodeId, NodeKind, Repository, Broker, Objects, value_at, Effect, pick, scan, settle_of, version_count, same_object, value_of, has_start, knows, Got, Stored, Tree, Ends, Reads, Writes, talked, talked_alone, book, Try, RunLogs, Version, has_commit, committed, put_in, puts_of, puts_to, find, stamp_in, stamp_if, put_stamps, log_stamps, try_stamps, all_deeds, before, finals, lines_written, marks_at, last_put, PutsStand, whole_log, whole_run, with_puts, wrote}
-use Rattle.pseudo_time.specs.Order.{same_time}
+use Rattle.serial_law.proofs.Names.{same_stamp, stamp_lt, lt, NodeId, NodeKind, Repository, Broker, Objects, value_at, Effect, pick, scan, settle_of, version_count, same_object, value_of, has_start, knows, Got, Stored, Tree, Ends, Reads, Writes, talked, talked_alone, book, Try, RunLogs, Version, has_commit, committed, put_in, puts_of, puts_to, find, stamp_in, stamp_if, put_stamps, log_stamps, try_stamps, all_deeds, before, finals, lines_written, marks_at, last_put, PutsStand, whole_log, whole_run, with_puts, wrote, ◌≡◌, ℕ, List, [], ◌∷◌, refl, sym, ◌∙◌, ap, Some, inl, inr, ◌==◌, if◌then◌else◌, same_time, floor_of, forwarded}
 use Rattle.pseudo_time.specs.declared.decisions.Decision.TheVariants as decision
 use Rattle.value_form.specs.declared.endings.Ending.TheVariants as ending
 use Rattle.effect_form.specs.declared.effects.Effect.TheVariants as effect
 use Rattle.effect_form.specs.declared.outcomes.Outcome.TheVariants as outcome
-use Rattle.object_history.specs.History.{floor_of}
-use Rattle.object_retirement.specs.Forward.{forwarded}
 use Rattle.value_form.specs.declared.transcripts.Line.TheVariants as line
 use Rattle.serial_law.proofs.Own.{value-insert}
 use Rattle.serial_law.proofs.Attempts.{booked_tries}

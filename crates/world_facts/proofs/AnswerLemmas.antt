@@ -1,24 +1,16 @@
 -- Whatever a node sent, its log, or an older one, keeps.
-use Rattle.std.proofs.Common.{◌≡◌, ℕ, ◌≤◌, ◌+◌, length, true, List, [], ◌∷◌, ◌++◌, map, reverse, sym, ◌∙◌, ap, subst, Some, ◌⊎◌, inl, inr, arith}
-use Rattle.std.proofs.lemmas.Bool.{true≢false}
-use Rattle.world_facts.proofs.Names.{Every, Has, lt, TimeParts, Decision, NodeId, NodeKind, Repository, Broker, every-has, ObjectId, Value, Effect, Message, Post, floor_of, Gone, is_commit, marks, Tree, book, tries, repository, Base, StandsOrGone, ViewedOrBelow, kind_post, node_facts, node_turns, OlderFacts, SomeOf, Lineage, OldOk}
-use Rattle.pseudo_time.specs.Nodes.{broker}
+use Rattle.world_facts.proofs.Names.{Every, Has, lt, TimeParts, Decision, NodeId, NodeKind, Repository, Broker, every-has, ObjectId, Value, Effect, Message, Post, floor_of, Gone, is_commit, marks, Tree, book, tries, repository, Base, StandsOrGone, ViewedOrBelow, kind_post, node_facts, node_turns, OlderFacts, SomeOf, Lineage, OldOk, ◌≡◌, ℕ, ◌≤◌, ◌+◌, length, true, List, [], ◌∷◌, ◌++◌, map, reverse, sym, ◌∙◌, ap, subst, Some, ◌⊎◌, inl, inr, arith, true≢false, broker, WasSent, Firm, IsOnFloor, Viewed, value_of, WriteSent, put-logged, Keeps, SeesAbove, SeesOverAll, SeesStill}
 use Rattle.effect_form.specs.declared.effects.Effect.TheVariants as effect
 use Rattle.message_form.specs.declared.messages.Message.TheVariants as message
-use Rattle.message_form.specs.Posts.{WasSent}
 use Rattle.object_history.specs.declared.marks.Mark as history
 use Rattle.object_history.specs.declared.marks.Mark.TheVariants as mark
-use Rattle.object_history.specs.Views.{Firm, IsOnFloor, Viewed, value_of}
 use Rattle.object_history.proofs.ViewLemmas.{sees-views}
 use Rattle.object_retirement.specs.Chains as chains
 use Rattle.object_retirement.specs.Stood.{all_stood}
 use Rattle.object_retirement.proofs.StoodLemmas.{all-stood}
 use Rattle.object_retirement.proofs.ChainLemmas.{Stays, chain-floor, chain-given, chain-view, one-side, some-given, stays}
-use Rattle.repository_laws.specs.Facts.{WriteSent}
-use Rattle.repository_laws.proofs.Logs.{put-logged}
 use Rattle.script_meaning.specs.Meaning.{ToWrite}
 use Rattle.broker_laws.proofs.Found.{one-request}
-use Rattle.world_facts.specs.Acknowledged.{Keeps, SeesAbove, SeesOverAll, SeesStill}
 use Rattle.world_facts.proofs.Growths.{each-has}
 use Rattle.world_facts.proofs.Keeps.{decided-still}
 use Rattle.world_facts.proofs.NodeLaws.{node-laws}
@@ -47,8 +39,7 @@ module _ (script : List ℕ → Tree) (b : Base) (logs : NodeId → List Effect)
   asked : (r : ℕ) (o : ObjectId) (x : TimeParts) (v : Value) → WriteSent ever r x o v → 1 ≤ x.step
   asked r o x v w =
       let p = broker-post x.stamp.broker (before (broker x.stamp.broker)) (last (broker x.stamp.broker)) (repository r) (message.Write x o v) (f.lineage (broker x.stamp.broker)) (every-has _ ever _ f.sent_ok w.0) in
-      let step : x.step ≡ length p.2.2.0 + 1 = p.2.2.3 in
-      omega (arith, step)
+      omega (arith, p.2.2.3)
 
   rests : (r : ℕ) (l : List Effect) → OldOk (node_facts script) (record { ever = ever; logs = last; ticks = f.ticks }) (repository r) l →
       (o : ObjectId) (x : TimeParts) (v : Value) → Has (effect.Put o x v) l → WriteSent ever r x o v
@@ -71,8 +62,7 @@ module _ (script : List ℕ → Tree) (b : Base) (logs : NodeId → List Effect)
       let me : ℕ = x.stamp.broker in
       let p = broker-post me (before (broker me)) (last (broker me)) (repository r) (message.Write x o v) (f.lineage (broker me)) (every-has _ ever _ f.sent_ok h.0) in
       let q = broker-post me (before (broker me)) (last (broker me)) (repository r) (message.Write x o w) (f.lineage (broker me)) (every-has _ ever _ f.sent_ok k.0) in
-      let same : ToWrite o v ≡ ToWrite o w = one-request script me (tries (book (last (broker me)))) x (ToWrite o v) (ToWrite o w) p.2 q.2 in
-      cc same
+      cc (one-request script me (tries (book (last (broker me)))) x (ToWrite o v) (ToWrite o w) p.2 q.2)
 
   -- ---- what was stored, and what was viewed
 
@@ -123,8 +113,7 @@ module _ (script : List ℕ → Tree) (b : Base) (logs : NodeId → List Effect)
     all-of o = all-stood (map marks gone) (marks now) o chain (λ x v w h k. one-value r o x v w (asked-for r o x v h) (asked-for r o x w k)) (λ x v h. steps r o x v h)
 
     over-all : (o : ObjectId) (t : TimeParts) (v : Value) (l : List Effect) → Has l (now ∷ gone) → IsOnFloor (marks l) t → Viewed (marks l) o t v → SeesOverAll (map marks gone) (marks now) o t v
-    over-all o t v l k on w =
-        chain-view (map marks gone) (marks now) (all_stood (map marks gone) (marks now)) o t v chain (all-of o) (some-history (λ m. IsOnFloor m t × Viewed m o t v) (now ∷ gone) l k (on, w))
+    over-all o t v l k on w = chain-view (map marks gone) (marks now) (all_stood (map marks gone) (marks now)) o t v chain (all-of o) (some-history (λ m. IsOnFloor m t × Viewed m o t v) (now ∷ gone) l k (on, w))
 
     pub all-read : (to : NodeId) (t : TimeParts) (v : Value) → Has (record { from = repository r; to = to; message = message.Value t v }) ever →
         (o : ObjectId) × WasSent ever (broker t.stamp.broker) (repository r) (message.Read t o) × SeesOverAll (map marks gone) (marks now) o t v
@@ -169,10 +158,7 @@ module _ (script : List ℕ → Tree) (b : Base) (logs : NodeId → List Effect)
           there = x.there;
           viewed = x.viewed;
           own = λ y z old j h same low. let once = stood-once o y z old j h in
-              elim (x.below y z once) [
-                | inl g ↦ own-stays x.there o y t z x.steps x.on_floor (steps r o y z once) same g
-                | inr n ↦ absurd (true≢false (sym low ∙ n))
-              ];
+              elim (x.below y z once) [ inl g ↦ own-stays x.there o y t z x.steps x.on_floor (steps r o y z once) same g | inr n ↦ absurd (true≢false (sym low ∙ n)) ];
           wanted = λ y z h. asked-for r o y z (x.sub y z h);
         }
 

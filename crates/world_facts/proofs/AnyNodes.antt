@@ -1,10 +1,6 @@
 -- The rules of nodes keep over any logs what a run asks of them there; and so it is at each place of a legal trace over any logs.
-use Rattle.std.proofs.Common.{◌≡◌, ℕ, ◌≤◌, length, List, [], ◌∷◌, ◌++◌, reverse, refl, sym, ap, subst, arith}
-use Rattle.std.specs.Option.{unwrap_or}
-use Rattle.world_facts.proofs.Names.{Every, Has, every-map, NodeId, NodeKind, Repository, Broker, ActSpec, Effect, Out, Grew, Each, Post, Asked, Tree, Plan, Hand, held-more, turn-added, cause-more, Entry, Trace, Mind, opened_mind, Input, repository, Going, Taking, Learning, Hearing, Base, sent_by, start_world, walk, Meets, Legal, base_of, fates_of, OpenedWith, meets-front, Around, Later, NodeFacts, MayInput, TurnGives, NodeLaws, Start, Left, LogFacts, logs_at, of_hand, of_desk, kind_turn, node_turns}
-use Rattle.message_form.proofs.GrowthLemmas.{grew_map}
+use Rattle.world_facts.proofs.Names.{Every, Has, every-map, NodeId, NodeKind, Repository, Broker, ActSpec, Effect, Out, Grew, Each, Post, Asked, Tree, Plan, Hand, held-more, turn-added, cause-more, Entry, Trace, Mind, opened_mind, Input, repository, Going, Taking, Learning, Hearing, Base, sent_by, start_world, walk, Meets, Legal, base_of, fates_of, OpenedWith, meets-front, Around, Later, NodeFacts, MayInput, TurnGives, NodeLaws, Start, Left, LogFacts, logs_at, of_hand, of_desk, kind_turn, node_turns, ◌≡◌, ℕ, ◌≤◌, length, List, [], ◌∷◌, ◌++◌, reverse, refl, sym, ap, subst, arith, unwrap_or, grew_map, HeldHolds}
 use Rattle.repository_core.specs.Turns as hands
-use Rattle.repository_laws.specs.Facts.{HeldHolds}
 use Rattle.repository_laws.specs.AnyLogs.{Refuses, RefusesRightly}
 use Rattle.repository_laws.proofs.AnyTurns.{refuses-on, refuses-more, take-fine, on-learn-fine, hear-fine, begun-fine}
 use Rattle.broker_core.specs.Turns as desks

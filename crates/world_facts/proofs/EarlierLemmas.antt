@@ -1,9 +1,6 @@
 -- Runs and retirements, one after another; and the facts of a legal trace over the logs that they left.
-use Rattle.std.proofs.Common.{◌≡◌, ℕ, Bool, true, false, List, [], ◌∷◌, ◌++◌, map, reverse, if◌then◌else◌, refl, sym, ◌∙◌, ap, subst, inl, inr}
-use Rattle.std.proofs.lemmas.List.{reverse-reverse}
-use Rattle.world_facts.proofs.Names.{Has, same_node, TimeParts, NodeId, Effect, Post, same_is, Asked, Tree, Plan, MayRetire, forward, forwarded, Entry, Trace, sent_by, start_world, walk, Meets, Legal, base_of, fates_of, in_plan, AreCalls, Call, IsCall, OpenedWith, alike, log_left, logs_after, meets-front, AreEarlier, TickedBy, logs_left, older, replaced, sent_earlier, Running, Retiring, node_facts, node_turns, Left, OlderFacts, logs_at, past_sent, happened, opened_soft, Retire}
+use Rattle.world_facts.proofs.Names.{Has, same_node, TimeParts, NodeId, Effect, Post, same_is, Asked, Tree, Plan, MayRetire, forward, forwarded, Entry, Trace, sent_by, start_world, walk, Meets, Legal, base_of, fates_of, in_plan, AreCalls, Call, IsCall, OpenedWith, alike, log_left, logs_after, meets-front, AreEarlier, TickedBy, logs_left, older, replaced, sent_earlier, Running, Retiring, node_facts, node_turns, Left, OlderFacts, logs_at, past_sent, happened, opened_soft, Retire, ◌≡◌, ℕ, Bool, true, false, List, [], ◌∷◌, ◌++◌, map, reverse, if◌then◌else◌, refl, sym, ◌∙◌, ap, subst, inl, inr, reverse-reverse, AreRuns, ComeFrom, Earlier, TickedEarlier}
 use Rattle.pseudo_time.specs.Nodes.{repository}
-use Rattle.world_facts.specs.Earlier.{AreRuns, ComeFrom, Earlier, TickedEarlier}
 use Rattle.world_facts.proofs.NodeLaws.{node-laws, past-laws}
 use Rattle.world_facts.proofs.Openings.{call-left, older-of, left-nothing, left-same, over-left}
 
@@ -47,8 +44,7 @@ module _ (script : List ℕ → Tree) where
   earlier-left (Running c ∷ cs) h =
       call-left script (node_turns script) (node_facts script) (node-laws script) (past-laws script) c (logs_left (alike script) cs) (replaced (alike script) cs) (sent_earlier (alike script) cs)
       (TickedEarlier cs) (TickedEarlier (Running c ∷ cs)) (λ t k. inr k) (λ t k. inl k) h.1 (earlier-left cs h.0)
-  earlier-left (Retiring r at ∷ cs) h =
-      retire-left r at (logs_left (alike script) cs) (replaced (alike script) cs) (sent_earlier (alike script) cs) (TickedEarlier cs) h.1 (earlier-left cs h.0)
+  earlier-left (Retiring r at ∷ cs) h = retire-left r at (logs_left (alike script) cs) (replaced (alike script) cs) (sent_earlier (alike script) cs) (TickedEarlier cs) h.1 (earlier-left cs h.0)
 
   -- the facts of a legal trace over what they left
   pub older-facts : (plan : Plan) (asked : List Asked) (t : Trace) (logs : NodeId → List Effect) (front rest : List Entry) → (past : ComeFrom (alike script) logs) → OpenedWith t.opened logs →
@@ -73,12 +69,8 @@ replaced-older read [] n log h = absurd h
 replaced-older read (Running c ∷ cs) n log h = inr (replaced-older read cs n log h)
 replaced-older read (Retiring r at ∷ cs) n log h = inr (go (λ k. replaced-older read cs n log k) (same_node (repository r) n) h)
   where
-    last : (cs : List Earlier) → logs_left read cs n ≡ log → Has log (older read cs n)
-    last [] e = inl e
-    last (c ∷ cs) e = inl e
-
     go : (Has log (replaced read cs n) → Has log (older read cs n)) → (b : Bool) → Has log (if b then logs_left read cs n ∷ replaced read cs n else replaced read cs n) → Has log (older read cs n)
-    go rest true (inl e) = last cs e
+    go rest true (inl e) = (elim cs as (λ cs. logs_left read cs n ≡ log → Has log (older read cs n)) [ [] ↦ λ e. inl e | c ∷ cs ↦ λ e. inl e ]) e
     go rest true (inr k) = rest k
     go rest false k = rest k
 

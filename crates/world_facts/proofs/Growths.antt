@@ -1,8 +1,5 @@
 -- Logs that grow, lists, and functions that change at one node.
-use Rattle.std.proofs.Common.{◌≡◌, ℕ, zero, suc, ◌-◌, Bool, true, false, List, [], ◌∷◌, ◌++◌, length, drop, take, reverse, map, cond, if◌then◌else◌, refl, sym, ◌∙◌, ap, subst, Some, arith, ◌⊎◌, inl, inr, slice_get}
-use Rattle.std.specs.List.{filter}
-use Rattle.std.proofs.lemmas.List.{take-append-drop, reverse-append, length-append}
-use Rattle.world_facts.proofs.Names.{Every, Has, NodeId, Effect, Each, same_node, same_is, same_node-refl, numbered, put}
+use Rattle.world_facts.proofs.Names.{Every, Has, NodeId, Effect, Each, same_node, same_is, same_node-refl, numbered, put, ◌≡◌, ℕ, zero, suc, ◌-◌, Bool, true, false, List, [], ◌∷◌, ◌++◌, length, drop, take, reverse, map, cond, if◌then◌else◌, refl, sym, ◌∙◌, ap, subst, Some, arith, ◌⊎◌, inl, inr, slice_get, filter, take-append-drop, reverse-append, length-append}
 
 -- ---- growth
 
@@ -35,11 +32,7 @@ module _ {X : Type 0} where
 
   pub every-filter : (P : X → Type 0) (test : X → Bool) (xs : List X) → Every P xs → Every P (filter test xs)
   every-filter P test [] h = tt
-  every-filter P test (x ∷ xs) h = go (test x) (every-filter P test xs h.1)
-    where
-      go : (b : Bool) → Every P (filter test xs) → Every P (cond b (x ∷ filter test xs) (filter test xs))
-      go true rest = (h.0, rest)
-      go false rest = rest
+  every-filter P test (x ∷ xs) h = (elim (test x) as (λ b. Every P (filter test xs) → Every P (cond b (x ∷ filter test xs) (filter test xs))) [ true ↦ λ rest. (h.0, rest) | false ↦ λ rest. rest ]) (every-filter P test xs h.1)
 
   pub every-of : (P : X → Type 0) (xs : List X) → ((x : X) → Has x xs → P x) → Every P xs
   every-of P [] f = tt
@@ -59,11 +52,7 @@ module _ {X : Type 0} where
   pub has-filter : (test : X → Bool) (xs : List X) (x : X) → Has x xs → test x ≡ true → Has x (filter test xs)
   has-filter test [] x h e = h
   has-filter test (y ∷ xs) x (inl i) e = subst (λ (t : Bool). Has x (cond t (y ∷ filter test xs) (filter test xs))) (sym (ap test i ∙ e)) (inl i)
-  has-filter test (y ∷ xs) x (inr r) e = go (test y) (has-filter test xs x r e)
-    where
-      go : (t : Bool) → Has x (filter test xs) → Has x (cond t (y ∷ filter test xs) (filter test xs))
-      go true h = inr h
-      go false h = h
+  has-filter test (y ∷ xs) x (inr r) e = (elim (test y) as (λ t. Has x (filter test xs) → Has x (cond t (y ∷ filter test xs) (filter test xs))) [ true ↦ λ h. inr h | false ↦ λ h. h ]) (has-filter test xs x r e)
 
   pub filter-has : (test : X → Bool) (xs : List X) (x : X) → Has x (filter test xs) → Has x xs
   filter-has test [] x h = h
@@ -121,19 +110,11 @@ module _ {X Y : Type 0} where
 -- ---- one node
 
 pub put-all : {X : Type 0} → (P : NodeId → X → Type 0) (n : NodeId) (x : X) (s : NodeId → X) → P n x → ((k : NodeId) → P k (s k)) → (k : NodeId) → P k (put n x s k)
-put-all P n x s here there k = go (same_node n k) refl
-  where
-    go : (b : Bool) → same_node n k ≡ b → P k (if b then x else s k)
-    go true e = subst (λ z. P z x) (same_is n k e) here
-    go false e = there k
+put-all P n x s here there k = (elim (same_node n k) as (λ b. same_node n k ≡ b → P k (if b then x else s k)) [ true ↦ λ e. subst (λ z. P z x) (same_is n k e) here | false ↦ λ e. there k ]) refl
 
 pub put-both : {X Y : Type 0} → (P : NodeId → X → Y → Type 0) (n : NodeId) (x : X) (s : NodeId → X) (y : Y) (t : NodeId → Y) → P n x y → ((k : NodeId) → P k (s k) (t k)) →
     (k : NodeId) → P k (put n x s k) (put n y t k)
-put-both P n x s y t here there k = go (same_node n k) refl
-  where
-    go : (b : Bool) → same_node n k ≡ b → P k (if b then x else s k) (if b then y else t k)
-    go true e = subst (λ z. P z x y) (same_is n k e) here
-    go false e = there k
+put-both P n x s y t here there k = (elim (same_node n k) as (λ b. same_node n k ≡ b → P k (if b then x else s k) (if b then y else t k)) [ true ↦ λ e. subst (λ z. P z x y) (same_is n k e) here | false ↦ λ e. there k ]) refl
 
 pub put-here : {X : Type 0} → (n : NodeId) (x : X) (s : NodeId → X) → put n x s n ≡ x
 put-here n x s = ap (λ b. if b then x else s n) (same_node-refl n)

@@ -1,13 +1,6 @@
 -- Each event keeps what always holds.
-use Rattle.std.proofs.Common.{◌≡◌, ℕ, ◌-◌, Bool, List, [], ◌∷◌, ◌++◌, length, refl, sym, ◌∙◌, ap, subst, append_assoc, inl, inr}
-use Rattle.std.specs.List.{filter}
-use Rattle.std.proofs.lemmas.List.{append-nil}
-use Rattle.world_facts.proofs.Names.{Every, Has, StampParts, Decision, NodeId, every-map, every-has, has-right, ActSpec, Effect, Out, Grew, Each, Post, posts, each_below, Tree, Input, Given, repository, Going, Taking, Learning, Hearing, Around, GrownFrom, Later, NodeFacts, SomeOf, Turns, MayInput, SenderOk, TurnGiven, TurnGives, NodeLaws, SoftNode, all_effects, gate, crash, opened_soft, Soft, put, around, SoftEvent, react, happened, Mays, Lineage, NodeOk, OldOk, SentOnce, Inv, Start, React, Gate, Crash, Retire, Tick}
-use Rattle.pseudo_time.proofs.ListLemmas.{every-append}
+use Rattle.world_facts.proofs.Names.{Every, Has, StampParts, Decision, NodeId, every-map, every-has, has-right, ActSpec, Effect, Out, Grew, Each, Post, posts, each_below, Tree, Input, Given, repository, Going, Taking, Learning, Hearing, Around, GrownFrom, Later, NodeFacts, SomeOf, Turns, MayInput, SenderOk, TurnGiven, TurnGives, NodeLaws, SoftNode, all_effects, gate, crash, opened_soft, Soft, put, around, SoftEvent, react, happened, Mays, Lineage, NodeOk, OldOk, SentOnce, Inv, Start, React, Gate, Crash, Retire, Tick, ◌≡◌, ℕ, ◌-◌, Bool, List, [], ◌∷◌, ◌++◌, length, refl, sym, ◌∙◌, ap, subst, append_assoc, inl, inr, filter, append-nil, every-append, post, grew_keeps, grew_on, grew_drop, each_grew, keep, happens, nothing, May}
 use Rattle.effect_form.specs.declared.effects.Effect.TheVariants as effect
-use Rattle.message_form.specs.Posts.{post}
-use Rattle.message_form.proofs.GrowthLemmas.{grew_keeps, grew_on, grew_drop, each_grew}
-use Rattle.world_facts.specs.Soft.{keep, happens, nothing, May}
 use Rattle.world_facts.proofs.Growths.{each-map, each-drop, every-filter, every-of-map, or-left, put-all, put-both, put-here}
 
 module _ (script : List ℕ → Tree) (turns : Turns) (F : NodeFacts) (laws : NodeLaws script turns F) where
@@ -35,9 +28,6 @@ module _ (script : List ℕ → Tree) (turns : Turns) (F : NodeFacts) (laws : No
 
   -- ---- older logs
 
-  has-grown : (n : NodeId) (base log : List Effect) (f : Effect) → GrownFrom (F.Fits n) base log → Has f base → Has f log
-  has-grown n base log f g h = subst (Has f) (sym g.is) (has-right g.early base f h)
-
   -- what holds of one of a node's logs holds of one each of whose decisions stands in the last
   pub decided-still : (P : List Effect → Type 0) (n : NodeId) (olds : List (List Effect)) (log : List Effect) → Lineage F n olds log → SomeOf P (log ∷ olds) →
       (l : List Effect) × ((s : StampParts) (d : Decision) → Has (effect.Decide s d) l → Has (effect.Decide s d) log) × P l
@@ -45,7 +35,7 @@ module _ (script : List ℕ → Tree) (turns : Turns) (F : NodeFacts) (laws : No
   decided-still P n [] log k (inr p) = absurd p
   decided-still P n (old ∷ olds) log k (inr p) =
       let r = decided-still P n olds old k.0 p in
-      (r.0, (λ s d h. has-grown n k.1.0 log (effect.Decide s d) k.1.2 (laws.retired_decided n old k.1.0 k.1.1 s d (r.1 s d h))), r.2)
+      (r.0, (λ s d h. subst (Has (effect.Decide s d)) (sym k.1.2.is) (has-right k.1.2.early k.1.0 (effect.Decide s d) (laws.retired_decided n old k.1.0 k.1.1 s d (r.1 s d h)))), r.2)
 
   grown-on : (n : NodeId) (base log late : List Effect) → GrownFrom (F.Fits n) base log → Grew (F.Fits n) log late → GrownFrom (F.Fits n) base (late ++ log)
   grown-on n base log late g grew = record {
@@ -80,17 +70,14 @@ module _ (script : List ℕ → Tree) (turns : Turns) (F : NodeFacts) (laws : No
       record { tidy = tidy-grown n x.past x.added h.grew h.tidy; proofs = h.proofs; mind_ok = h.mind_ok; ready = ready; added = x.added; own = refl; grew = h.grew }
 
   sender-ok : (s : Soft) (n : NodeId) (input : Input) → Inv F s → MayInput (around s) n input → SenderOk F (around s) n input
-  sender-ok s n Going inv may = tt
   sender-ok s n (Taking from m) inv may =
       decided-still (λ log. F.PostOk s.ever from log (record { to = n; message = m })) from (s.olds from) (s.node from).past (inv.lineage from)
       (every-has (SentOnce F s.ever (λ k. (s.node k).past) s.olds) s.ever (post from (record { to = n; message = m })) inv.sent may)
-  sender-ok s n (Learning stamp committed) inv may = tt
-  sender-ok s n (Hearing t) inv may = tt
+  sender-ok s n _ inv may = tt
 
   pub turn-gives : (s : Soft) (run : ℕ) (acts : List ActSpec) (n : NodeId) (input : Input) → Inv F s → MayInput (around s) n input → F.Ready run acts n (all_effects (s.node n)) →
       TurnGives F (around s) run acts n (all_effects (s.node n)) (turns run acts n (all_effects (s.node n)) (s.node n).mind input)
-  turn-gives s run acts n input inv may ready =
-      laws.turn (around s) run acts n (all_effects (s.node n)) (s.node n).mind input (turn-given s run acts n inv ready) may (sender-ok s n input inv may)
+  turn-gives s run acts n input inv may ready = laws.turn (around s) run acts n (all_effects (s.node n)) (s.node n).mind input (turn-given s run acts n inv ready) may (sender-ok s n input inv may)
 
   turned : (w : Around) (run : ℕ) (acts : List ActSpec) (n : NodeId) (x : SoftNode) (g : Given) → NodeOk F w n x → TurnGives F w run acts n (all_effects x) g →
       NodeOk F w n (record { past = x.past; added = g.effects ++ x.added; outs = x.outs ++ g.outs; mind = g.mind })
@@ -110,8 +97,7 @@ module _ (script : List ℕ → Tree) (turns : Turns) (F : NodeFacts) (laws : No
 
   pub react-ok : (s : Soft) (run : ℕ) (acts : List ActSpec) (n : NodeId) (input : Input) → Inv F s → MayInput (around s) n input → F.Ready run acts n (all_effects (s.node n)) →
       NodeOk F (around s) n (react turns run acts n (s.node n) input)
-  react-ok s run acts n input inv may ready =
-      turned (around s) run acts n (s.node n) (turns run acts n (all_effects (s.node n)) (s.node n).mind input) (inv.nodes n) (turn-gives s run acts n input inv may ready)
+  react-ok s run acts n input inv may ready = turned (around s) run acts n (s.node n) (turns run acts n (all_effects (s.node n)) (s.node n).mind input) (inv.nodes n) (turn-gives s run acts n input inv may ready)
 
   -- ---- one node changed: its durable log grew by `late`, and `new` messages left it
 

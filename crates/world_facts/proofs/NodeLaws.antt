@@ -1,16 +1,11 @@
 -- The rules of repositories and of brokers keep what a run asks of them.
-use Rattle.std.proofs.Common.{◌≡◌, ℕ, true, List, [], ◌∷◌, ◌++◌, reverse, refl, sym, subst, Option, Some, None, is_none}
-use Rattle.world_facts.proofs.Names.{Every, Has, StampParts, Decision, NodeId, NodeKind, Repository, Broker, every-map, ActSpec, Effect, Message, Out, Grew, Each, Post, Tree, Hand, held-more, book, tries, turn-added, cause-more, Mind, opened_mind, Input, gives, is_ready, repository, Going, Taking, Learning, Hearing, Around, Later, MayInput, SenderOk, TurnGiven, TurnGives, NodeLaws, PastLaws, of_hand, of_desk, kind_turn, node_turns, kind_post, node_facts}
+use Rattle.world_facts.proofs.Names.{Every, Has, StampParts, Decision, NodeId, NodeKind, Repository, Broker, every-map, ActSpec, Effect, Message, Out, Grew, Each, Post, Tree, Hand, held-more, book, tries, turn-added, cause-more, Mind, opened_mind, Input, gives, is_ready, repository, Going, Taking, Learning, Hearing, Around, Later, MayInput, SenderOk, TurnGiven, TurnGives, NodeLaws, PastLaws, of_hand, of_desk, kind_turn, node_turns, kind_post, node_facts, ◌≡◌, ℕ, true, List, [], ◌∷◌, ◌++◌, reverse, refl, sym, subst, Option, Some, None, is_none, has-left, decide-forwarded, tidy-kept, post-stays, post-more, ready-cut, kind_gives, kind_ready, acts_of, kind_fits, kind_tidy, kind_cause, kind_mind, kind_is_ready, kind_retires}
 use Rattle.pseudo_time.specs.declared.decisions.Decision.TheVariants as decision
-use Rattle.pseudo_time.proofs.ListLemmas.{has-left}
 use Rattle.effect_form.specs.declared.effects.Effect.TheVariants as effect
 use Rattle.message_form.specs.declared.messages.Message.TheVariants as message
-use Rattle.object_retirement.proofs.ForwardLemmas.{decide-forwarded}
 use Rattle.repository_core.specs.Turns as hands
 use Rattle.repository_laws.specs.Facts as repositories
 use Rattle.repository_laws.specs.Givens.{IsGiven, Gives}
-use Rattle.repository_laws.proofs.Logs.{tidy-kept}
-use Rattle.repository_laws.proofs.Posts.{post-stays, post-more}
 use Rattle.repository_laws.proofs.Whole.{gives-taking, gives-learning, gives-hearing}
 use Rattle.broker_core.specs.Fits.{resume_fault}
 use Rattle.broker_core.specs.Tasks.{tasks}
@@ -22,10 +17,7 @@ use Rattle.broker_laws.specs.Works as works
 use Rattle.broker_laws.proofs.Desks.{desk-ok}
 use Rattle.broker_laws.proofs.Moves.{post-kept}
 use Rattle.broker_laws.proofs.ReadyLemmas.{no-fault}
-use Rattle.broker_laws.proofs.TurnLemmas.{ready-cut}
-use Rattle.world_core.specs.Nodes.{kind_gives, kind_ready, acts_of}
 use Rattle.world_facts.specs.Rules.{forward}
-use Rattle.world_facts.specs.NodeRules.{kind_fits, kind_tidy, kind_cause, kind_mind, kind_is_ready, kind_retires}
 use Rattle.world_facts.proofs.RetiredLogs.{each-forwarded, tidy-forwarded}
 
 none-is : {A : Type 0} (o : Option A) → is_none o ≡ true → o ≡ None
@@ -110,8 +102,7 @@ module _ (script : List ℕ → Tree) where
   retired-tidy Broker i old new r t = absurd r
 
   retired-proofs : (w : Around) (k : NodeKind) (i : ℕ) (old new : List Effect) → kind_retires script k old new → Each (kind_cause script w k i) old → Each (kind_cause script w k i) new
-  retired-proofs w Repository i old new r h =
-      subst (Each (kind_cause script w Repository i)) (sym r.2) (each-forwarded (repositories.RestsOn w.ever (λ j. w.logs (repository j)) w.ticks i) old r.0 tt tt h)
+  retired-proofs w Repository i old new r h = subst (Each (kind_cause script w Repository i)) (sym r.2) (each-forwarded (repositories.RestsOn w.ever (λ j. w.logs (repository j)) w.ticks i) old r.0 tt tt h)
   retired-proofs w Broker i old new r h = absurd r
 
   retired-decided : (k : NodeKind) (old new : List Effect) → kind_retires script k old new → (s : StampParts) (d : Decision) → Has (effect.Decide s d) old → Has (effect.Decide s d) new

@@ -1,15 +1,12 @@
 -- The histories of a repository's logs, older and last, are a chain of growths and retirements.
 use Rattle.std.proofs.Common.{◌≡◌, ℕ, List, [], ◌∷◌, ◌++◌, map, refl, sym, ◌∙◌, ap, subst, append-nil, inl, inr, None}
-use Rattle.world_facts.proofs.Names.{Has, Effect, Put, Stretch, Begin, Decide, Learn, Grew, settle_of, is_commit, marks, Tree, repository, node_facts, GrownFrom, SomeOf, Lineage}
+use Rattle.world_facts.proofs.Names.{Has, Effect, Put, Stretch, Begin, Decide, Learn, Grew, settle_of, is_commit, marks, Tree, repository, node_facts, GrownFrom, SomeOf, Lineage, Fits, marks-forwarded, FitsLog}
 use Rattle.effect_form.specs.declared.effects.Effect.TheVariants as effect
 use Rattle.object_history.specs.declared.marks.Mark as history
 use Rattle.object_history.specs.declared.marks.Mark.TheVariants as mark
-use Rattle.object_history.specs.Views.{Fits}
 use Rattle.object_retirement.specs.Chains.{Chain, Follows_on, Grows}
 use Rattle.object_retirement.specs.Chains as chains
-use Rattle.object_retirement.proofs.ForwardLemmas.{marks-forwarded}
 use Rattle.repository_log.proofs.LogLemmas.{unknown-unsettled}
-use Rattle.repository_laws.specs.Facts.{FitsLog}
 use Rattle.world_core.specs.Nodes.{broker}
 
 pub marks-append : (l k : List Effect) → marks (l ++ k) ≡ marks l ++ marks k
@@ -27,8 +24,7 @@ grows-marks r base [] g = tt
 grows-marks r base (Put o x v ∷ early) g = (grows-marks r base early g.0, subst (λ m. Fits m (mark.Put o x v)) (marks-append early base) g.1.1)
 grows-marks r base (Stretch o x ∷ early) g = (grows-marks r base early g.0, tt)
 grows-marks r base (Begin s d ∷ early) g = grows-marks r base early g.0
-grows-marks r base (Decide s d ∷ early) g =
-    (grows-marks r base early g.0, subst (λ m. settle_of m s ≡ None) (marks-append early base) (unknown-unsettled (early ++ base) s g.1.1.0 g.1.1.1))
+grows-marks r base (Decide s d ∷ early) g = (grows-marks r base early g.0, subst (λ m. settle_of m s ≡ None) (marks-append early base) (unknown-unsettled (early ++ base) s g.1.1.0 g.1.1.1))
 grows-marks r base (Learn s c ∷ early) g = (grows-marks r base early g.0, subst (λ m. settle_of m s ≡ None) (marks-append early base) g.1.1)
 grows-marks r base (f ∷ early) g = absurd g.1
 
@@ -58,9 +54,7 @@ module _ (script : List ℕ → Tree) (r : ℕ) where
 
 -- a log that grew from an empty one
 pub grown-alone : (Fits : List Effect → Effect → Type 0) (log : List Effect) → ((base : List Effect) × (base ≡ []) × GrownFrom Fits base log) → Grew Fits [] log
-grown-alone Fits log (base, e, g) =
-    let is : log ≡ g.early = g.is ∙ ap (λ b. g.early ++ b) e ∙ append-nil g.early in
-    subst (Grew Fits []) (sym is) (subst (λ b. Grew Fits b g.early) e g.grew)
+grown-alone Fits log (base, e, g) = subst (Grew Fits []) (sym (g.is ∙ ap (λ b. g.early ++ b) e ∙ append-nil g.early)) (subst (λ b. Grew Fits b g.early) e g.grew)
 
 -- and goes on
 pub grown-more : (Fits : List Effect → Effect → Type 0) (log fresh : List Effect) → Grew Fits [] log → Grew Fits log fresh → Grew Fits [] (fresh ++ log)

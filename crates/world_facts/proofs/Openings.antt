@@ -1,15 +1,8 @@
 -- Runs begin and end, one after another; and the facts of a legal trace over logs with a past.
-use Rattle.std.proofs.Common.{◌≡◌, ℕ, ◌-◌, Bool, true, false, List, [], ◌∷◌, ◌++◌, drop, take, length, map, reverse, if◌then◌else◌, refl, sym, ◌∙◌, ap, subst, ◌⊎◌, inl, inr, Option, Some, None, is_some}
-use Rattle.std.specs.Option.{unwrap_or}
-use Rattle.std.proofs.lemmas.List.{append-nil, reverse-append}
-use Rattle.world_facts.proofs.Names.{Every, Has, NodeId, every-map, Effect, Each, Post, each_below, Asked, Fate, same_node, same_is, Tree, Plan, Entry, Trace, repository, is_ready, Base, Life, World, opened_log, sent_by, start_world, walk, Meets, Legal, base_of, fates_of, in_plan, Call, IsCall, log_left, logs_after, OpenedWith, AreCalls, alike, meets-front, Around, Later, NodeFacts, SomeOf, Turns, NodeLaws, PastLaws, SoftNode, all_effects, put, crash, opened_soft, Soft, around, SoftEvent, happened, Mays, Lineage, NodeOk, OldOk, SentOnce, Inv, Crash, soft_of, past_sent, Refines, Left, logs_at, LogFacts, OlderFacts}
+use Rattle.world_facts.proofs.Names.{Every, Has, NodeId, every-map, Effect, Each, Post, each_below, Asked, Fate, same_node, same_is, Tree, Plan, Entry, Trace, repository, is_ready, Base, Life, World, opened_log, sent_by, start_world, walk, Meets, Legal, base_of, fates_of, in_plan, Call, IsCall, log_left, logs_after, OpenedWith, AreCalls, alike, meets-front, Around, Later, NodeFacts, SomeOf, Turns, NodeLaws, PastLaws, SoftNode, all_effects, put, crash, opened_soft, Soft, around, SoftEvent, happened, Mays, Lineage, NodeOk, OldOk, SentOnce, Inv, Crash, soft_of, past_sent, Refines, Left, logs_at, LogFacts, OlderFacts, ◌≡◌, ℕ, ◌-◌, Bool, true, false, List, [], ◌∷◌, ◌++◌, drop, take, length, map, reverse, if◌then◌else◌, refl, sym, ◌∙◌, ap, subst, ◌⊎◌, inl, inr, Option, Some, None, is_some, unwrap_or, append-nil, reverse-append, AllReady, HasPast, kept_log, SentOk, PastTick, Ticked, LivesOk}
 use Rattle.effect_form.specs.declared.effects.Effect.TheVariants as effect
 use Rattle.world_core.specs.declared.entries.Entry.TheVariants as entry
 use Rattle.world_core.specs.declared.traces.Opened.{Opened}
-use Rattle.world_core.specs.Legal.{AllReady}
-use Rattle.world_core.specs.Pasts.{HasPast}
-use Rattle.world_facts.specs.Soft.{kept_log, SentOk}
-use Rattle.world_facts.specs.Refines.{PastTick, Ticked, LivesOk}
 use Rattle.world_facts.proofs.Growths.{each-map, drop-none, length-reverse, take-back}
 use Rattle.world_facts.proofs.Keeps.{inv-reached, old-later}
 use Rattle.world_facts.proofs.Refinements.{ready-gated, walk-refines}
@@ -159,8 +152,7 @@ module _ (script : List ℕ → Tree) (turns : Turns) (F : NodeFacts) (laws : No
 
   past-left : PastLaws script F → (cs : List Call) → AreCalls (alike script) cs → Left turns F (logs_after (alike script) cs) (λ n. []) (past_sent (alike script) cs) (PastTick cs)
   past-left past [] h = left-nothing past
-  past-left past (c ∷ cs) h =
-      call-left past c (logs_after (alike script) cs) (λ n. []) (past_sent (alike script) cs) (PastTick cs) (PastTick (c ∷ cs)) (λ t k. inr k) (λ t k. inl k) h.1 (past-left past cs h.0)
+  past-left past (c ∷ cs) h = call-left past c (logs_after (alike script) cs) (λ n. []) (past_sent (alike script) cs) (PastTick cs) (PastTick (c ∷ cs)) (λ t k. inr k) (λ t k. inl k) h.1 (past-left past cs h.0)
 
   -- a trace over what was left
   pub over-left : PastLaws script F → (b : Base) (fates : List Fate) (logs : NodeId → List Effect) (olds : NodeId → List (List Effect)) (old : List Post) (Before May : ℕ → Type 0) (es : List Entry) → b.script ≡ script →
@@ -171,8 +163,7 @@ module _ (script : List ℕ → Tree) (turns : Turns) (F : NodeFacts) (laws : No
 
   -- logs that are the same everywhere were left the same
   pub left-same : (logs other : NodeId → List Effect) (olds : NodeId → List (List Effect)) (old : List Post) (May : ℕ → Type 0) → ((n : NodeId) → other n ≡ logs n) → Left turns F logs olds old May → Left turns F other olds old May
-  left-same logs other olds old May same l =
-      record { events = l.events; may = l.may; gated = λ n. l.gated n ∙ ap reverse (sym (same n)); fresh = l.fresh; retired = l.retired; ever = l.ever; ticked = l.ticked }
+  left-same logs other olds old May same l = record { events = l.events; may = l.may; gated = λ n. l.gated n ∙ ap reverse (sym (same n)); fresh = l.fresh; retired = l.retired; ever = l.ever; ticked = l.ticked }
 
   -- a trace over logs with a past of runs
   pub refined : PastLaws script F → (b : Base) (fates : List Fate) (logs : NodeId → List Effect) (es : List Entry) → b.script ≡ script → (past : HasPast (alike script) logs) → OpenedWith b.opened logs → AllReady b →

@@ -1,8 +1,6 @@
 -- Numbers of nodes within those of a plan.
-use Rattle.std.proofs.Common.{◌≡◌, ℕ, nat_le, true}
-use Rattle.std.proofs.lemmas.Bool.{and_from, and_parts, le-leb, leb-true}
+use Rattle.world_facts.proofs.Names.{◌≡◌, ℕ, nat_le, true, and_from, and_parts, le-leb, leb-true, is_within}
 use Rattle.plan_form.specs.Plans.{InRange}
-use Rattle.world_core.specs.Legal.{is_within}
 
 pub within : (i most : ℕ) → InRange most i → is_within i most ≡ true
 within i most h = and_from (nat_le 1 i) (nat_le i most) (le-leb 1 i h.0) (le-leb i most h.1)

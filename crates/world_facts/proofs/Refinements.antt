@@ -1,18 +1,9 @@
 -- A legal trace over logs with a past is a run of a world without rules of turns.
-use Rattle.std.proofs.Common.{◌≡◌, ℕ, zero, suc, ◌-◌, Bool, true, false, List, [], ◌∷◌, ◌++◌, drop, length, reverse, if◌then◌else◌, refl, sym, ◌∙◌, ap, subst, Option, Some, None, is_some, append_assoc, inl, inr}
-use Rattle.std.specs.List.{filter}
-use Rattle.std.proofs.lemmas.List.{append-nil}
 use Rattle.std.proofs.lemmas.Option.{same_Some}
-use Rattle.world_facts.proofs.Names.{Has, StampParts, NodeId, has-right, ActSpec, Effect, Out, Grew, Post, posts, Fate, same_node, Tree, Entry, Input, repository, Going, Taking, Learning, Hearing, Base, Life, Sending, World, opened_log, numbered, names, step, after_input, lives_on, gated_life, crashed_life, leaving, sent_by, start_world, walk_from, walk, Meets, NodeFacts, Turns, MayInput, TurnGives, NodeLaws, SoftNode, all_effects, put, gate, crash, Soft, around, SoftEvent, react, happened, Mays, Inv, React, Gate, Crash, Tick, soft_of, Refines}
-use Rattle.pseudo_time.proofs.ListLemmas.{has-reverse}
+use Rattle.world_facts.proofs.Names.{Has, StampParts, NodeId, has-right, ActSpec, Effect, Out, Grew, Post, posts, Fate, same_node, Tree, Entry, Input, repository, Going, Taking, Learning, Hearing, Base, Life, Sending, World, opened_log, numbered, names, step, after_input, lives_on, gated_life, crashed_life, leaving, sent_by, start_world, walk_from, walk, Meets, NodeFacts, Turns, MayInput, TurnGives, NodeLaws, SoftNode, all_effects, put, gate, crash, Soft, around, SoftEvent, react, happened, Mays, Inv, React, Gate, Crash, Tick, soft_of, Refines, ◌≡◌, ℕ, zero, suc, ◌-◌, Bool, true, false, List, [], ◌∷◌, ◌++◌, drop, length, reverse, if◌then◌else◌, refl, sym, ◌∙◌, ap, subst, Option, Some, None, is_some, append_assoc, inl, inr, filter, append-nil, has-reverse, leaves, took, hears, opened_life, last_after, MayTake, MayHear, MayGate, MayCrash, IsDecidedAs, Rule, IsDecided, Models}
 use Rattle.effect_form.specs.declared.effects.Effect.TheVariants as effect
 use Rattle.world_core.specs.declared.entries.Entry.TheVariants as entry
-use Rattle.world_core.specs.Nodes.{leaves}
-use Rattle.world_core.specs.Walks.{took, hears, opened_life, last_after}
 use Rattle.world_core.specs.Walks as walks
-use Rattle.world_core.specs.Legal.{MayTake, MayHear, MayGate, MayCrash, IsDecidedAs, Rule}
-use Rattle.world_facts.specs.Rules.{IsDecided}
-use Rattle.world_facts.specs.Refines.{Models}
 use Rattle.world_facts.proofs.Growths.{none-has, numbered-has, put-all}
 use Rattle.world_facts.proofs.Keeps.{tidy-grown, turn-gives, inv-reached}
 use Rattle.world_facts.proofs.Steps.{step-known, both-changed, all-stay, unknown-stays, gated-soft, crashed-soft, told-soft, sent-gate}
@@ -40,8 +31,7 @@ module _ (script : List ℕ → Tree) (turns : Turns) (F : NodeFacts) (laws : No
 
   pub ready-gated : (run : ℕ) (acts : List ActSpec) (n : NodeId) (log fresh : List Effect) → F.Tidy n log → Grew (F.Fits n) log fresh → F.Ready run acts n (fresh ++ log) → F.Ready run acts n log
   ready-gated run acts n log [] tidy grew ready = ready
-  ready-gated run acts n log (f ∷ fresh) tidy grew ready =
-      ready-gated run acts n log fresh tidy grew.0 (laws.ready_below run acts n (fresh ++ log) f (tidy-grown script turns F laws n log fresh grew.0 tidy) grew.1 ready)
+  ready-gated run acts n log (f ∷ fresh) tidy grew ready = ready-gated run acts n log fresh tidy grew.0 (laws.ready_below run acts n (fresh ++ log) f (tidy-grown script turns F laws n log fresh grew.0 tidy) grew.1 ready)
 
   module _ (b : Base) (others : NodeId → List Effect) (olds : NodeId → List (List Effect)) (old : List Post) (May : ℕ → Type 0) (same : b.script ≡ script) where
     -- ---- one entry
@@ -70,7 +60,6 @@ module _ (script : List ℕ → Tree) (turns : Turns) (F : NodeFacts) (laws : No
         Refines turns F b others olds old May (step b w e)
     input-refines w e n input r own known may is sends last =
         let s : Soft = happened turns r.events in
-        let inv : Inv F s = inv-reached script turns F laws r.events r.may in
         let at : s.node n ≡ soft_of (w.life n) = r.models.lives n known in
         let ready : F.Ready b.run b.acts n (all_effects (s.node n)) = subst (λ x. F.Ready b.run b.acts n (all_effects x)) (sym at) (r.models.ready n known) in
         record {
@@ -78,7 +67,7 @@ module _ (script : List ℕ → Tree) (turns : Turns) (F : NodeFacts) (laws : No
           may = (r.may, (may, ready));
           models = one-changed s w e n (react turns b.run b.acts n (s.node n) input) s.ever [] r.models own known
               (ap (λ x. react turns b.run b.acts n x input) at ∙ told-soft script turns F laws b n (w.life n) input same ∙ ap soft_of (sym is))
-              (react-ready s b.run b.acts n input inv may ready) (sym (append-nil s.ever)) (sends ∙ sym (append-nil (sent_by w))) last;
+              (react-ready s b.run b.acts n input (inv-reached script turns F laws r.events r.may) may ready) (sym (append-nil s.ever)) (sends ∙ sym (append-nil (sent_by w))) last;
         }
 
     -- a decision that stands in the trace stands in the other world
@@ -92,10 +81,9 @@ module _ (script : List ℕ → Tree) (turns : Turns) (F : NodeFacts) (laws : No
     take-refines : (fates : List Fate) (w : World) (n : NodeId) (number : ℕ) → Refines turns F b others olds old May w → MayTake fates w n number → Refines turns F b others olds old May (step b w (entry.Take n number))
     take-refines fates w n number r rule =
         let p : Post = rule.sending.post in
-        let here : Has p (sent_by w) = numbered-has (λ (x : Sending). x.post) w.sendings number rule.sending rule.sent in
         let may : Has (record { from = p.from; to = n; message = p.message }) (happened turns r.events).ever =
         subst (Has (record { from = p.from; to = n; message = p.message })) (sym r.models.ever) (has-right old (sent_by w) _
-        (subst (λ to. Has (record { from = p.from; to = to; message = p.message }) (sent_by w)) rule.to here)) in
+        (subst (λ to. Has (record { from = p.from; to = to; message = p.message }) (sent_by w)) rule.to (numbered-has (λ (x : Sending). x.post) w.sendings number rule.sending rule.sent))) in
         input-refines w (entry.Take n number) n (Taking p.from p.message) r (λ k. refl) (r.models.ups n rule.up) may (ap (took b n (w.life n)) rule.sent) refl refl
 
     hear-refines : (w : World) (n : NodeId) → Refines turns F b others olds old May w → MayHear w n → Refines turns F b others olds old May (step b w (entry.Hear n))

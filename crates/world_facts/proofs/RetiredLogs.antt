@@ -1,17 +1,11 @@
 -- What a retirement leaves of a repository's log is tidy, each of its effects has what must have come before it, and each decision stands.
-use Rattle.std.proofs.Common.{◌≡◌, ◌≢◌, ℕ, Bool, true, false, List, [], ◌∷◌, if◌then◌else◌, sym, ◌∙◌, subst}
-use Rattle.world_facts.proofs.Names.{TimeParts, lt, ObjectId, Value, Effect, Put, Stretch, Begin, Decide, Learn, Mark, Whole, Each, version_count, marks, forwarded}
-use Rattle.object_history.specs.Views.{Starts}
+use Rattle.world_facts.proofs.Names.{TimeParts, lt, ObjectId, Value, Effect, Put, Stretch, Begin, Decide, Learn, Mark, Whole, Each, version_count, marks, forwarded, ◌≡◌, ◌≢◌, ℕ, Bool, true, false, List, [], ◌∷◌, if◌then◌else◌, sym, ◌∙◌, subst, Starts, carried, known-carried, marks-carried, record-carried, IsTidy}
 use Rattle.object_retirement.specs.Retired.{stays_put}
-use Rattle.object_retirement.specs.Forward.{carried}
 use Rattle.object_retirement.proofs.RetiredLemmas.{starts-kept}
-use Rattle.object_retirement.proofs.ForwardLemmas.{known-carried, marks-carried, record-carried}
-use Rattle.repository_laws.specs.Facts.{IsTidy}
 
 -- ---- tidy logs
 
-tidy-put : (r : ℕ) (b : Bool) (o : ObjectId) (x : TimeParts) (v : Value) (k : List Effect) → o.repository ≡ r → Starts (λ y. y ≢ x) o (marks k) → IsTidy r k →
-    IsTidy r (if b then Put o x v ∷ k else k)
+tidy-put : (r : ℕ) (b : Bool) (o : ObjectId) (x : TimeParts) (v : Value) (k : List Effect) → o.repository ≡ r → Starts (λ y. y ≢ x) o (marks k) → IsTidy r k → IsTidy r (if b then Put o x v ∷ k else k)
 tidy-put r true o x v k home starts t = (home, starts, t)
 tidy-put r false o x v k home starts t = t
 

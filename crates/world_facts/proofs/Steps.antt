@@ -1,12 +1,8 @@
 -- One entry of a trace, node by node.
-use Rattle.std.proofs.Common.{◌≡◌, ℕ, Bool, true, false, ◌&&◌, List, [], ◌∷◌, ◌++◌, map, take, drop, reverse, if◌then◌else◌, refl, sym, ap, subst, ◌∙◌, Option, Some, None, ◌-◌}
-use Rattle.std.proofs.lemmas.List.{map-append, reverse-append, reverse-reverse}
-use Rattle.world_facts.proofs.Names.{NodeId, NodeKind, Repository, Broker, Post, same_node, same_is, Tree, Entry, Input, Given, gives, Base, Life, Sending, World, names, step, after_input, lives_on, gated_life, crashed_life, leaving, sent_by, walk_from, NodeFacts, Turns, NodeLaws, SoftNode, all_effects, put, gate, crash, react, opened_soft, soft_of}
+use Rattle.world_facts.proofs.Names.{NodeId, NodeKind, Repository, Broker, Post, same_node, same_is, Tree, Entry, Input, Given, gives, Base, Life, Sending, World, names, step, after_input, lives_on, gated_life, crashed_life, leaving, sent_by, walk_from, NodeFacts, Turns, NodeLaws, SoftNode, all_effects, put, gate, crash, react, opened_soft, soft_of, ◌≡◌, ℕ, Bool, true, false, ◌&&◌, List, [], ◌∷◌, ◌++◌, map, take, drop, reverse, if◌then◌else◌, refl, sym, ap, subst, ◌∙◌, Option, Some, None, ◌-◌, map-append, reverse-append, reverse-reverse, Flags, flagged, went, learned, has_heard, with_given, sendings_after, with_turn}
 use Rattle.world_core.specs.declared.entries.Entry.TheVariants.{Go, Learn, Hear, Gate, Down}
 use Rattle.world_core.specs.Walks as walks
-use Rattle.world_core.specs.Walks.{Flags, flagged, went, learned, has_heard, with_given, sendings_after}
 use Rattle.world_facts.specs.Rules.{forward}
-use Rattle.world_facts.specs.Soft.{with_turn}
 use Rattle.world_facts.proofs.Growths.{take-back, length-reverse}
 
 -- ---- flags
@@ -58,19 +54,11 @@ both-changed b w e n y s P own known here there k =
 
 -- an entry that leaves its own node's life leaves all
 pub all-stay : (b : Base) (w : World) (e : Entry) → ((k : NodeId) → lives_on b w k (w.life k) e ≡ w.life k) → (k : NodeId) → (step b w e).life k ≡ w.life k
-all-stay b w e same k = go (names k e && (w.flags k).known)
-  where
-    go : (t : Bool) → (if t then lives_on b w k (w.life k) e else w.life k) ≡ w.life k
-    go true = same k
-    go false = refl
+all-stay b w e same k = elim (names k e && (w.flags k).known) as (λ t. (if t then lives_on b w k (w.life k) e else w.life k) ≡ w.life k) [ true ↦ same k | false ↦ refl ]
 
 -- an unknown node stays as it was
 pub unknown-stays : (b : Base) (w : World) (e : Entry) (k : NodeId) → (w.flags k).known ≡ false → (step b w e).life k ≡ w.life k
-unknown-stays b w e k h = ap (λ t. if names k e && t then lives_on b w k (w.life k) e else w.life k) h ∙ go (names k e)
-  where
-    go : (t : Bool) → (if t && false then lives_on b w k (w.life k) e else w.life k) ≡ w.life k
-    go true = refl
-    go false = refl
+unknown-stays b w e k h = ap (λ t. if names k e && t then lives_on b w k (w.life k) e else w.life k) h ∙ (elim (names k e) as (λ t. (if t && false then lives_on b w k (w.life k) e else w.life k) ≡ w.life k) [ true ↦ refl | false ↦ refl ])
 
 -- ---- a soft node is a life turned round
 
@@ -86,11 +74,10 @@ crashed-soft start kept l = ap (λ g. opened_soft g start)
 module _ (script : List ℕ → Tree) (turns : Turns) (F : NodeFacts) (laws : NodeLaws script turns F) where
   pub told-soft : (b : Base) (n : NodeId) (l : Life) (input : Input) → b.script ≡ script → react turns b.run b.acts n (soft_of l) input ≡ soft_of (after_input b n l input)
   told-soft b n l input same =
-      let g : Given = turns b.run b.acts n (all_effects (soft_of l)) l.mind input in
       let all : reverse (walks.all_effects l) ≡ all_effects (soft_of l) = reverse-append l.gated l.fresh in
       let is : gives b.script b.run b.acts n (walks.all_effects l) l.mind input ≡ forward (turns b.run b.acts n (all_effects (soft_of l)) l.mind input) =
       ap (λ z. gives z b.run b.acts n (walks.all_effects l) l.mind input) same ∙ laws.turns_are b.run b.acts n (walks.all_effects l) l.mind input ∙ ap (λ z. forward (turns b.run b.acts n z l.mind input)) all in
-      with-soft l g ∙ ap (λ z. soft_of (with_given l z)) (sym is)
+      with-soft l (turns b.run b.acts n (all_effects (soft_of l)) l.mind input) ∙ ap (λ z. soft_of (with_given l z)) (sym is)
     where
       with-soft : (l : Life) (g : Given) → with_turn (soft_of l) g ≡ soft_of (with_given l (forward g))
       with-soft l g = ap (λ f. let x : SoftNode = record { past = reverse l.gated; added = f; outs = l.outs ++ g.outs; mind = g.mind } in x)

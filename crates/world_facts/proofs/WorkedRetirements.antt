@@ -1,13 +1,10 @@
 -- A retirement worked by hand: three acts, then a retirement at 3.1.1/1. The definitions compute what it comes to.
-use Rattle.std.proofs.Common.{◌≡◌, ℕ, true, false, List, [], ◌∷◌, reverse, if◌then◌else◌, refl, sym, ◌∙◌, ap, subst, Some, inl, inr}
 use Rattle.std.specs.Prelude.{pos}
-use Rattle.world_facts.proofs.Names.{StampParts, TimeParts, lt, ObjectId, Value, Effect, Put, Stretch, Begin, Decide, Mark, Whole, same_node-refl, floor_of, settle_of, version_count, MayRetire, forward, forwarded, Gone, marks, Plan, Tree, in_plan, Call, log_left, StandsOrGone, ViewedOrBelow, AreEarlier, logs_left, older, replaced, Running, Retiring}
+use Rattle.world_facts.proofs.Names.{StampParts, TimeParts, lt, ObjectId, Value, Effect, Put, Stretch, Begin, Decide, Mark, Whole, same_node-refl, floor_of, settle_of, version_count, MayRetire, forward, forwarded, Gone, marks, Plan, Tree, in_plan, Call, log_left, StandsOrGone, ViewedOrBelow, AreEarlier, logs_left, older, replaced, Running, Retiring, ◌≡◌, ℕ, true, false, List, [], ◌∷◌, reverse, if◌then◌else◌, refl, sym, ◌∙◌, ap, subst, Some, inl, inr, same_stamp, pick, scan}
 use Rattle.pseudo_time.specs.Nodes.{repository}
-use Rattle.pseudo_time.specs.Order.{same_stamp}
 use Rattle.pseudo_time.specs.declared.decisions.Decision.TheVariants.{Committed}
 use Rattle.value_form.specs.declared.values.Value.TheVariants.{Number}
 use Rattle.object_history.specs.Objects.{same_object}
-use Rattle.object_history.specs.History.{pick, scan}
 
 -- the stamp c.1.1, and its first pseudotime
 abbrev stamp : ℕ → StampParts
