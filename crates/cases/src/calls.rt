@@ -5,7 +5,7 @@ use crate::setups::{Pace, Setup, name_of};
 use laboratory::{Kept, LabFates, lab, swallow};
 use medium_port::{MediumName, MeetShelf, MemoryMedium, MemoryShelf, Shelf};
 use pseudo_time::NodeId;
-use std::alloc::Global;
+use std::alloc::{AllocError, Global};
 use std::sync::Wait;
 use std::thread::Threads;
 use stream_port::{FixedClock, MemoryFates, MemorySink, MemorySource};
@@ -70,6 +70,15 @@ fn untaken(
     Ok(media)
 }
 
+// The names of the media that were left.
+fn names_of(alloc: Global, left: &[Kept<MemoryMedium>]) -> Result<Vec<MediumName>, AllocError> {
+    let mut names = Vec::new(alloc);
+    for kept in left {
+        names.push(name_of(kept))?;
+    }
+    Ok(names)
+}
+
 /// The call with these words and this plan, over what was set up.
 pub fn call<R: Threads + Wait + Sync>(
     rt: &R,
@@ -82,10 +91,7 @@ pub fn call<R: Threads + Wait + Sync>(
     let mut source = source_of(alloc, &setup.source, plan)?;
     let mut sink = sink_of(alloc, &setup.sink)?;
     let fates = MemoryFates::new(alloc, setup.rules.to_vec(alloc)?);
-    let mut names = Vec::new(alloc);
-    for kept in &left {
-        names.push(name_of(kept))?;
-    }
+    let names = names_of(alloc, left.as_slice())?;
     let mut shelf = setup.shelf(alloc, left)?;
     let finish = swallow(
         rt,

@@ -1,20 +1,20 @@
 //! Cases are carried out line by line.
 
-use crate::calls::{Called, call, in_lab, meet};
+use crate::calls::{Called, Said, call, in_lab, meet};
 use crate::faults::CaseFault;
-use crate::labs::{barred, tell_lost, tell_words};
-use crate::lines::{Line, Stream, read};
-use crate::plans::{add, bytes_of};
+use crate::labs::{barred, lost_text, words_text};
+use crate::lines::{fate, number, stream_named};
+use crate::media::set_call;
+use crate::plans::add;
 use crate::series::{Series, fails_each, fates_each, stops_each};
-use crate::setups::{Pace, Patch, Setup};
+use crate::setups::Setup;
 use crate::shows::{Part, Shown, acts_of, show, show_medium};
 use laboratory::Kept;
-use medium_port::{MediumName, MemoryMedium};
-use std::alloc::Global;
+use medium_port::MemoryMedium;
+use std::alloc::{AllocError, Global};
 use std::mem;
 use std::sync::Wait;
 use std::thread::Threads;
-use stream_port::FateRule;
 
 /// What the lines so far have come to.
 #[derive(Drop)]
@@ -28,28 +28,30 @@ pub struct Case {
     shown: Vec<Shown>,
 }
 
-// The calls of a stream that fail.
-fn pace(alloc: Global, most: usize, words: &[&str]) -> Result<Pace, CaseFault> {
-    let mut fails = Vec::new(alloc);
-    for word in words {
-        let Ok(number) = word.parse::<u64>() else {
-            return Err(CaseFault::Line);
-        };
-        fails.push(number)?;
-    }
-    Ok(Pace { most, fails })
+// What a call said, whole or its acts alone.
+fn shown_call(alloc: Global, said: &Said, is_whole: bool) -> Result<String, AllocError> {
+    let text = said.text.as_str();
+    show(
+        alloc,
+        said.status,
+        if is_whole { text } else { acts_of(text) },
+    )
 }
 
-// The bytes of a page whose gate is open, with these log records.
-fn page_of(alloc: Global, words: &[&str]) -> Result<Vec<u8>, CaseFault> {
-    let records = bytes_of(alloc, words)?;
-    if records.len() > 4092 {
-        return Err(CaseFault::Place);
+// The words, one behind the other.
+fn joined(alloc: Global, words: &[&str]) -> Result<String, AllocError> {
+    let mut all = String::new(alloc);
+    for word in words {
+        all.push_str(*word)?;
+        all.push(' ')?;
     }
-    let [high, low] = (records.len() as u16).to_be_bytes();
-    let mut page = vec![in alloc; 0xA5, 1, high, low]?;
-    page.extend_from_slice(records.as_slice())?;
-    Ok(page)
+    Ok(all)
+}
+
+// What the laboratory is to do by the words of a line.
+fn options(alloc: Global, words: &str) -> Result<String, CaseFault> {
+    let words = barred(alloc, words)?;
+    words_text(alloc, words.as_slice())
 }
 
 impl Case {
@@ -69,31 +71,22 @@ impl Case {
         mem::replace(&mut self.setup, Setup::new(self.alloc))
     }
 
-    // Adds bytes to a medium.
-    fn patch(
-        &mut self,
-        name: MediumName,
-        page: u32,
-        at: u16,
-        bytes: Vec<u8>,
-    ) -> Result<(), CaseFault> {
-        self.setup.name(name)?;
-        self.setup.patches.push(Patch {
-            name,
-            page,
-            at,
-            bytes,
-        })?;
-        Ok(())
+    // What stays the same in calls with these words.
+    fn series<'a>(&'a self, words: &'a [&'a str]) -> Series<'a> {
+        Series {
+            alloc: self.alloc,
+            plan: self.plan.as_slice(),
+            words,
+            shown: self.shown.as_slice(),
+        }
     }
 
-    fn show_of(&mut self, status: u8, words: &[&str]) -> Result<(), CaseFault> {
-        let mut all = String::new(self.alloc);
-        for word in words {
-            all.push_str(*word)?;
-            all.push(' ')?;
-        }
-        self.shown.push(Shown { status, words: all })?;
+    fn show_of(&mut self, words: &[&str]) -> Result<(), CaseFault> {
+        let [status, words @ ..] = words else {
+            return Err(CaseFault::Line);
+        };
+        let (status, words) = (number(status)?, joined(self.alloc, words)?);
+        self.shown.push(Shown { status, words })?;
         Ok(())
     }
 
@@ -103,231 +96,183 @@ impl Case {
         rt: &R,
         words: &[&str],
         is_whole: bool,
-        said: &mut String,
-    ) -> Result<(), CaseFault> {
+    ) -> Result<String, CaseFault> {
         let setup = self.take_setup();
-        let mut left = mem::replace(&mut self.left, Vec::new(self.alloc));
-        if !setup.again {
-            left = Vec::new(self.alloc);
-        }
+        let left = mem::replace(&mut self.left, Vec::new(self.alloc));
+        let left = if setup.again {
+            left
+        } else {
+            Vec::new(self.alloc)
+        };
         let called = call(rt, self.alloc, &setup, self.plan.as_slice(), words, left)?;
-        let Called { said: told, media } = called;
+        let Called { said, media } = called;
         self.left = media;
-        let text = told.text.as_str();
-        let text = if is_whole { text } else { acts_of(text) };
-        show(self.alloc, said, told.status, text)
+        Ok(shown_call(self.alloc, &said, is_whole)?)
     }
 
-    fn meet<R: Threads + Wait + Sync>(
-        &mut self,
-        rt: &R,
-        looks: u64,
-        words: &[&str],
-        said: &mut String,
-    ) -> Result<(), CaseFault> {
-        let told = meet(rt, self.alloc, looks, self.plan.as_slice(), words)?;
-        show(self.alloc, said, told.status, told.text.as_str())
+    // `meet LOOKS WORD..`: the call with these words over media of which those of repositories meet at their first
+    // writes, each of which looks so often for another.
+    fn meet<R: Threads + Wait + Sync>(&self, rt: &R, words: &[&str]) -> Result<String, CaseFault> {
+        let [looks, words @ ..] = words else {
+            return Err(CaseFault::Line);
+        };
+        let said = meet(rt, self.alloc, number(looks)?, self.plan.as_slice(), words)?;
+        Ok(shown_call(self.alloc, &said, true)?)
     }
 
-    fn lab<R: Threads + Wait + Sync>(
-        &mut self,
-        rt: &R,
-        words: &str,
-        said: &mut String,
-    ) -> Result<(), CaseFault> {
+    fn lab<R: Threads + Wait + Sync>(&mut self, rt: &R, words: &str) -> Result<String, CaseFault> {
         let setup = self.take_setup();
         let words = barred(self.alloc, words)?;
-        let told = in_lab(
-            rt,
-            self.alloc,
-            &setup,
-            self.plan.as_slice(),
-            words.as_slice(),
-        )?;
-        show(self.alloc, said, told.status, told.text.as_str())
+        let plan = self.plan.as_slice();
+        let said = in_lab(rt, self.alloc, &setup, plan, words.as_slice())?;
+        Ok(shown_call(self.alloc, &said, true)?)
     }
 
-    // Shows this part of the pages of the media that the last call left.
-    fn media(&mut self, part: Part, said: &mut String) -> Result<(), CaseFault> {
+    // Shows this part of the pages of the media that the last call left, which are let go. Of volumes above 0 those
+    // alone are shown that aren't blank.
+    fn media(&mut self, part: Part) -> Result<String, CaseFault> {
         let left = mem::replace(&mut self.left, Vec::new(self.alloc));
+        let mut shown = String::new(self.alloc);
         for kept in left {
-            show_medium(self.alloc, said, kept, part)?;
+            shown.push_str(show_medium(self.alloc, kept, part)?.as_str())?;
         }
-        Ok(())
+        Ok(shown)
     }
 
+    // `stops-each FROM LEAST WORD..`: the call with these words, with the moving stops at each call of a medium in
+    // turn, from this one on. At least so many of them are met.
     fn stops_each<R: Threads + Wait + Sync>(
         &mut self,
         rt: &R,
-        from: u64,
-        least: u64,
         words: &[&str],
-        said: &mut String,
-    ) -> Result<(), CaseFault> {
-        let setup = self.take_setup();
-        let series = Series {
-            alloc: self.alloc,
-            plan: self.plan.as_slice(),
-            words,
-            shown: self.shown.as_slice(),
+    ) -> Result<String, CaseFault> {
+        let [from, least, words @ ..] = words else {
+            return Err(CaseFault::Line);
         };
-        let table = stops_each(rt, &series, setup, from)?;
-        table.show(said, least)
+        let (from, least) = (number(from)?, number(least)?);
+        let mut setup = self.take_setup();
+        let table = stops_each(rt, &self.series(words), &mut setup, from)?;
+        Ok(table.show(least)?)
     }
 
+    // `fails-each source MOST WORD..` or `fails-each sink MOST WORD..`: the call with these words, where each call of
+    // a stream fails in turn. The stream moves so many bytes a call.
     fn fails_each<R: Threads + Wait + Sync>(
         &mut self,
         rt: &R,
-        stream: Stream,
-        most: usize,
         words: &[&str],
-        said: &mut String,
-    ) -> Result<(), CaseFault> {
-        let setup = self.take_setup();
-        let series = Series {
-            alloc: self.alloc,
-            plan: self.plan.as_slice(),
-            words,
-            shown: self.shown.as_slice(),
+    ) -> Result<String, CaseFault> {
+        let [stream, most, words @ ..] = words else {
+            return Err(CaseFault::Line);
         };
-        let table = fails_each(rt, &series, setup, stream, most)?;
-        table.show(said, u64::MAX)
+        let (stream, most) = (stream_named(stream)?, number(most)?);
+        let mut setup = self.take_setup();
+        let table = fails_each(rt, &self.series(words), &mut setup, stream, most)?;
+        Ok(table.show(u64::MAX)?)
     }
 
+    // `fates-each KIND N copies C overtake O hold H WORD..`: the call with these words, where in turn each of the
+    // first N messages of a kind comes to this.
     fn fates_each<R: Threads + Wait + Sync>(
         &mut self,
         rt: &R,
-        rule: FateRule,
         words: &[&str],
-        said: &mut String,
-    ) -> Result<(), CaseFault> {
-        let setup = self.take_setup();
-        let series = Series {
-            alloc: self.alloc,
-            plan: self.plan.as_slice(),
-            words,
-            shown: self.shown.as_slice(),
+    ) -> Result<String, CaseFault> {
+        let Some((front, words)) = words.split_at_checked(8) else {
+            return Err(CaseFault::Line);
         };
-        let table = fates_each(rt, &series, setup, rule)?;
-        table.show(said, u64::MAX)
+        let rule = fate(front)?;
+        let mut setup = self.take_setup();
+        let table = fates_each(rt, &self.series(words), &mut setup, rule)?;
+        Ok(table.show(u64::MAX)?)
     }
 
-    // Sets up what the words of a line say of the next call. Any other line is handed back.
-    fn set_up<'a>(&mut self, line: Line<'a>) -> Result<Option<Line<'a>>, CaseFault> {
-        match line {
-            Line::Remark => {}
-            Line::Again => self.setup.again = true,
-            Line::Pages(pages) => self.setup.pages = pages,
-            Line::Fate(rule) => self.setup.rules.push(rule)?,
-            Line::Source(most, fails) => self.setup.source = pace(self.alloc, most, fails)?,
-            Line::Sink(most, fails) => self.setup.sink = pace(self.alloc, most, fails)?,
-            Line::Shown(status, words) => self.show_of(status, words)?,
-            Line::Plan => {
-                self.plan = Vec::new(self.alloc);
-                self.in_plan = true;
-            }
-            line => return Ok(Some(line)),
+    // `lost LOSE COUNT`: which of so many messages a laboratory with this divisor loses.
+    fn lost(&self, words: &[&str]) -> Result<String, CaseFault> {
+        let [lose, count] = words else {
+            return Err(CaseFault::Line);
+        };
+        Ok(lost_text(self.alloc, number(lose)?, number(count)?)?)
+    }
+
+    // The plan stands on the next lines.
+    fn begin_plan(&mut self) {
+        self.plan = Vec::new(self.alloc);
+        self.in_plan = true;
+    }
+
+    // Sets up what a line says of the next call: `plan`, where the plan stands on the lines up to `end plan` and
+    // stays until the next one; `shown STATUS WORD..`, where of a text with this status `stops-each` shows the lines
+    // that begin with one of these words; else what `set_call` sets up.
+    fn set_up(&mut self, verb: &str, words: &[&str]) -> Result<String, CaseFault> {
+        match (verb, words) {
+            ("plan", []) => self.begin_plan(),
+            ("shown", words) => self.show_of(words)?,
+            _ => set_call(self.alloc, &mut self.setup, verb, words)?,
         }
-        Ok(None)
+        Ok(String::new(self.alloc))
     }
 
-    // Sets up what the words of a line say of a medium. Any other line is handed back.
-    fn set_medium<'a>(&mut self, line: Line<'a>) -> Result<Option<Line<'a>>, CaseFault> {
-        match line {
-            Line::Medium(name, pages) => {
-                self.setup.name(name)?;
-                self.setup.sizes.push((name, pages))?;
-            }
-            Line::Missing(name) => self.setup.missing.push(name)?,
-            Line::Stop(name, stop) => {
-                self.setup.name(name)?;
-                self.setup.stops.push((name, stop))?;
-            }
-            Line::Moving(name, stop) => {
-                self.setup.name(name)?;
-                self.setup.moving.push((name, stop))?;
-            }
-            Line::Page(name, page, words) => {
-                self.patch(name, page, 0, page_of(self.alloc, words)?)?
-            }
-            Line::Fill(name, from, to, words) => {
-                for volume in from..=to {
-                    let records = page_of(self.alloc, words)?;
-                    self.patch(MediumName { volume, ..name }, 0, 0, records)?;
-                }
-            }
-            Line::Bytes(name, page, at, words) => {
-                self.patch(name, page, at, bytes_of(self.alloc, words)?)?
-            }
-            line => return Ok(Some(line)),
-        }
-        Ok(None)
-    }
-
-    // Makes the calls that the words of a line ask for.
-    fn do_line<R: Threads + Wait + Sync>(
-        &mut self,
-        rt: &R,
-        line: Line<'_>,
-        said: &mut String,
-    ) -> Result<(), CaseFault> {
-        match line {
-            Line::Call(words) => self.call(rt, words, true, said),
-            Line::Acts(words) => self.call(rt, words, false, said),
-            Line::StopsEach(from, least, words) => self.stops_each(rt, from, least, words, said),
-            Line::FailsEach(stream, most, words) => self.fails_each(rt, stream, most, words, said),
-            Line::FatesEach(rule, words) => self.fates_each(rt, rule, words, said),
-            Line::Meet(looks, words) => self.meet(rt, looks, words, said),
-            Line::Media => self.media(Part::Records, said),
-            Line::Heads => self.media(Part::Head, said),
-            Line::Lost(lose, count) => tell_lost(self.alloc, lose, count, said),
-            _ => Err(CaseFault::Line),
-        }
-    }
-
-    // Carries out a line by its words.
+    // Makes the calls that a line asks for, or shows what one has left: `call WORD..` is the call with these words,
+    // `acts WORD..` the same without the line of the wire in the answer; `media` shows the pages of the media that
+    // the call before this line left, `heads` of each page its first five bytes.
     fn by_words<R: Threads + Wait + Sync>(
         &mut self,
         rt: &R,
-        line: &str,
-        said: &mut String,
-    ) -> Result<(), CaseFault> {
-        let words: Vec<&str> = line.split(' ').collect(self.alloc)?;
-        let Some(line) = read(words.as_slice()) else {
-            return Err(CaseFault::Line);
-        };
-        let Some(line) = self.set_up(line)? else {
-            return Ok(());
-        };
-        match self.set_medium(line)? {
-            Some(line) => self.do_line(rt, line, said),
-            None => Ok(()),
+        verb: &str,
+        words: &[&str],
+    ) -> Result<String, CaseFault> {
+        match (verb, words) {
+            ("call", _) => self.call(rt, words, true),
+            ("acts", _) => self.call(rt, words, false),
+            ("stops-each", _) => self.stops_each(rt, words),
+            ("fails-each", _) => self.fails_each(rt, words),
+            ("fates-each", _) => self.fates_each(rt, words),
+            ("meet", _) => self.meet(rt, words),
+            ("media", []) => self.media(Part::Records),
+            ("heads", []) => self.media(Part::Head),
+            ("lost", _) => self.lost(words),
+            _ => self.set_up(verb, words),
         }
     }
 
-    /// Carries out a line. What came of it is added to what was said. Beside the lines that are read by their
-    /// words, `lab A|B` is the laboratory with these words and `options A|B` is what they tell it.
+    // Carries out a line by its words. Of a remark and of an empty line nothing comes.
+    fn by_line<R: Threads + Wait + Sync>(
+        &mut self,
+        rt: &R,
+        line: &str,
+    ) -> Result<String, CaseFault> {
+        let words: Vec<&str> = line.split(' ').collect(self.alloc)?;
+        match words.as_slice() {
+            [] | ["", ..] | ["#", ..] => Ok(String::new(self.alloc)),
+            [verb, words @ ..] => self.by_words(rt, verb, words),
+        }
+    }
+
+    // Adds a line to the plan, or ends it.
+    fn plan_line(&mut self, line: &str) -> Result<String, CaseFault> {
+        if line == "end plan" {
+            self.in_plan = false;
+        } else {
+            add(self.alloc, &mut self.plan, line)?;
+        }
+        Ok(String::new(self.alloc))
+    }
+
+    /// What comes of a line. Beside the lines that are read by their words, `lab A|B` is the laboratory with these
+    /// words and `options A|B` is what they have it do.
     pub fn carry_out<R: Threads + Wait + Sync>(
         &mut self,
         rt: &R,
         line: &str,
-        said: &mut String,
-    ) -> Result<(), CaseFault> {
-        if self.in_plan && line == "end plan" {
-            self.in_plan = false;
-            return Ok(());
-        }
+    ) -> Result<String, CaseFault> {
         if self.in_plan {
-            return add(self.alloc, &mut self.plan, line);
+            return self.plan_line(line);
         }
-        let (verb, rest) = match line.split_once(' ') {
-            Some(parts) => parts,
-            None => (line, ""),
-        };
-        match verb {
-            "lab" => self.lab(rt, rest, said),
-            "options" => tell_words(self.alloc, barred(self.alloc, rest)?.as_slice(), said),
-            _ => self.by_words(rt, line, said),
+        match line.split_once(' ').unwrap_or((line, "")) {
+            ("lab", words) => self.lab(rt, words),
+            ("options", words) => options(self.alloc, words),
+            _ => self.by_line(rt, line),
         }
     }
 }

@@ -1,7 +1,7 @@
 use std::alloc::{AllocError, AllocFailed};
 
 /// Why a line wasn't carried out.
-#[derive(Clone, Copy, Debug, PartialEq, Eq)]
+#[derive(Clone, Copy, Debug)]
 pub enum CaseFault {
     NoMemory,
     /// It is no line.

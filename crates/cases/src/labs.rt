@@ -1,7 +1,7 @@
 //! The words of the laboratory and what it loses.
 
 use crate::faults::CaseFault;
-use laboratory::{LabFates, LabFault, lab_words};
+use laboratory::{Lab, LabFates, LabFault, lab_words};
 use std::alloc::{AllocError, Global};
 use stream_port::Fates;
 
@@ -13,27 +13,25 @@ pub fn barred<'a>(alloc: Global, text: &'a str) -> Result<Vec<&'a str>, AllocErr
     text.split('|').collect(alloc)
 }
 
-/// Says what these words have the laboratory do.
-pub fn tell_words(alloc: Global, words: &[&str], said: &mut String) -> Result<(), CaseFault> {
+/// What these words have the laboratory do.
+pub fn words_text(alloc: Global, words: &[&str]) -> Result<String, CaseFault> {
     match lab_words(alloc, words) {
-        Ok(lab) => {
-            let (pages, lose, stop) = (lab.pages, lab.lose, lab.stop);
-            let text = lab.text.as_str();
-            let line = format!(in alloc;
-                "  pages {pages} lose {lose} stop {stop} words [{text}]\n"
-            )?;
-            said.push_str(line.as_str())?;
-            Ok(())
-        }
+        Ok(lab) => Ok(lab_text(alloc, &lab)?),
         Err(LabFault::Words) => Err(CaseFault::Words),
         Err(LabFault::NoMemory) => Err(CaseFault::NoMemory),
     }
 }
 
-/// Says which of the messages with the numbers from 1 on a laboratory with this divisor loses.
-pub fn tell_lost(alloc: Global, lose: u32, count: u32, said: &mut String) -> Result<(), CaseFault> {
+fn lab_text(alloc: Global, lab: &Lab) -> Result<String, AllocError> {
+    let (pages, lose, stop) = (lab.pages, lab.lose, lab.stop);
+    let text = lab.text.as_str();
+    format!(in alloc; "  pages {pages} lose {lose} stop {stop} words [{text}]\n")
+}
+
+/// Which of the messages with the numbers from 1 on a laboratory with this divisor loses.
+pub fn lost_text(alloc: Global, lose: u32, count: u32) -> Result<String, AllocError> {
     let mut fates = LabFates::new(alloc, lose);
-    said.push_str("  lost")?;
+    let mut said = String::from_str(alloc, "  lost")?;
     for number in 0..count {
         let number = number.saturating_add(1);
         if fates.fate(number, 5)?.copies == 0 {
@@ -41,5 +39,5 @@ pub fn tell_lost(alloc: Global, lose: u32, count: u32, said: &mut String) -> Res
         }
     }
     said.push('\n')?;
-    Ok(())
+    Ok(said)
 }

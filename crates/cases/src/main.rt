@@ -7,6 +7,7 @@ mod cases;
 mod faults;
 mod labs;
 mod lines;
+mod media;
 mod plans;
 mod series;
 mod setups;
@@ -22,6 +23,27 @@ use std::sync::Wait;
 use std::thread::Threads;
 use std::{fs, io};
 
+// What is printed of a fault. Want of memory is none of the line's.
+fn fault_text(alloc: Global, fault: CaseFault) -> Result<String, AllocError> {
+    match fault {
+        CaseFault::NoMemory => Err(AllocError),
+        fault => format!(in alloc; "  fault {fault:?}\n"),
+    }
+}
+
+// What came of a line, or its fault.
+fn come_of<R: Threads + Wait + Sync>(
+    rt: &R,
+    alloc: Global,
+    case: &mut Case,
+    line: &str,
+) -> Result<String, AllocError> {
+    match case.carry_out(rt, line) {
+        Ok(said) => Ok(said),
+        Err(fault) => fault_text(alloc, fault),
+    }
+}
+
 // Carries out the cases of a text.
 fn all<R: Threads + Wait + Sync>(
     rt: &R,
@@ -33,13 +55,23 @@ fn all<R: Threads + Wait + Sync>(
     for line in text.lines() {
         said.push_str(line)?;
         said.push('\n')?;
-        match case.carry_out(rt, line, said) {
-            Ok(()) => {}
-            Err(CaseFault::NoMemory) => return Err(AllocError),
-            Err(fault) => said.push_str(format!(in alloc; "  fault {fault:?}\n")?.as_str())?,
-        }
+        said.push_str(come_of(rt, alloc, &mut case, line)?.as_str())?;
     }
     Ok(())
+}
+
+// Carries out the cases of a file.
+fn file<R: Files + AllocGlobal + Threads + Wait + Sync>(
+    rt: &R,
+    alloc: Global,
+    name: &str,
+    said: &mut String,
+) -> Result<(), AllocError> {
+    said.push_str(format!(in alloc; "cases {name}\n")?.as_str())?;
+    match fs::read_to_string(rt, name) {
+        Ok(text) => all(rt, alloc, text.as_str(), said),
+        Err(_) => said.push_str("  no file\n"),
+    }
 }
 
 // Carries out the cases of these files.
@@ -50,11 +82,7 @@ fn files<R: Files + AllocGlobal + Threads + Wait + Sync>(
 ) -> Result<String, AllocError> {
     let mut said = String::new(alloc);
     for name in names.lines() {
-        said.push_str(format!(in alloc; "cases {name}\n")?.as_str())?;
-        match fs::read_to_string(rt, name) {
-            Ok(text) => all(rt, alloc, text.as_str(), &mut said)?,
-            Err(_) => said.push_str("  no file\n")?,
-        }
+        file(rt, alloc, name, &mut said)?;
     }
     Ok(said)
 }

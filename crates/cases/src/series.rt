@@ -8,7 +8,7 @@ use crate::shows::{Shown, acts_of, crashes_of, is_down, lines_of};
 use crate::tables::{Ending, Table};
 use laboratory::Kept;
 use medium_port::MemoryMedium;
-use std::alloc::Global;
+use std::alloc::{AllocError, Global};
 use std::sync::Wait;
 use std::thread::Threads;
 use stream_port::FateRule;
@@ -30,14 +30,13 @@ pub struct Series<'a> {
 pub fn stops_each<R: Threads + Wait + Sync>(
     rt: &R,
     series: &Series<'_>,
-    setup: Setup,
+    setup: &mut Setup,
     from: u64,
 ) -> Result<Table, CaseFault> {
-    let mut setup = setup;
     let mut table = Table::new(series.alloc);
     for number in from..=MOST_CALLS {
         setup.at_call = number;
-        match stopped(rt, series, &setup)? {
+        match stopped(rt, series, setup)? {
             Some(ending) => table.add(number, ending)?,
             None => break,
         }
@@ -71,7 +70,7 @@ fn stopped<R: Threads + Wait + Sync>(
         alloc,
         plan,
         words,
-        shown,
+        ..
     } = *series;
     let Called { said, media } = call(rt, alloc, setup, plan, words, Vec::new(alloc))?;
     let Some(crashes) = crashes_in(words, said.text.as_str()) else {
@@ -85,12 +84,44 @@ fn stopped<R: Threads + Wait + Sync>(
     } else {
         String::new(alloc)
     };
-    Ok(Some(Ending {
+    Ok(Some(ending_of(series, &said, again, crashes)?))
+}
+
+// What a call has come to, which said this.
+fn ending_of(
+    series: &Series<'_>,
+    said: &Said,
+    again: String,
+    crashes: u64,
+) -> Result<Ending, AllocError> {
+    Ok(Ending {
         status: said.status,
-        text: lines_of(alloc, shown, &said, "    ")?,
+        text: lines_of(series.alloc, series.shown, said, "    ")?,
         again,
         crashes,
-    }))
+    })
+}
+
+// The media of a call, once the whole system began anew behind so many calls.
+fn restarted_all(
+    alloc: Global,
+    media: Vec<Kept<MemoryMedium>>,
+    calls: u64,
+) -> Result<Vec<Kept<MemoryMedium>>, AllocError> {
+    let mut left = Vec::new(alloc);
+    for kept in media {
+        let Kept {
+            node,
+            volume,
+            medium,
+        } = kept;
+        left.push(Kept {
+            node,
+            volume,
+            medium: restarted(medium, calls),
+        })?;
+    }
+    Ok(left)
 }
 
 // What shows the same call over the media that were left. Where all was done before, all is as it was.
@@ -105,30 +136,24 @@ fn called_again<R: Threads + Wait + Sync>(
         alloc,
         plan,
         words,
-        shown,
+        ..
     } = *series;
+    let left = restarted_all(alloc, media, setup.at_call)?;
     let still = setup.with_fates(alloc)?;
-    let mut left = Vec::new(alloc);
-    for kept in media {
-        let Kept {
-            node,
-            volume,
-            medium,
-        } = kept;
-        left.push(Kept {
-            node,
-            volume,
-            medium: restarted(medium, setup.at_call),
-        })?;
-    }
-    let Called { said, .. } = call(rt, alloc, &still, plan, words, left)?;
-    let status = said.status;
-    let mut again = format!(in alloc; "    again: status {status}\n")?;
-    again.push_str(lines_of(alloc, shown, &said, "      ")?.as_str())?;
-    if before.status == 0 {
-        again.push_str(how_again(before.text.as_str(), said.text.as_str()))?;
-    }
-    Ok(again)
+    let said = call(rt, alloc, &still, plan, words, left)?.said;
+    Ok(again_text(series, before, &said)?)
+}
+
+// What the call that was made again shows.
+fn again_text(series: &Series<'_>, before: &Said, said: &Said) -> Result<String, AllocError> {
+    let (alloc, status) = (series.alloc, said.status);
+    let lines = lines_of(alloc, series.shown, said, "      ")?;
+    let how = if before.status == 0 {
+        how_again(before.text.as_str(), said.text.as_str())
+    } else {
+        ""
+    };
+    format!(in alloc; "    again: status {status}\n{}{how}", lines.as_str())
 }
 
 // How a text stands to the one before it.
@@ -142,32 +167,36 @@ fn how_again(before: &str, text: &str) -> &'static str {
     }
 }
 
-/// The call where in turn each of the first messages of a kind has this fate, up to that of the rule.
-pub fn fates_each<R: Threads + Wait + Sync>(
+// What comes of the call with one fate more.
+fn fated<R: Threads + Wait + Sync>(
     rt: &R,
     series: &Series<'_>,
-    setup: Setup,
+    setup: &mut Setup,
     rule: FateRule,
-) -> Result<Table, CaseFault> {
+) -> Result<Ending, CaseFault> {
     let Series {
         alloc,
         plan,
         words,
-        shown,
+        ..
     } = *series;
-    let mut setup = setup;
-    let mut table = Table::new(alloc);
+    setup.rules.push(rule)?;
+    let said = call(rt, alloc, setup, plan, words, Vec::new(alloc))?.said;
+    let _ = setup.rules.pop();
+    Ok(ending_of(series, &said, String::new(alloc), 0)?)
+}
+
+/// The call where in turn each of the first messages of a kind has this fate, up to that of the rule.
+pub fn fates_each<R: Threads + Wait + Sync>(
+    rt: &R,
+    series: &Series<'_>,
+    setup: &mut Setup,
+    rule: FateRule,
+) -> Result<Table, CaseFault> {
+    let mut table = Table::new(series.alloc);
     for number in 0..rule.nth {
         let nth = number.saturating_add(1);
-        setup.rules.push(FateRule { nth, ..rule })?;
-        let said = call(rt, alloc, &setup, plan, words, Vec::new(alloc))?.said;
-        let _ = setup.rules.pop();
-        let ending = Ending {
-            status: said.status,
-            text: lines_of(alloc, shown, &said, "    ")?,
-            again: String::new(alloc),
-            crashes: 0,
-        };
+        let ending = fated(rt, series, setup, FateRule { nth, ..rule })?;
         table.add(u64::from(nth), ending)?;
     }
     Ok(table)
@@ -177,7 +206,7 @@ pub fn fates_each<R: Threads + Wait + Sync>(
 pub fn fails_each<R: Threads + Wait + Sync>(
     rt: &R,
     series: &Series<'_>,
-    setup: Setup,
+    setup: &mut Setup,
     stream: Stream,
     most: usize,
 ) -> Result<Table, CaseFault> {
@@ -187,12 +216,11 @@ pub fn fails_each<R: Threads + Wait + Sync>(
         words,
         ..
     } = *series;
-    let mut setup = setup;
-    let whole = call(rt, alloc, &setup, plan, words, Vec::new(alloc))?.said;
+    let whole = call(rt, alloc, setup, plan, words, Vec::new(alloc))?.said;
     let mut table = Table::new(alloc);
     for number in 1..=MOST_CALLS {
-        fail_at(alloc, &mut setup, stream, most, number)?;
-        let said = call(rt, alloc, &setup, plan, words, Vec::new(alloc))?.said;
+        fail_at(alloc, setup, stream, most, number)?;
+        let said = call(rt, alloc, setup, plan, words, Vec::new(alloc))?.said;
         if said.status == whole.status {
             break;
         }
@@ -233,14 +261,12 @@ fn failed(
     let taken = number.saturating_sub(1).saturating_mul(most as u64);
     let is_front = said.text.len() as u64 == taken
         && whole.text.as_str().starts_with(said.text.as_str());
-    let text = if is_front {
-        String::from_str(alloc, "    what the calls before it took\n")?
-    } else {
-        lines_of(alloc, series.shown, &said, "    ")?
-    };
+    if !is_front {
+        return Ok(ending_of(series, &said, String::new(alloc), 0)?);
+    }
     Ok(Ending {
         status: said.status,
-        text,
+        text: String::from_str(alloc, "    what the calls before it took\n")?,
         again: String::new(alloc),
         crashes: 0,
     })

@@ -5,16 +5,23 @@ use crate::faults::CaseFault;
 use crate::setups::reopened;
 use laboratory::Kept;
 use medium_port::{Medium, MemoryMedium};
-use pseudo_time::NodeKind;
-use std::alloc::Global;
+use pseudo_time::{NodeId, NodeKind};
+use std::alloc::{AllocError, Global};
 
-/// Shows a status and a text, each line behind two spaces.
-pub fn show(alloc: Global, said: &mut String, status: u8, text: &str) -> Result<(), CaseFault> {
-    said.push_str(format!(in alloc; "  status {status}\n")?.as_str())?;
+// Adds a line behind these spaces.
+fn push_line(lines: &mut String, before: &str, line: &str) -> Result<(), AllocError> {
+    lines.push_str(before)?;
+    lines.push_str(line)?;
+    lines.push('\n')
+}
+
+/// A status and a text, each line behind two spaces.
+pub fn show(alloc: Global, status: u8, text: &str) -> Result<String, AllocError> {
+    let mut lines = format!(in alloc; "  status {status}\n")?;
     for line in text.lines() {
-        said.push_str(format!(in alloc; "  {line}\n")?.as_str())?;
+        push_line(&mut lines, "  ", line)?;
     }
-    Ok(())
+    Ok(lines)
 }
 
 // The word with which a line begins.
@@ -51,11 +58,11 @@ pub fn lines_of(
     shown: &[Shown],
     said: &Said,
     before: &str,
-) -> Result<String, CaseFault> {
+) -> Result<String, AllocError> {
     let mut lines = String::new(alloc);
     for line in said.text.as_str().lines() {
         if is_shown(shown, said.status, line) {
-            lines.push_str(format!(in alloc; "{before}{line}\n")?.as_str())?;
+            push_line(&mut lines, before, line)?;
         }
     }
     Ok(lines)
@@ -122,38 +129,31 @@ pub enum Part {
     Head,
 }
 
-// Shows the log records on a page, or which piece of one, and how long it is.
-fn show_records(alloc: Global, said: &mut String, bytes: &[u8; 4096]) -> Result<(), CaseFault> {
+// The log records on a page, or which piece of one, and how long it is.
+fn show_records(alloc: Global, bytes: &[u8; 4096]) -> Result<String, AllocError> {
     match (records_of(bytes), piece_of(bytes)) {
-        (Some(records), None) => said.push_str(hex::encode(alloc, records)?.as_str())?,
+        (Some(records), None) => hex::encode(alloc, records),
         (Some(records), Some(piece)) => {
             let size = records.len();
-            said.push_str(format!(in alloc; "{piece} {size}")?.as_str())?;
+            format!(in alloc; "{piece} {size}")
         }
-        (None, _) => said.push_str("spoiled")?,
+        (None, _) => String::from_str(alloc, "spoiled"),
     }
-    Ok(())
 }
 
-// Shows this part of a page behind the name of its medium, where anything stands on it.
+// This part of a page behind the name of its medium.
 fn show_page(
     alloc: Global,
-    said: &mut String,
     name: &str,
     page: u32,
     bytes: &[u8; 4096],
     part: Part,
-) -> Result<(), CaseFault> {
-    if bytes.iter().all(|byte| *byte == 0) {
-        return Ok(());
-    }
-    said.push_str(format!(in alloc; "  {name} page {page} ")?.as_str())?;
-    match part {
-        Part::Records => show_records(alloc, said, bytes)?,
-        Part::Head => said.push_str(hex::encode(alloc, &bytes[..5])?.as_str())?,
-    }
-    said.push('\n')?;
-    Ok(())
+) -> Result<String, AllocError> {
+    let shown = match part {
+        Part::Records => show_records(alloc, bytes)?,
+        Part::Head => hex::encode(alloc, &bytes[..5])?,
+    };
+    format!(in alloc; "  {name} page {page} {}\n", shown.as_str())
 }
 
 // The pages of a medium on which anything stands.
@@ -171,34 +171,39 @@ fn shown_pages(
         if medium.read(page, &mut bytes).is_err() {
             return Err(CaseFault::Medium);
         }
-        show_page(alloc, &mut said, name, page, &bytes, part)?;
+        if bytes.iter().any(|byte| *byte != 0) {
+            said.push_str(show_page(alloc, name, page, &bytes, part)?.as_str())?;
+        }
     }
     Ok(said)
 }
 
-/// Shows this part of the pages of a medium that was left. A blank volume above 0 isn't shown.
+// The name of a medium. That of volume 0 is its node's.
+fn text_of(alloc: Global, node: NodeId, volume: u32) -> Result<String, AllocError> {
+    let (kind, number) = (name_of(node.kind), node.number);
+    if volume == 0 {
+        format!(in alloc; "{kind} {number}")
+    } else {
+        format!(in alloc; "{kind} {number}-{volume}")
+    }
+}
+
+/// This part of the pages of a medium that was left. A blank volume above 0 isn't shown.
 pub fn show_medium(
     alloc: Global,
-    said: &mut String,
     kept: Kept<MemoryMedium>,
     part: Part,
-) -> Result<(), CaseFault> {
+) -> Result<String, CaseFault> {
     let Kept {
         node,
         volume,
         medium,
     } = kept;
-    let (kind, number) = (name_of(node.kind), node.number);
-    let name = if volume == 0 {
-        format!(in alloc; "{kind} {number}")?
-    } else {
-        format!(in alloc; "{kind} {number}-{volume}")?
-    };
     let count = medium.pages();
+    let name = text_of(alloc, node, volume)?;
     let pages = shown_pages(alloc, name.as_str(), medium, part)?;
-    if volume == 0 || !pages.is_empty() {
-        said.push_str(format!(in alloc; "  {name} pages {count}\n")?.as_str())?;
-        said.push_str(pages.as_str())?;
+    if volume != 0 && pages.is_empty() {
+        return Ok(pages);
     }
-    Ok(())
+    Ok(format!(in alloc; "  {} pages {count}\n{}", name.as_str(), pages.as_str())?)
 }

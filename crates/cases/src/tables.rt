@@ -1,7 +1,7 @@
 //! What calls in turn have come to.
 
 use crate::faults::CaseFault;
-use std::alloc::Global;
+use std::alloc::{AllocError, Global};
 
 /// What came of one of the calls.
 #[derive(Drop)]
@@ -47,26 +47,27 @@ impl Range {
     }
 
     // Of the calls in the last range at least so many are reported, and no greater number.
-    fn show(&self, alloc: Global, said: &mut String, least: u64) -> Result<(), CaseFault> {
-        let Range {
-            first,
-            last,
-            ending,
-        } = self;
-        let status = ending.status;
-        let head = if *last >= least {
-            format!(in alloc; "  calls {first} to {least} or more: status {status}\n")?
+    fn head(&self, alloc: Global, least: u64) -> Result<String, AllocError> {
+        let (first, last, status) = (self.first, self.last, self.ending.status);
+        if last >= least {
+            format!(in alloc; "  calls {first} to {least} or more: status {status}\n")
         } else {
-            format!(in alloc; "  calls {first} to {last}: status {status}\n")?
-        };
-        said.push_str(head.as_str())?;
-        said.push_str(ending.text.as_str())?;
-        said.push_str(ending.again.as_str())?;
-        if ending.crashes > 0 {
-            let crashes = ending.crashes;
-            said.push_str(format!(in alloc; "    at most {crashes} crashes\n")?.as_str())?;
+            format!(in alloc; "  calls {first} to {last}: status {status}\n")
         }
-        Ok(())
+    }
+
+    // How many crashes there were, if any.
+    fn crashes(&self, alloc: Global) -> Result<String, AllocError> {
+        match self.ending.crashes {
+            0 => Ok(String::new(alloc)),
+            crashes => format!(in alloc; "    at most {crashes} crashes\n"),
+        }
+    }
+
+    fn show(&self, alloc: Global, least: u64) -> Result<String, AllocError> {
+        let (head, crashes) = (self.head(alloc, least)?, self.crashes(alloc)?);
+        let (text, again) = (self.ending.text.as_str(), self.ending.again.as_str());
+        format!(in alloc; "{}{text}{again}{}", head.as_str(), crashes.as_str())
     }
 }
 
@@ -94,11 +95,12 @@ impl Table {
         Ok(())
     }
 
-    /// Shows it. No call's number above the least one is reported.
-    pub fn show(&self, said: &mut String, least: u64) -> Result<(), CaseFault> {
+    /// What it shows. No call's number above the least one is reported.
+    pub fn show(&self, least: u64) -> Result<String, AllocError> {
+        let mut said = String::new(self.alloc);
         for range in &self.ranges {
-            range.show(self.alloc, said, least)?;
+            said.push_str(range.show(self.alloc, least)?.as_str())?;
         }
-        Ok(())
+        Ok(said)
     }
 }
