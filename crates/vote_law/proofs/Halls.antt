@@ -1,17 +1,8 @@
 -- What polls and members have said at each place of a trace without a Crash and without a Tick, where each message has one copy.
-use Rattle.std.proofs.Common.{◌≡◌, ℕ, zero, suc, ◌+◌, ◌≤◌, ◌<◌, Bool, true, false, List, [], ◌∷◌, ◌++◌, map, length, inl, inr, refl, sym, ap, subst, ◌∙◌, arith}
-use Rattle.std.specs.Prelude.{Option, Some, None, ◌==◌, ◌&&◌, ◌⊎◌, is_some, min, slice_get, if◌then◌else◌}
-use Rattle.std.proofs.lemmas.Bool.{eqb-true, and_parts}
-use Rattle.std.proofs.Math.Bool.{and-false}
-use Rattle.std.proofs.lemmas.List.{append-nil, append_assoc, length-append}
-use Rattle.vote_law.proofs.Names.{Every, Has, every-append, repository, broker, is_broker, same_node, NodeId, NodeKind, Effect, Message, Out, Post, posts, count, numbered, same_is, same_node-refl, Fate, RecordState, Unknown, Decided, StampParts, Decision, same_stamp, record_of, Ballot, MemberNumber, First, Second, Third, book, quiet, owed, begin_by, close_by, row, on_message, Given, number_of, member, voter_at, voter_of, PollState, PollGiven, ballot, with_ballot, held, to_member, outstanding, asked, unless_held, begin_to, begun_heard, vote_heard, heard_from, heard_by, ignored, poll_goes, poll_takes, Member, Line, all_effects, took, shut, voter-member, Entry, Take, Go, Learn, Hear, Gate, Crash, Down, Tick, MayTake, Flags, Sending, names, flagged, Base, Hall, world_of, member_took, poll_took, voter_life, life_of, leaving, step, Rule, IsPlain}
-use Rattle.pseudo_time.proofs.ListLemmas.{every-map}
+use Rattle.vote_law.proofs.Names.{Every, every-append, repository, broker, is_broker, same_node, NodeId, NodeKind, Effect, Message, Out, count, numbered, same_is, Fate, RecordState, Unknown, Decided, StampParts, Decision, same_stamp, record_of, Ballot, MemberNumber, First, Second, Third, book, quiet, owed, begin_by, close_by, row, on_message, Given, number_of, member, voter_of, PollState, PollGiven, ballot, with_ballot, held, outstanding, asked, unless_held, begun_heard, vote_heard, heard_from, heard_by, ignored, poll_goes, poll_takes, Member, Line, all_effects, took, shut, voter-member, Entry, Take, Go, Learn, Hear, Gate, Crash, Down, Tick, MayTake, Flags, Sending, names, flagged, Base, Hall, world_of, member_took, poll_took, life_of, step, Rule, IsPlain, ◌≡◌, ℕ, zero, suc, ◌+◌, ◌<◌, Bool, true, false, List, [], ◌∷◌, ◌++◌, length, refl, sym, ap, subst, ◌∙◌, arith, Option, Some, None, ◌&&◌, is_some, min, slice_get, if◌then◌else◌, eqb-true, and_parts, and-false, append-nil, append_assoc, length-append, takes-hears, held-stays, MayGo, with_due}
 use Rattle.pseudo_time.specs.declared.nodes.NodeKind.TheVariants as kind
 use Rattle.pseudo_time.specs.declared.down_causes.DownCause.{DownCause}
 use Rattle.message_form.specs.declared.messages.Message.TheVariants as message
-use Rattle.record_votes.proofs.PollLemmas.{takes-hears, held-stays}
-use Rattle.world_core.specs.Legal.{MayGo, MayGate}
-use Rattle.world_core.specs.Walks.{with_due}
 use Rattle.vote_law.proofs.Letters.{Mark, marked, sendings_of, FreeFrom, other-number, waiting, waiting-append, Flips, flips-behind, between, marks, marks-append, own-marks, other-marks, passed-marks, flipped-marks}
 use Rattle.vote_law.proofs.Talks.{Says, Talks, member-gives, poll-gives, talks-later, poll-holds-none, poll-went, with-says}
 
@@ -64,14 +55,11 @@ message-to log moment from n m not-it = if-none (is_broker from.kind) n (row log
 -- a poll that hears one member says nothing to another, and keeps what it heard of it
 ballot-kept : (p : PollState) (k s : MemberNumber) (b : Ballot) → same_node (member k) (member s) ≡ false → ballot (with_ballot p k b) s ≡ ballot p s
 ballot-kept p First First b e = no (sym e)
-ballot-kept p First Second b e = refl
-ballot-kept p First Third b e = refl
-ballot-kept p Second First b e = refl
 ballot-kept p Second Second b e = no (sym e)
-ballot-kept p Second Third b e = refl
-ballot-kept p Third First b e = refl
-ballot-kept p Third Second b e = refl
+ballot-kept p _ First b e = refl
+ballot-kept p _ Second b e = refl
 ballot-kept p Third Third b e = no (sym e)
+ballot-kept p _ Third b e = refl
 
 module _ (p : PollState) (s : MemberNumber) where
   abbrev Passes : PollGiven → Type 0
@@ -553,8 +541,7 @@ module _ (b : Base) (h : Hall) (c : HallFacts b h) (fates : List Fate) (plain : 
   took-free : (n : NodeId) (number : ℕ) → MayTake fates (world_of h) n number → FreeFrom (number ∷ h.taken) (1 + length h.sendings)
   took-free n number r j above =
       let p : (k : ℕ) × (number ≡ k + 1) × (slice_get h.sendings k ≡ Some r.sending) = number-place h.sendings number r.sending r.sent in
-      let less : p.0 < length h.sendings = within-list h.sendings p.0 r.sending p.2 in
-      other-number number j (λ e. (let is : number ≡ j = eqb-true number j e in absurd (omega (arith, is, p.1, less, above)))) h.taken ∙ c.free j above
+      other-number number j (λ e. (let is : number ≡ j = eqb-true number j e in absurd (omega (arith, is, p.1, within-list h.sendings p.0 r.sending p.2, above)))) h.taken ∙ c.free j above
 
   gated-free : (n : NodeId) → FreeFrom h.taken (1 + length (h.sendings ++ sendings_of h.ticks n (life_of h n.kind n.number).outs))
   gated-free n j above = c.free j (omega (arith, above, length-append h.sendings (sendings_of h.ticks n (life_of h n.kind n.number).outs)))
@@ -580,20 +567,12 @@ module _ (b : Base) (h : Hall) (c : HallFacts b h) (fates : List Fate) (plain : 
   -- ---- flags
 
   known-flagged : (k : NodeKind) (f : Flags) (e : Entry) → (flagged h.last k f e).known ≡ f.known
-  known-flagged k f (Take n number) = refl
   known-flagged kind.Repository f (Go n) = refl
   known-flagged kind.Broker f (Go n) = refl
   known-flagged kind.Repository f (Learn n stamp committed) = refl
   known-flagged kind.Broker f (Learn n stamp committed) = refl
-  known-flagged k f (Hear n) = heard-known h.last
-    where
-      heard-known : (last : Option ℕ) → (flagged last k f (Hear n)).known ≡ f.known
-      heard-known None = refl
-      heard-known (Some t) = refl
-  known-flagged k f (Gate n) = refl
-  known-flagged k f (Crash n kept) = refl
-  known-flagged k f (Down n cause) = refl
-  known-flagged k f (Tick moment) = refl
+  known-flagged k f (Hear n) = elim h.last as (λ last. (flagged last k f (Hear n)).known ≡ f.known) [ None ↦ refl | Some t ↦ refl ]
+  known-flagged k f _ = refl
 
   known-on : (e : Entry) (n : NodeId) → ((step b h e).flags n).up ≡ true → ((step b h e).flags n).known ≡ true
   known-on e n = either-way (λ (f : Flags). f.up ≡ true → f.known ≡ true) (names n e && (h.flags n).known) (flagged h.last n.kind (h.flags n) e) (h.flags n)
@@ -606,11 +585,7 @@ module _ (b : Base) (h : Hall) (c : HallFacts b h) (fates : List Fate) (plain : 
   closed-both false f after now old known a o due = o due
 
   closed-same : (own : Bool) (f after : Flags) (old : List Out) → after.due ≡ f.due → (f.due ≡ false → old ≡ []) → (if own && f.known then after else f).due ≡ false → old ≡ []
-  closed-same true f after old same o due = go f.known refl due
-    where
-      go : (t : Bool) → f.known ≡ t → (if t then after else f).due ≡ false → old ≡ []
-      go true e d = o (sym same ∙ d)
-      go false e d = o d
+  closed-same true f after old same o due = (elim f.known as (λ t. f.known ≡ t → (if t then after else f).due ≡ false → old ≡ []) [ true ↦ λ e d. o (sym same ∙ d) | false ↦ λ e d. o d ]) refl due
   closed-same false f after old same o due = o due
 
   no-due : {X : Type 0} → true ≡ false → X

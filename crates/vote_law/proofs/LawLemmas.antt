@@ -1,37 +1,22 @@
 -- Calm votes come to their decisions.
-use Rattle.std.proofs.Common.{◌≡◌, ℕ, zero, suc, ◌+◌, ◌*◌, ◌≤◌, ◌<◌, Bool, true, false, List, [], ◌∷◌, ◌++◌, map, length, inl, inr, refl, sym, ap, subst, ◌∙◌, arith}
-use Rattle.std.specs.Prelude.{Option, Some, None, ◌==◌, ◌&&◌, ◌⊎◌, ◌≢◌, is_some, min, not, nat_le, slice_get, if◌then◌else◌}
 use Rattle.std.specs.Option.{unwrap_or}
-use Rattle.std.proofs.lemmas.Bool.{and_parts, le-leb}
-use Rattle.std.proofs.lemmas.Bool.Decides.{nat_tests}
-use Rattle.std.proofs.lemmas.List.{append-nil, append_assoc, length-append}
-use Rattle.vote_law.proofs.Names.{Every, Has, every-append, repository, broker, is_broker, same_node, StampParts, Decision, NodeId, NodeKind, Effect, Out, Post, count, numbered, same_is, Fate, is_commit, Ballot, Wish, MemberNumber, First, Second, Third, member, PollState, ballot, held, held_of, Member, Line, all_effects, Entry, Take, Go, Learn, Hear, Gate, Crash, Down, Tick, Flags, Sending, names, flagged, Base, Hall, log_at, world_of, life_of, step, Rule, flagged-up, AreVotes, IsPlain}
-use Rattle.pseudo_time.proofs.ListLemmas.{every-has, has-left}
+use Rattle.vote_law.proofs.Names.{Every, Has, every-append, broker, same_node, StampParts, Decision, NodeId, Effect, Out, count, numbered, same_is, Fate, is_commit, Wish, MemberNumber, First, Second, Third, member, PollState, ballot, held, held_of, Member, Line, all_effects, Entry, Crash, Tick, Flags, Sending, names, flagged, Base, Hall, log_at, world_of, step, flagged-up, AreVotes, IsPlain, ◌≡◌, ℕ, zero, suc, ◌+◌, ◌*◌, ◌≤◌, Bool, true, false, List, [], ◌∷◌, ◌++◌, length, inl, inr, refl, sym, ap, subst, ◌∙◌, arith, Option, Some, None, ◌==◌, ◌&&◌, ◌⊎◌, ◌≢◌, is_some, min, not, nat_le, slice_get, and_parts, le-leb, append-nil, append_assoc, length-append, every-has, has-left, entered, run, new_poll, Two, votes_of, two-hold, Idle, IsReleased, fates_of, is_within, World, opened_log, line_at, no_line, start_hall, walk_from, walk, Meets, Legal, base_of, HaveLines, start-causes, walk-causes, numbered-within, HoldAll, IsUp, IsFit, WishAlike, HasQuorum, IsCalm, TicksForPolls}
 use Rattle.pseudo_time.specs.declared.decisions.Decision.TheVariants as decision
-use Rattle.pseudo_time.specs.declared.nodes.NodeKind.TheVariants as kind
 use Rattle.effect_form.specs.declared.effects.Effect.TheVariants as effect
 use Rattle.stream_port.specs.declared.fates.Asked.{Asked}
 use Rattle.record_votes.specs.declared.ballots.Wish.TheVariants as wish
-use Rattle.record_votes.specs.Voting.{entered, run, new_poll}
 use Rattle.record_votes.specs.Voting as voting
-use Rattle.record_votes.proofs.PollLemmas.{Two, votes_of, two-hold}
 use Rattle.record_votes.proofs.LogLemmas.{voted, voted-has}
 use Rattle.record_votes.proofs.WorldLemmas.{run-facts, entered-facts}
 use Rattle.world_core.specs.declared.traces.Trace.{Trace}
-use Rattle.world_core.specs.Legal.{Idle, IsIdle, IsReleased, fates_of, is_within}
-use Rattle.world_core.specs.Walks.{World, opened_log}
-use Rattle.vote_traces.specs.Walks.{line_at, no_line, start_hall, walk_from, walk}
-use Rattle.vote_traces.specs.Legal.{Meets, Legal, base_of}
-use Rattle.vote_traces.specs.Causes.{IsWanted, IsCaused, HasCause, HaveCauses}
+use Rattle.vote_traces.specs.Causes.{IsCaused, HasCause, HaveCauses}
 use Rattle.vote_traces.proofs.WalkLemmas.{walk-append, meets-parts}
-use Rattle.vote_traces.proofs.CauseLemmas.{HallCauses, HaveLines, start-causes, walk-causes, numbered-within}
 use Rattle.vote_traces.proofs.ReplayLemmas.{Follow, walk-follows}
 use Rattle.world_core.specs.Counts.{is_crash, is_tick}
-use Rattle.vote_law.specs.Smooth.{HoldAll, IsUp, IsFit, WishAlike, HasQuorum, IsCalm, TicksForPolls}
-use Rattle.vote_law.proofs.Letters.{Mark, FreeFrom, is_taken, waiting, between, marks, all-taken, Taken}
-use Rattle.vote_law.proofs.Talks.{Says, Talks, Silent, settled, few-asks, few-answers}
+use Rattle.vote_law.proofs.Letters.{Mark, is_taken, waiting, between, marks, all-taken, Taken}
+use Rattle.vote_law.proofs.Talks.{Talks, Silent, settled, few-asks, few-answers}
 use Rattle.vote_law.proofs.Halls.{either-way, no, plain-at, asks_of, answers_of, TalksAt, PollFacts, HallFacts, is_quiet, step-facts}
-use Rattle.vote_law.proofs.Ways.{HasLine, IsWay, HallWays, step-ways, counted, few-of-polls, every-place}
+use Rattle.vote_law.proofs.Ways.{HallWays, step-ways, counted, few-of-polls, every-place}
 use Rattle.vote_law.proofs.Loads.{HaveVotes, Loads, load, few-load, step-loads, step-votes}
 
 -- ---- the beginning
@@ -103,8 +88,7 @@ module _ (b : Base) (fates : List Fate) (plain : Every IsPlain fates) where
         let node-is : x.post.to ≡ to = same_is x.post.to to (and_parts (same_node x.post.from from) (same_node x.post.to to) it).1 in
         let r : (fate : Fate) × (numbered fates (suc j) ≡ Some fate) × (IsReleased (world_of h) x fate → count (suc j) h.taken ≡ min fate.copies 3) = (idle to up).taken (suc j) x there node-is in
         let p : IsPlain r.0 = plain-at fates j r.0 plain r.1 in
-        let early : x.ticks ≡ 0 = every-place (λ (z : Sending). z.ticks ≡ 0) h.sendings j x f.early there in
-        let released : x.ticks + r.0.hold ≤ h.ticks = omega (arith, early, p.1) in
+        let released : x.ticks + r.0.hold ≤ h.ticks = omega (arith, every-place (λ (z : Sending). z.ticks ≡ 0) h.sendings j x f.early there, p.1) in
         let next : suc j ≡ 1 + j = omega arith in
         subst (λ k. is_taken h.taken k ≡ true) next (one-copy r.0 (count (suc j) h.taken) p (r.2 released))
 
@@ -192,8 +176,7 @@ module _ (b : Base) (have : HaveLines b) (fates : List Fate) (es : List Entry) (
   vote-is-wish i l s c q alike blank there e =
       let at : line_at b.lines i ≡ l = ap (λ o. unwrap_or o no_line) there in
       let v : (d : Decision) × (is_commit d ≡ c) × Has (effect.Decide (line_at b.lines i).stamp d) (at-end.members s).gated = vote-stands i s c e in
-      let causes : HallCauses b es at-end = walk-causes b have fates [] es (start_hall b) (start-causes b) meets in
-      let m = causes.members s in
+      let m = (walk-causes b have fates [] es (start_hall b) (start-causes b) meets).members s in
       let gated : (at-end.members s).gated ≡ m.late = m.gated_is ∙ ap (λ z. z ++ m.late) blank in
       let in-late : Has (effect.Decide l.stamp v.0) (m.late ++ (at-end.members s).fresh) =
       has-left m.late (at-end.members s).fresh (effect.Decide l.stamp v.0) (subst (λ z. Has (effect.Decide z v.0) m.late) (ap (λ (z : Line). z.stamp) at) (subst (λ z. Has (effect.Decide (line_at b.lines i).stamp v.0) z) gated v.2)) in
@@ -302,10 +285,7 @@ first-tick : (es : List Entry) → Every (λ (e : Entry). is_crash e ≡ false) 
 first-tick [] h = inl tt
 first-tick (e ∷ es) h = elim (one-first e h.0) [
   | inr m ↦ inr (record { front = []; rest = es; moment = m.0; is = ap (λ z. z ∷ es) m.1; quiet = tt })
-  | inl q ↦ elim (first-tick es h.1) [
-    | inl all ↦ inl (q, all)
-    | inr t ↦ inr (record { front = e ∷ t.front; rest = t.rest; moment = t.moment; is = ap (λ z. e ∷ z) t.is; quiet = (q, t.quiet) })
-  ]
+  | inl q ↦ elim (first-tick es h.1) [ inl all ↦ inl (q, all) | inr t ↦ inr (record { front = e ∷ t.front; rest = t.rest; moment = t.moment; is = ap (λ z. e ∷ z) t.is; quiet = (q, t.quiet) }) ]
 ]
 
 tick-idle : (b : Base) (fates : List Fate) (h : Hall) (moment : ℕ) (rest : List Entry) → Meets b fates h (Tick moment ∷ rest) → Idle fates (world_of h)
@@ -339,12 +319,11 @@ module _ (lines : List Line) (asked : List Asked) (t : Trace) (front : List Entr
   no-first f =
       let whole : Meets b (fates_of t.sent) (start_hall b) (f.front ++ Tick f.moment ∷ f.rest) = subst (Meets b (fates_of t.sent) (start_hall b)) f.is meets-front in
       let parts = meets-parts b (fates_of t.sent) (start_hall b) f.front (Tick f.moment ∷ f.rest) whole in
-      let idle : Idle (fates_of t.sent) (world_of (walk_from b (start_hall b) f.front)) = tick-idle b (fates_of t.sent) (walk_from b (start_hall b) f.front) f.moment f.rest parts.1 in
       let later : walk b front ≡ walk_from b (walk_from b (start_hall b) f.front) (Tick f.moment ∷ f.rest) =
       ap (λ z. walk_from b (start_hall b) z) f.is ∙ walk-append b (start_hall b) f.front (Tick f.moment ∷ f.rest) in
       let quorum : HasQuorum lines t.opened (walk_from b (start_hall b) f.front) = quorum-before b (walk_from b (start_hall b) f.front) (Tick f.moment ∷ f.rest) (subst (HasQuorum lines t.opened) later calm.quorum) in
       ticks f.front (f.rest ++ calm.rest) f.moment (calm.is ∙ ap (λ z. z ++ calm.rest) f.is ∙ append_assoc f.front (Tick f.moment ∷ f.rest) calm.rest)
-      (λ i l there. quorum-holds b have-lines have-nodes (fates_of t.sent) calm.plain f.front parts.0 f.quiet idle i l there quorum)
+      (λ i l there. quorum-holds b have-lines have-nodes (fates_of t.sent) calm.plain f.front parts.0 f.quiet (tick-idle b (fates_of t.sent) (walk_from b (start_hall b) f.front) f.moment f.rest parts.1) i l there quorum)
 
   pub all-quiet : AllQuiet front
   all-quiet = elim (first-tick front calm.sound) [ inl q ↦ q | inr f ↦ absurd (no-first f) ]

@@ -1,11 +1,6 @@
 -- The messages from one node to another: those that were sent, each with whether its copy was taken, and those that wait for a gate.
-use Rattle.std.proofs.Common.{◌≡◌, ℕ, zero, suc, ◌+◌, ◌≤◌, ◌<◌, Bool, true, false, List, [], ◌∷◌, ◌++◌, map, length, refl, sym, ap, subst, ◌∙◌, arith, zero-add}
-use Rattle.std.specs.Prelude.{Option, Some, None, ◌==◌, ◌&&◌, ◌⊎◌, not, cond, slice_get}
-use Rattle.std.proofs.lemmas.Bool.{eqb-true, eq-eqb}
-use Rattle.std.proofs.Math.Bool.{and-false}
 use Rattle.std.proofs.Math.Dec.{eqb-suc-zero}
-use Rattle.std.proofs.lemmas.List.{append_assoc, append-nil}
-use Rattle.vote_law.proofs.Names.{Every, every-append, same_node, NodeId, Message, Out, Post, posts, count, numbered, Sending}
+use Rattle.vote_law.proofs.Names.{Every, every-append, same_node, NodeId, Message, Out, Post, posts, count, Sending, ◌≡◌, ℕ, zero, suc, ◌+◌, ◌≤◌, ◌<◌, Bool, true, false, List, [], ◌∷◌, ◌++◌, map, length, refl, sym, ap, subst, ◌∙◌, arith, zero-add, Some, ◌==◌, ◌&&◌, not, cond, slice_get, eqb-true, eq-eqb, append_assoc}
 
 -- a message, and whether its copy was taken
 abbrev pub Mark : Type 0
@@ -32,11 +27,7 @@ below-free : (taken : List ℕ) (k : ℕ) → FreeFrom taken k → FreeFrom take
 below-free taken k f j h = f j (omega (arith, h))
 
 pub other-number : (k j : ℕ) → ((k == j) ≡ true → ⊥) → (taken : List ℕ) → count j (k ∷ taken) ≡ count j taken
-other-number k j differ taken = go (k == j) refl
-  where
-    go : (t : Bool) → (k == j) ≡ t → cond t 1 0 + count j taken ≡ count j taken
-    go true e = absurd (differ e)
-    go false e = zero-add (count j taken)
+other-number k j differ taken = (elim (k == j) as (λ t. (k == j) ≡ t → cond t 1 0 + count j taken ≡ count j taken) [ true ↦ λ e. absurd (differ e) | false ↦ λ e. zero-add (count j taken) ]) refl
 
 -- those that wait, to this node
 module _ (to : NodeId) where
@@ -104,8 +95,7 @@ module _ (from to : NodeId) where
 
   pub other-marks : (taken : List ℕ) (k ticks : ℕ) (n : NodeId) (outs : List Out) → same_node n from ≡ false → marks taken k (sendings_of ticks n outs) ≡ []
   other-marks taken k ticks n [] is = refl
-  other-marks taken k ticks n (o ∷ outs) is =
-      ap (λ t. marked (t && same_node o.to to) o.message (is_taken taken k) ++ marks taken (suc k) (sendings_of ticks n outs)) is ∙ other-marks taken (suc k) ticks n outs is
+  other-marks taken k ticks n (o ∷ outs) is = ap (λ t. marked (t && same_node o.to to) o.message (is_taken taken k) ++ marks taken (suc k) (sendings_of ticks n outs)) is ∙ other-marks taken (suc k) ticks n outs is
 
   -- ---- what a taking changes
 

@@ -1,15 +1,9 @@
 -- A member's log has no more effects than messages that it took.
-use Rattle.std.proofs.Common.{◌≡◌, ℕ, zero, suc, ◌+◌, ◌*◌, ◌≤◌, ◌<◌, Bool, true, false, List, [], ◌∷◌, ◌++◌, length, inl, inr, refl, sym, ap, subst, ◌∙◌, arith, zero-add}
-use Rattle.std.specs.Prelude.{Option, Some, None, ◌==◌, ◌&&◌, ◌⊎◌, not, cond, is_some, slice_get, if◌then◌else◌}
-use Rattle.std.proofs.lemmas.Bool.{eqb-true, eqb-false}
-use Rattle.std.proofs.lemmas.List.{append-nil, append_assoc, length-append}
-use Rattle.vote_law.proofs.Names.{Every, every-append, repository, broker, is_broker, same_node, NodeId, NodeKind, StampParts, Decision, Effect, Message, count, numbered, same_is, same_node-refl, Fate, RecordState, Unknown, Decided, record_of, MemberNumber, book, quiet, begin_by, close_by, row, on_message, Given, member, Member, Line, all_effects, took, shut, Entry, Take, Go, Learn, Hear, Gate, Crash, Down, Tick, MayTake, Sending, Base, Hall, log_at, world_of, member_took, life_of, step, Rule, AreVotes, IsPlain}
-use Rattle.pseudo_time.specs.declared.nodes.NodeKind.TheVariants as kind
+use Rattle.vote_law.proofs.Names.{Every, every-append, broker, is_broker, same_node, NodeId, StampParts, Decision, Effect, Message, count, numbered, same_is, same_node-refl, Fate, RecordState, Unknown, Decided, record_of, MemberNumber, book, quiet, begin_by, close_by, row, on_message, Given, member, Member, all_effects, took, shut, Entry, Take, Go, Learn, Hear, Gate, Down, MayTake, Sending, Base, Hall, log_at, world_of, member_took, life_of, step, Rule, AreVotes, IsPlain, ◌≡◌, ℕ, zero, suc, ◌+◌, ◌*◌, ◌≤◌, Bool, true, false, List, [], ◌∷◌, ◌++◌, length, refl, sym, ap, subst, ◌∙◌, arith, zero-add, Option, Some, None, ◌==◌, cond, is_some, if◌then◌else◌, eqb-true, eqb-false, append-nil, append_assoc, length-append, is_vote_effect}
 use Rattle.message_form.specs.declared.messages.Message.TheVariants as message
-use Rattle.vote_law.specs.Smooth.{is_vote_effect}
-use Rattle.vote_law.proofs.Letters.{Mark, marked, sendings_of, between, marks, marks-append, Flips}
-use Rattle.vote_law.proofs.Halls.{no, if-same, HallFacts, is_quiet, untaken, same-marks, these-flip, not-to, it-is, shut-log}
-use Rattle.vote_law.proofs.Ways.{IsWay, HallWays, way-of, asker-of, line-place}
+use Rattle.vote_law.proofs.Letters.{Mark, sendings_of, between, marks, marks-append, Flips}
+use Rattle.vote_law.proofs.Halls.{no, if-same, HallFacts, is_quiet, untaken, same-marks, these-flip, it-is, shut-log}
+use Rattle.vote_law.proofs.Ways.{HallWays, way-of, asker-of, line-place}
 
 -- ---- how many were taken
 
@@ -23,9 +17,8 @@ trues-append (x ∷ xs) ys = let e : trues (xs ++ ys) ≡ trues xs + trues ys = 
 
 flips-trues : (old new : List Mark) (m : Message) → Flips old new m → trues new ≡ suc (trues old)
 flips-trues old new m f =
-    let a : trues (f.front ++ (m, true) ∷ f.back) ≡ trues f.front + trues ((m, true) ∷ f.back) = trues-append f.front ((m, true) ∷ f.back) in
     let b : trues (f.front ++ (m, false) ∷ f.back) ≡ trues f.front + trues ((m, false) ∷ f.back) = trues-append f.front ((m, false) ∷ f.back) in
-    ap trues f.is ∙ (let e : trues (f.front ++ (m, true) ∷ f.back) ≡ suc (trues (f.front ++ (m, false) ∷ f.back)) = omega (arith, a, b) in e) ∙ ap (λ z. suc (trues z)) (sym f.was)
+    ap trues f.is ∙ (let e : trues (f.front ++ (m, true) ∷ f.back) ≡ suc (trues (f.front ++ (m, false) ∷ f.back)) = omega (arith, trues-append f.front ((m, true) ∷ f.back), b) in e) ∙ ap (λ z. suc (trues z)) (sym f.was)
 
 trues-few : (xs : List Mark) → trues xs ≤ length xs
 trues-few [] = omega arith
@@ -40,9 +33,7 @@ module _ (s : MemberNumber) (taken : List ℕ) (ss : List Sending) where
 
   pub few-load : (n : ℕ) → ((i : ℕ) → 1 ≤ i → i ≤ n → length (marks (broker i) (member s) taken 1 ss) ≤ 2) → load n ≤ 2 * n
   few-load zero f = omega arith
-  few-load (suc n) f =
-      let one : length (marks (broker (suc n)) (member s) taken 1 ss) ≤ 2 = f (suc n) (omega arith) (omega arith) in
-      omega (arith, one, trues-few (marks (broker (suc n)) (member s) taken 1 ss), few-load n (λ i above most. f i above (omega (arith, most))))
+  few-load (suc n) f = omega (arith, f (suc n) (omega arith) (omega arith), trues-few (marks (broker (suc n)) (member s) taken 1 ss), few-load n (λ i above most. f i above (omega (arith, most))))
 
 -- where each has as many or more, and one has more, all together have more
 module _ (s : MemberNumber) (taken later : List ℕ) (ss more : List Sending) where
@@ -175,13 +166,11 @@ module _ (b : Base) (h : Hall) (c : HallFacts b h) (w : HallWays b h) (fates : L
     took-log : (m : Member) → length (all_effects (took m x.post.from x.post.message)) ≤ suc (length (all_effects m))
     took-log m =
         let e : List Effect = (on_message (all_effects m) m.moment x.post.from x.post.message).effects in
-        let one : length (on_message (all_effects m) m.moment x.post.from x.post.message).effects ≤ 1 = message-one (all_effects m) m.moment x.post.from x.post.message in
         let a : length (m.gated ++ (m.fresh ++ (on_message (all_effects m) m.moment x.post.from x.post.message).effects)) ≡ length m.gated + length (m.fresh ++ (on_message (all_effects m) m.moment x.post.from x.post.message).effects) =
         length-append m.gated (m.fresh ++ (on_message (all_effects m) m.moment x.post.from x.post.message).effects) in
         let d : length (m.fresh ++ (on_message (all_effects m) m.moment x.post.from x.post.message).effects) ≡ length m.fresh + length (on_message (all_effects m) m.moment x.post.from x.post.message).effects =
         length-append m.fresh (on_message (all_effects m) m.moment x.post.from x.post.message).effects in
-        let k : length (m.gated ++ m.fresh) ≡ length m.gated + length m.fresh = length-append m.gated m.fresh in
-        omega (arith, one, a, d, k)
+        omega (arith, message-one (all_effects m) m.moment x.post.from x.post.message, a, d, length-append m.gated m.fresh)
 
     mine : same_node node (member s) ≡ true → length (all_effects (took (h.members s) x.post.from x.post.message)) ≤ load s later h.sendings n
     mine is =

@@ -1,18 +1,12 @@
 -- What a poll and a member say to each other, where each message has one copy, nothing is said twice and the member doesn't crash.
-use Rattle.std.proofs.Common.{◌≡◌, ℕ, ◌+◌, ◌≤◌, Bool, true, false, List, [], ◌∷◌, ◌++◌, length, inl, inr, refl, sym, ap, subst, ◌∙◌, arith}
-use Rattle.std.specs.Prelude.{Option, Some, None, ◌==◌, ◌&&◌, ◌⊎◌, is_some, if◌then◌else◌}
-use Rattle.std.proofs.lemmas.List.{append-nil, append_assoc}
-use Rattle.vote_law.proofs.Names.{Every, repository, broker, same_node, is_broker, same_stamp, StampParts, Decision, NodeId, Effect, Message, Out, same_is, same_node-refl, RecordState, Unknown, Decided, is_commit, record_of, Wish, Ballot, MemberNumber, First, Second, Third, book, quiet, owed, begin_by, close_by, row, on_message, Given, member, voter_of, PollState, PollGiven, ballot, with_ballot, held, held_of, to_member, outstanding, asked, unless_held, begin_to, begun_heard, vote_heard, heard_from, heard_by, ignored, poll_goes, poll_takes, Line}
-use Rattle.pseudo_time.proofs.OrderLemmas.{same_stamp-is, same_stamp-self, same_stamp-of}
+use Rattle.vote_law.proofs.Names.{Every, broker, same_node, same_stamp, StampParts, Decision, NodeId, Effect, Message, Out, same_node-refl, RecordState, Unknown, Decided, is_commit, record_of, Wish, Ballot, MemberNumber, First, Second, Third, book, owed, begin_by, close_by, row, on_message, Given, member, voter_of, PollState, PollGiven, ballot, with_ballot, held, held_of, to_member, outstanding, asked, unless_held, begin_to, begun_heard, vote_heard, heard_from, heard_by, ignored, poll_goes, poll_takes, Line, ◌≡◌, ℕ, ◌+◌, ◌≤◌, Bool, true, false, List, [], ◌∷◌, ◌++◌, length, inl, inr, refl, sym, ap, subst, ◌∙◌, arith, Option, Some, None, ◌⊎◌, is_some, if◌then◌else◌, append-nil, first_begin, decision_of, record_from, wish_for, begin-stays}
+use Rattle.pseudo_time.proofs.OrderLemmas.{same_stamp-self, same_stamp-of}
 use Rattle.pseudo_time.specs.declared.decisions.Decision.TheVariants as decision
 use Rattle.effect_form.specs.declared.effects.Effect.TheVariants as effect
 use Rattle.message_form.specs.declared.messages.Message.TheVariants as message
 use Rattle.object_history.specs.History.{or_else}
-use Rattle.repository_log.specs.Logs.{first_begin, first_said, decision_of, record_from}
 use Rattle.record_votes.specs.declared.ballots.Wish.TheVariants as wish
-use Rattle.record_votes.specs.Polls.{wish_for}
 use Rattle.record_votes.proofs.BookLemmas.{book-begin}
-use Rattle.vote_traces.proofs.CauseLemmas.{begin-stays}
 use Rattle.vote_law.proofs.Letters.{Mark, marked, waiting, Flips}
 
 -- ---- how far a poll and a member have come
@@ -233,15 +227,12 @@ module _ (l : Line) (i moment : ℕ) (b : Ballot) (log : List Effect) (holds : B
   gives-at BeginSent front back answers m e a is begun =
       let f : (begin_of l ≡ m) × (false ≡ false) × (front ++ (m, true) ∷ back ≡ (begin_of l, true) ∷ []) = one-flip (begin_of l) m false front back e in
       (subst (λ x. Gave x answers m) (sym f.2) (subst (λ x. Gave ((begin_of l, true) ∷ []) x m) (sym a) (begin-gives m f.0 is)), refl)
-  gives-at BegunSaid front back answers m e a is begun = absurd (none-left (begin_of l) m front back e)
-  gives-at (EarlyVoted d) front back answers m e a is begun = absurd (none-left (begin_of l) m front back e)
-  gives-at (EarlyHeard d) front back answers m e a is begun = absurd (none-left (begin_of l) m front back e)
-  gives-at Passed front back answers m e a is begun = absurd (none-left (begin_of l) m front back e)
   gives-at WishSent front back answers m e a is begun =
       let f : (wish_of l ≡ m) × (false ≡ false) × (front ++ (m, true) ∷ back ≡ (begin_of l, true) ∷ (wish_of l, true) ∷ []) = two-flip (begin_of l) (wish_of l) m false front back e in
       (subst (λ x. Gave x answers m) (sym f.2) (subst (λ x. Gave ((begin_of l, true) ∷ (wish_of l, true) ∷ []) x m) (sym a) (wish-gives m f.0 is (begun refl))), refl)
   gives-at (Voted d) front back answers m e a is begun = absurd (none-left-of-two (begin_of l) (wish_of l) m front back e)
   gives-at (Heard d) front back answers m e a is begun = absurd (none-left-of-two (begin_of l) (wish_of l) m front back e)
+  gives-at _ front back answers m e a is begun = absurd (none-left (begin_of l) m front back e)
 
   pub member-gives : (asks new answers : List Mark) (gone : Bool) (m : Message) → Flips asks new m → Talks l asks answers b log holds gone
       → Talks l new (answers ++ waiting (broker i) (on_message log moment (broker i) m).outs) b (log ++ (on_message log moment (broker i) m).effects) holds gone
@@ -298,9 +289,6 @@ module _ (l : Line) (s : MemberNumber) (log : List Effect) where
       ballot-is : ballot (begun_heard p s (ballot p s)).poll s ≡ record { begun = true; vote = None }
       ballot-is = with-own p s (record (ballot p s) { begun = true }) ∙ ap (λ (z : Ballot). let r : Ballot = record z { begun = true } in r) is
 
-      same : is_some (held (begun_heard p s (ballot p s)).poll) ≡ is_some (held p)
-      same = ap is_some (begun-holds p s)
-
       go : (t : Bool) → is_some (held p) ≡ t
           → Talks l ((begin_of l, true) ∷ waiting (member s) (if is_some (held p) then [] else to_member s (outstanding p true))) ((message.Begun l.stamp, true) ∷ []) (ballot (begun_heard p s (ballot p s)).poll s) log
           (is_some (held (begun_heard p s (ballot p s)).poll)) true
@@ -311,7 +299,7 @@ module _ (l : Line) (s : MemberNumber) (log : List Effect) where
           answers_are = refl;
           ballot_is = ballot-is;
           begun = λ e. absurd (let q : false ≡ true = e in cc q);
-          passed = λ _. same ∙ k;
+          passed = λ _. (ap is_some (begun-holds p s)) ∙ k;
         };
         went = refl;
       }
@@ -370,8 +358,6 @@ module _ (l : Line) (s : MemberNumber) (log : List Effect) where
 
   took-at : (p : PollState) (stage : Stage) (front back : List Mark) (m : Message) → Says p l → answers_at l stage ≡ front ++ (m, false) ∷ back → ballot p s ≡ ballot_at stage
       → (may_wish stage ≡ true → HasBegun log l.stamp) → Took p (asks_at l stage) (front ++ (m, true) ∷ back) m × (has_gone stage ≡ true)
-  took-at p Silent front back m h e is begun = absurd (no-mark front back (m, false) e)
-  took-at p BeginSent front back m h e is begun = absurd (no-mark front back (m, false) e)
   took-at p BegunSaid front back m h e is begun =
       let f : (message.Begun l.stamp ≡ m) × (false ≡ false) × (front ++ (m, true) ∷ back ≡ (message.Begun l.stamp, true) ∷ []) = one-flip (message.Begun l.stamp) m false front back e in
       (subst (λ x. Took p ((begin_of l, true) ∷ []) x m) (sym f.2) (begun-gives p m h f.0 is (begun refl)), refl)
@@ -386,6 +372,7 @@ module _ (l : Line) (s : MemberNumber) (log : List Effect) where
       two-flip (message.Begun l.stamp) (message.Decided l.stamp d) m false front back e in
       (subst (λ x. Took p (asks_at l (Voted d)) x m) (sym f.2) (decided-gives p m d true (Heard d) h f.0 is refl refl refl refl), refl)
   took-at p (Heard d) front back m h e is begun = absurd (none-left-of-two (message.Begun l.stamp) (message.Decided l.stamp d) m front back e)
+  took-at p _ front back m h e is begun = absurd (no-mark front back (m, false) e)
 
   pub poll-gives : (p : PollState) (asks answers new : List Mark) (holds gone : Bool) (m : Message) → Says p l → Flips answers new m → Talks l asks answers (ballot p s) log holds gone
       → Talks l (asks ++ waiting (member s) (poll_takes p (member s) m).outs) new (ballot (poll_takes p (member s) m).poll s) log (is_some (held (poll_takes p (member s) m).poll)) gone
@@ -484,15 +471,7 @@ settled l asks answers b log holds t all-asks all-answers =
 
 -- and no more than two messages were said each way
 pub few-asks : (l : Line) (asks answers : List Mark) (b : Ballot) (log : List Effect) (holds gone : Bool) → Talks l asks answers b log holds gone → length asks ≤ 2
-few-asks l asks answers b log holds gone t = subst (λ z. length z ≤ 2) (sym t.talk.asks_are) (at t.stage)
-  where
-    at : (stage : Stage) → length (asks_at l stage) ≤ 2
-    at Silent = omega arith
-    at _ = omega arith
+few-asks l asks answers b log holds gone t = subst (λ z. length z ≤ 2) (sym t.talk.asks_are) (elim t.stage as (λ stage. length (asks_at l stage) ≤ 2) [ Silent ↦ omega arith | _ ↦ omega arith ])
 
 pub few-answers : (l : Line) (asks answers : List Mark) (b : Ballot) (log : List Effect) (holds gone : Bool) → Talks l asks answers b log holds gone → length answers ≤ 2
-few-answers l asks answers b log holds gone t = subst (λ z. length z ≤ 2) (sym t.talk.answers_are) (at t.stage)
-  where
-    at : (stage : Stage) → length (answers_at l stage) ≤ 2
-    at Silent = omega arith
-    at _ = omega arith
+few-answers l asks answers b log holds gone t = subst (λ z. length z ≤ 2) (sym t.talk.answers_are) (elim t.stage as (λ stage. length (answers_at l stage) ≤ 2) [ Silent ↦ omega arith | _ ↦ omega arith ])

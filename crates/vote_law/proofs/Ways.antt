@@ -1,9 +1,5 @@
 -- Who writes to whom, and how many messages that makes.
-use Rattle.std.proofs.Common.{◌≡◌, ℕ, zero, suc, ◌+◌, ◌*◌, ◌≤◌, ◌<◌, Bool, true, false, List, [], ◌∷◌, ◌++◌, map, length, inl, inr, refl, sym, ap, subst, ◌∙◌, arith}
-use Rattle.std.specs.Prelude.{Option, Some, None, ◌==◌, ◌&&◌, ◌⊎◌, is_some, slice_get, if◌then◌else◌}
-use Rattle.std.proofs.lemmas.Bool.{eqb-true, eqb-false}
-use Rattle.std.proofs.lemmas.List.{append-nil, length-append}
-use Rattle.vote_law.proofs.Names.{Every, every-append, repository, broker, is_broker, same_node, NodeId, NodeKind, same_stamp, StampParts, Decision, Effect, Message, Out, Post, posts, numbered, same_is, same_node-refl, Fate, RecordState, Unknown, Decided, record_of, Ballot, MemberNumber, First, Second, Third, book, quiet, begin_by, close_by, row, on_message, Given, number_of, member, voter_at, voter_of, PollState, PollGiven, ballot, held, asked, unless_held, begin_to, begun_heard, vote_heard, heard_from, heard_by, ignored, poll_goes, poll_takes, Member, Line, all_effects, shut, voter-member, Entry, Take, Go, Learn, Hear, Gate, Crash, Down, Tick, MayTake, Flags, Sending, names, flagged, Base, Hall, world_of, member_took, poll_took, voter_life, life_of, leaving, step, Rule, flagged-up}
+use Rattle.vote_law.proofs.Names.{Every, every-append, repository, broker, is_broker, same_node, NodeId, NodeKind, same_stamp, StampParts, Decision, Effect, Message, Out, Post, numbered, same_is, same_node-refl, Fate, RecordState, Unknown, Decided, record_of, Ballot, MemberNumber, First, Second, Third, book, quiet, begin_by, close_by, row, on_message, Given, member, voter_at, voter_of, PollState, PollGiven, ballot, held, asked, unless_held, begin_to, begun_heard, vote_heard, heard_from, heard_by, ignored, poll_goes, poll_takes, Member, Line, all_effects, shut, voter-member, Entry, Take, Go, Learn, Hear, Gate, Crash, Down, Tick, MayTake, Flags, Sending, names, flagged, Base, Hall, world_of, member_took, poll_took, voter_life, life_of, step, Rule, flagged-up, ◌≡◌, ℕ, zero, suc, ◌+◌, ◌*◌, ◌≤◌, Bool, true, false, List, [], ◌∷◌, ◌++◌, length, inl, inr, refl, sym, ap, subst, ◌∙◌, arith, Option, Some, None, ◌==◌, ◌&&◌, ◌⊎◌, is_some, slice_get, if◌then◌else◌, eqb-true, eqb-false}
 use Rattle.pseudo_time.specs.declared.nodes.NodeKind.TheVariants as kind
 use Rattle.message_form.specs.declared.messages.Message.TheVariants as message
 use Rattle.vote_law.proofs.Letters.{marked, is_taken, sendings_of, between, marks}
@@ -207,11 +203,7 @@ module _ (taken : List ℕ) where
   of-polls k ss (suc n) = of-poll k ss (suc n) + of-polls k ss n
 
   more-marks : (from to : NodeId) (k : ℕ) (x : Sending) (ss : List Sending) → length (marks from to taken (suc k) ss) ≤ length (marks from to taken k (x ∷ ss))
-  more-marks from to k x ss = go (between from to x.post)
-    where
-      go : (t : Bool) → length (marks from to taken (suc k) ss) ≤ length (marked t x.post.message (is_taken taken k) ++ marks from to taken (suc k) ss)
-      go true = omega arith
-      go false = omega arith
+  more-marks from to k x ss = elim (between from to x.post) as (λ t. length (marks from to taken (suc k) ss) ≤ length (marked t x.post.message (is_taken taken k) ++ marks from to taken (suc k) ss)) [ true ↦ omega arith | false ↦ omega arith ]
 
   one-more : (from to : NodeId) (k : ℕ) (x : Sending) (ss : List Sending) → between from to x.post ≡ true → length (marks from to taken k (x ∷ ss)) ≡ suc (length (marks from to taken (suc k) ss))
   one-more from to k x ss e = ap (λ t. length (marked t x.post.message (is_taken taken k) ++ marks from to taken (suc k) ss)) e
