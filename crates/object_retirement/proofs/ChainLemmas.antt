@@ -1,27 +1,6 @@
 -- What a reader was answered once is what it sees over all versions that ever were.
-use Rattle.std.proofs.Common.{◌≡◌, ◌≢◌, ℕ, ◌≤◌, nat_lt, Bool, true, false, List, [], ◌∷◌, ◌++◌, refl, sym, ◌∙◌, ap, subst, Option, Some, None, ◌⊎◌, inl, inr, arith}
+use Rattle.object_retirement.proofs.Names.{◌≡◌, ◌≢◌, ℕ, ◌≤◌, nat_lt, Bool, true, false, List, [], ◌∷◌, ◌++◌, refl, sym, ◌∙◌, ap, subst, Option, Some, None, ◌⊎◌, inl, inr, arith, true≢false, StampParts, TimeParts, Has, lt, lt-trans, lt-total, lt-steps, lt-asymmetric, between, ObjectId, Value, Mark, Put, Seen, settle_of, scan, newest, floor_of, read_to, Starts, Distinct, Fits, IsOnFloor, Firm, views, value_of, Viewed, retired, MayRetire, Same, Gone, GivenUp, Grows, Follows_on, Chain, SomeOf, WasViewed, AllOf, Ends, Passes, AtMost, not-false, put-says, scan-passes, viewed-kept, top-all, Standing, standing, stands-has, distinct-kept, settled-kept, ends-floor}
 use Rattle.std.proofs.lemmas.Bool.Decides.{nat_tests}
-use Rattle.std.proofs.lemmas.Bool.{true≢false}
-use Rattle.pseudo_time.specs.StampParts.{StampParts}
-use Rattle.pseudo_time.specs.TimeParts.{TimeParts}
-use Rattle.pseudo_time.specs.Lists.{Has}
-use Rattle.pseudo_time.specs.Order.{lt}
-use Rattle.pseudo_time.proofs.OrderLemmas.{lt-trans, lt-total, lt-steps, lt-asymmetric, between}
-use Rattle.value_form.specs.declared.objects.ObjectId.{ObjectId}
-use Rattle.value_form.specs.declared.values.Value.{Value}
-use Rattle.object_history.specs.declared.marks.Mark.{Mark}
-use Rattle.object_history.specs.declared.marks.Mark.TheVariants.{Put, Stretch, Settle, Floor}
-use Rattle.object_history.specs.History.{Seen, settle_of, scan, newest, floor_of, read_to}
-use Rattle.object_history.specs.Views.{Starts, Distinct, Fits, IsOnFloor, Firm, views, value_of, Viewed}
-use Rattle.object_retirement.specs.Retired.{retired, MayRetire, Same}
-use Rattle.object_retirement.specs.Older.{Gone, GivenUp}
-use Rattle.object_retirement.specs.Chains.{Grows, Follows_on, Chain, SomeOf, WasViewed, AllOf}
-use Rattle.object_history.proofs.Words.{Ends, Passes, AtMost}
-use Rattle.object_history.proofs.BoolLemmas.{not-false}
-use Rattle.object_history.proofs.StableLemmas.{put-says, scan-passes}
-use Rattle.object_history.proofs.ViewLemmas.{viewed-kept, top-all}
-use Rattle.object_history.proofs.ScanLemmas.{Standing, standing, stands-has, distinct-kept, settled-kept}
-use Rattle.object_history.proofs.ReachLemmas.{ends-floor}
 use Rattle.object_retirement.proofs.RetiredLemmas.{starts-has, same-found, settle-kept, floor-kept, sub-kept, distinct-retired, viewed-retired, same-values}
 use Rattle.object_retirement.proofs.OlderLemmas.{put-of, given-up-fits, given-up-again, floor-stays, Follows, older-view}
 
@@ -49,9 +28,7 @@ given-grown m (f ∷ fresh) old g h = given-up-fits (fresh ++ m) old f g.1 (give
 
 -- what is put isn't below the floor
 pub put-on-floor : (m : List Mark) (o : ObjectId) (x : TimeParts) (v : Value) → Fits m (Put o x v) → (e : TimeParts) → floor_of m ≡ Some e → lt x e ≡ false
-put-on-floor m o x v fits e is =
-    let ends : Ends (floor_of m) x = ends-floor (floor_of m) (read_to m o (newest m o)) x (put-says m o x v fits.1).1 in
-    subst (λ f. Ends f x) is ends
+put-on-floor m o x v fits e is = subst (λ f. Ends f x) is (ends-floor (floor_of m) (read_to m o (newest m o)) x (put-says m o x v fits.1).1)
 
 new-on-floor : (m fresh : List Mark) (o : ObjectId) (x : TimeParts) (v : Value) → Grows m fresh → Has (Put o x v) (fresh ++ m) → (e : TimeParts) → floor_of m ≡ Some e → Has (Put o x v) m ⊎ (lt x e ≡ false)
 new-on-floor m [] o x v g j e is = inl j
@@ -68,10 +45,7 @@ append-none [] = refl
 append-none (f ∷ m) = ap (λ l. f ∷ l) (append-none m)
 
 base-distinct : (old m : List Mark) (n : Follows_on old m) → Distinct old → Distinct n.base
-base-distinct old m n d = elim n.came [
-  | inl e ↦ subst Distinct (sym e) d
-  | inr r ↦ subst Distinct (sym r.3) (distinct-retired old r.0 old d)
-]
+base-distinct old m n d = elim n.came [ inl e ↦ subst Distinct (sym e) d | inr r ↦ subst Distinct (sym r.3) (distinct-retired old r.0 old d) ]
 
 pub chain-distinct : (olds : List (List Mark)) (m : List Mark) → Chain olds m → Distinct m
 chain-distinct [] m g = subst Distinct (append-none m) (distinct-grown [] m g tt)
@@ -150,9 +124,7 @@ one-side x at t one low below above same = go (lt at t) refl
 starts-from : (P : TimeParts → Type 0) (o : ObjectId) (m : List Mark) → ((x : TimeParts) (w : Value) → Has (Put o x w) m → P x) → Starts P o m
 starts-from P o [] h = tt
 starts-from P o (Put a x v ∷ m) h = (λ e. h x v (inl (ap (λ z. Put z x v) e)), starts-from P o m (λ y w j. h y w (inr j)))
-starts-from P o (Stretch a x ∷ m) h = starts-from P o m (λ y w j. h y w (inr j))
-starts-from P o (Settle s c ∷ m) h = starts-from P o m (λ y w j. h y w (inr j))
-starts-from P o (Floor x ∷ m) h = starts-from P o m (λ y w j. h y w (inr j))
+starts-from P o (_ ∷ m) h = starts-from P o m (λ y w j. h y w (inr j))
 
 not-below : (x e t : TimeParts) → lt t e ≡ true → lt x e ≡ false → lt x t ≡ false
 not-below x e t l h = not-false (lt x t) (λ k. true≢false (sym (lt-trans x t e k l) ∙ h))
@@ -170,10 +142,7 @@ module _ (o : ObjectId) (t : TimeParts) (v : Value) where
   came-old : (old m : List Mark) (n : Follows_on old m) (e : TimeParts) → floor_of m ≡ Some e → lt t e ≡ true → (x : TimeParts) (w : Value) → Has (Put o x w) m → Has (Put o x w) old ⊎ (lt x t ≡ false)
   came-old old m n e is low x w j = elim (new-on-floor n.base n.fresh o x w n.grew (subst (Has (Put o x w)) n.is j) e (sym (floor-base old m n) ∙ is)) [
     | inr h ↦ inr (not-below x e t low h)
-    | inl h ↦ inl (elim n.came [
-      | inl b ↦ subst (Has (Put o x w)) b h
-      | inr r ↦ sub-kept old r.0 old o x w (subst (Has (Put o x w)) r.3 h)
-    ])
+    | inl h ↦ inl (elim n.came [ inl b ↦ subst (Has (Put o x w)) b h | inr r ↦ sub-kept old r.0 old o x w (subst (Has (Put o x w)) r.3 h) ])
   ]
 
   -- it was viewed there, and what came later isn't below it
@@ -204,10 +173,7 @@ module _ (o : ObjectId) (t : TimeParts) (v : Value) where
     where
       later : (x : TimeParts) (w : Value) → SomeOf (λ l. Has (Put o x w) l) (m ∷ (old ∷ olds)) → (Has (Put o x w) f.there ⊎ Gone f.there o x) ⊎ (lt x t ≡ false)
       later x w (inr j) = f.below x w j
-      later x w (inl j) = elim (came-old old m n e is low x w j) [
-        | inl h ↦ f.below x w (inl h)
-        | inr h ↦ inr h
-      ]
+      later x w (inl j) = elim (came-old old m n e is low x w j) [ inl h ↦ f.below x w (inl h) | inr h ↦ inr h ]
 
   frozen-now : (olds : List (List Mark)) (old m : List Mark) (n : Follows_on old m) → Chain olds old → IsOnFloor old t → Viewed old o t v → (e : TimeParts) → floor_of m ≡ Some e → lt t e ≡ true → Frozen (old ∷ olds) m
   frozen-now olds old m n c on w e is low = record {
@@ -224,10 +190,7 @@ module _ (o : ObjectId) (t : TimeParts) (v : Value) where
       later : (x : TimeParts) (z : Value) → SomeOf (λ l. Has (Put o x z) l) (m ∷ (old ∷ olds)) → (Has (Put o x z) old ⊎ Gone old o x) ⊎ (lt x t ≡ false)
       later x z (inr (inl j)) = inl (inl j)
       later x z (inr (inr j)) = inl (some-given old o x z olds (chain-given olds old c) j)
-      later x z (inl j) = elim (came-old old m n e is low x z j) [
-        | inl h ↦ inl (inl h)
-        | inr h ↦ inr h
-      ]
+      later x z (inl j) = elim (came-old old m n e is low x z j) [ inl h ↦ inl (inl h) | inr h ↦ inr h ]
 
   on : (old m : List Mark) (n : Follows_on old m) → ((e : TimeParts) → floor_of n.base ≡ Some e → lt t e ≡ false) → Viewed n.base o t v → IsOnFloor m t × Viewed m o t v
   on old m n f w = (λ e is. f e (sym (floor-base old m n) ∙ is), subst (λ z. Viewed z o t v) (sym n.is) (viewed-grown n.base n.fresh o t v n.grew w))

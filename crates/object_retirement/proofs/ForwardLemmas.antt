@@ -1,19 +1,11 @@
 -- What a log that was carried forward says: its marks are those that a retirement keeps, its records and decisions are as they were.
-use Rattle.std.proofs.Common.{◌≡◌, Bool, true, false, List, [], ◌∷◌, refl, sym, ◌∙◌, ap, if◌then◌else◌, ◌⊎◌, inl, inr}
-use Rattle.pseudo_time.specs.StampParts.{StampParts}
-use Rattle.pseudo_time.specs.TimeParts.{TimeParts}
-use Rattle.pseudo_time.specs.Lists.{Has}
-use Rattle.pseudo_time.specs.Order.{same_stamp, lt}
+use Rattle.object_retirement.proofs.Names.{◌≡◌, Bool, true, false, List, [], ◌∷◌, refl, sym, ◌∙◌, ap, if◌then◌else◌, ◌⊎◌, inl, inr, StampParts, TimeParts, Has, same_stamp, lt, ObjectId, Value, or_else, settle_of, version_count, stays_put, kept, retired}
 use Rattle.pseudo_time.specs.declared.decisions.Decision.{Decision}
-use Rattle.value_form.specs.declared.objects.ObjectId.{ObjectId}
-use Rattle.value_form.specs.declared.values.Value.{Value}
 use Rattle.effect_form.specs.declared.effects.Effect.{Effect}
 use Rattle.effect_form.specs.declared.effects.Effect.TheVariants.{Put, Stretch, Begin, Decide, Learn, Mark, Whole}
 use Rattle.object_history.specs.declared.marks.Mark as history
 use Rattle.object_history.specs.declared.marks.Mark.TheVariants as mark
-use Rattle.object_history.specs.History.{or_else, settle_of, version_count}
 use Rattle.repository_log.specs.Logs.{marks, known, is_commit, as_decision, first_begin, decision_of, record_from, record_of}
-use Rattle.object_retirement.specs.Retired.{stays_put, kept, retired}
 use Rattle.object_retirement.specs.Forward.{carried, forwarded}
 use Rattle.object_retirement.proofs.RetiredLemmas.{settle-kept}
 
@@ -24,8 +16,7 @@ marks-put : (b : Bool) (o : ObjectId) (x : TimeParts) (v : Value) (k : List Effe
 marks-put true o x v k m h = ap (λ z. mark.Put o x v ∷ z) h
 marks-put false o x v k m h = h
 
-marks-stretch : (b : Bool) (o : ObjectId) (x : TimeParts) (k : List Effect) (m : List history.Mark) → marks k ≡ m →
-    marks (if b then Stretch o x ∷ k else k) ≡ (if b then mark.Stretch o x ∷ m else m)
+marks-stretch : (b : Bool) (o : ObjectId) (x : TimeParts) (k : List Effect) (m : List history.Mark) → marks k ≡ m → marks (if b then Stretch o x ∷ k else k) ≡ (if b then mark.Stretch o x ∷ m else m)
 marks-stretch true o x k m h = ap (λ z. mark.Stretch o x ∷ z) h
 marks-stretch false o x k m h = h
 

@@ -3,3 +3,4 @@ pub mod ForwardLemmas
 pub mod OlderLemmas
 pub mod RetiredLemmas
 pub mod StoodLemmas
+pub mod Names

@@ -1,26 +1,5 @@
 -- What was given up hides nothing that a reader at or above the floor views.
-use Rattle.std.proofs.Common.{◌≡◌, ◌≢◌, Bool, true, false, List, [], ◌∷◌, refl, sym, ◌∙◌, ap, subst, Option, Some, None, ◌&&◌, ◌||◌, not, ◌⊎◌, inl, inr}
-use Rattle.std.proofs.lemmas.Bool.{true≢false}
-use Rattle.pseudo_time.specs.StampParts.{StampParts}
-use Rattle.pseudo_time.specs.TimeParts.{TimeParts}
-use Rattle.pseudo_time.specs.Lists.{Has}
-use Rattle.pseudo_time.specs.Order.{same_stamp, lt}
-use Rattle.pseudo_time.proofs.OrderLemmas.{same_stamp-is, same_stamp-of, lt-trans, lt-split, lt-total}
-use Rattle.value_form.specs.declared.objects.ObjectId.{ObjectId}
-use Rattle.value_form.specs.declared.values.Value.{Value}
-use Rattle.object_history.specs.declared.marks.Mark.{Mark}
-use Rattle.object_history.specs.declared.marks.Mark.TheVariants.{Put, Stretch, Settle, Floor}
-use Rattle.object_history.specs.History.{Seen, settle_of, is_alive, is_committed, alive, scan, place_of, same_place, version_count, floor_of}
-use Rattle.object_history.specs.Views.{Starts, HasPut, IsVersion, Distinct, Fits, Firm, shows, views}
-use Rattle.object_retirement.specs.Retired.{last_firm, retired, MayRetire, Same}
-use Rattle.object_retirement.specs.Older.{Gone, GivenUp}
-use Rattle.object_history.proofs.Words.{Passes, AtMost}
-use Rattle.object_history.proofs.BoolLemmas.{and-both, and-left, and-right}
-use Rattle.object_history.proofs.ObjectLemmas.{eqb-yes}
-use Rattle.object_history.proofs.TestLemmas.{two-tests}
-use Rattle.object_history.proofs.StableLemmas.{scan-passes, starts-all}
-use Rattle.object_history.proofs.ViewLemmas.{top-all, has-map}
-use Rattle.object_history.proofs.ScanLemmas.{Standing, standing, stands-has, one-version, settled-kept}
+use Rattle.object_retirement.proofs.Names.{◌≡◌, ◌≢◌, Bool, true, false, List, [], ◌∷◌, refl, sym, ◌∙◌, ap, subst, Option, Some, None, ◌&&◌, ◌||◌, not, ◌⊎◌, inl, inr, true≢false, StampParts, TimeParts, Has, same_stamp, lt, same_stamp-is, same_stamp-of, lt-trans, lt-split, lt-total, ObjectId, Value, Mark, Put, Stretch, Floor, Seen, settle_of, is_alive, is_committed, alive, scan, place_of, same_place, version_count, floor_of, Starts, HasPut, IsVersion, Distinct, Fits, Firm, shows, views, last_firm, retired, MayRetire, Same, Gone, GivenUp, Passes, AtMost, and-both, and-left, and-right, eqb-yes, two-tests, scan-passes, starts-all, top-all, has-map, Standing, standing, stands-has, one-version, settled-kept}
 use Rattle.object_retirement.proofs.RetiredLemmas.{starts-has, same-found, settle-kept, floor-kept, stands-kept}
 use Rattle.object_history.proofs.AnswerLemmas.{committed}
 
@@ -28,23 +7,15 @@ has-stands : (o : ObjectId) (m : List Mark) (x : TimeParts) (v : Value) → Has 
 has-stands o [] x v j = absurd j
 has-stands o (Put a y w ∷ m) x v (inl e) = let p : a ≡ o = cc e in (record { place = version_count o m; start = y; value = w }, inl (p, refl), cc e, cc e)
 has-stands o (Put a y w ∷ m) x v (inr j) = let h = has-stands o m x v j in (h.0, inr h.1, h.2, h.3)
-has-stands o (Stretch a y ∷ m) x v (inl e) = absurd (cc e)
-has-stands o (Stretch a y ∷ m) x v (inr j) = has-stands o m x v j
-has-stands o (Settle s c ∷ m) x v (inl e) = absurd (cc e)
-has-stands o (Settle s c ∷ m) x v (inr j) = has-stands o m x v j
-has-stands o (Floor y ∷ m) x v (inl e) = absurd (cc e)
-has-stands o (Floor y ∷ m) x v (inr j) = has-stands o m x v j
+has-stands o (_ ∷ m) x v (inl e) = absurd (cc e)
+has-stands o (_ ∷ m) x v (inr j) = has-stands o m x v j
 
 has-start : (P : TimeParts → Type 0) (o : ObjectId) (m : List Mark) (x : TimeParts) (v : Value) → P x → Has (Put o x v) m → HasPut P o m
 has-start P o [] x v p j = j
 has-start P o (Put a y w ∷ m) x v p (inl e) = let q : x ≡ y = cc (sym e) in inl (cc e, subst P q p)
 has-start P o (Put a y w ∷ m) x v p (inr j) = inr (has-start P o m x v p j)
-has-start P o (Stretch a y ∷ m) x v p (inl e) = absurd (cc e)
-has-start P o (Stretch a y ∷ m) x v p (inr j) = has-start P o m x v p j
-has-start P o (Settle s c ∷ m) x v p (inl e) = absurd (cc e)
-has-start P o (Settle s c ∷ m) x v p (inr j) = has-start P o m x v p j
-has-start P o (Floor y ∷ m) x v p (inl e) = absurd (cc e)
-has-start P o (Floor y ∷ m) x v p (inr j) = has-start P o m x v p j
+has-start P o (_ ∷ m) x v p (inl e) = absurd (cc e)
+has-start P o (_ ∷ m) x v p (inr j) = has-start P o m x v p j
 
 is-firm : (u : Option Bool) → u ≡ Some true → is_committed u ≡ true
 is-firm u e = ap is_committed e
@@ -67,12 +38,8 @@ module _ (m : List Mark) (at : TimeParts) (may : MayRetire m at) (d : Distinct m
             (subst (λ r. Starts (λ z. (lt z at && is_committed (settle_of m z.stamp)) ≡ true → AtMost r z) o m) e (top-all ok o m)) j (and-both (lt y at) _ below (is-firm (settle_of m y.stamp) set)),
         and-left (lt q.start at) _ passes,
         committed (settle_of m q.start.stamp) (and-right (lt q.start at) _ passes),
-        stands-kept m at o m q stands (or-yes (not (lt q.start at)) _ (ap (λ r. same_place (place_of r) (Some q.place)) e ∙ eqb-yes q.place q.place refl)),
+        stands-kept m at o m q stands ((elim (not (lt q.start at)) as (λ a. (b : Bool) → b ≡ true → (a || b) ≡ true) [ true ↦ λ b h. refl | false ↦ λ b h. h ]) _ (ap (λ r. same_place (place_of r) (Some q.place)) e ∙ eqb-yes q.place q.place refl)),
       )
-    where
-      or-yes : (a b : Bool) → b ≡ true → (a || b) ≡ true
-      or-yes true b h = refl
-      or-yes false b h = h
 
   -- a version below the mark stays, or is given up
   below-mark : (o : ObjectId) (x : TimeParts) (v : Value) → Has (Put o x v) m → lt x at ≡ true → (u : Option Bool) → settle_of m x.stamp ≡ u → Has (Put o x v) (retired m at) ⊎ Gone (retired m at) o x
@@ -98,7 +65,7 @@ module _ (m : List Mark) (at : TimeParts) (may : MayRetire m at) (d : Distinct m
 
   -- what a retirement gives up
   pub given-up : GivenUp (retired m at) m
-  given-up o x v j = either (lt x at) refl
+  given-up o x v j = (elim (lt x at) as (λ b. lt x at ≡ b → Has (Put o x v) (retired m at) ⊎ Gone (retired m at) o x) [ true ↦ λ e. below-mark o x v j e (settle_of m x.stamp) refl | false ↦ λ e. inl (above e (has-stands o m x v j)) ]) refl
     where
       above : lt x at ≡ false → (h : (q : Seen) × IsVersion o m q × (q.start ≡ x) × (q.value ≡ v)) → Has (Put o x v) (retired m at)
       above e h =
@@ -109,10 +76,6 @@ module _ (m : List Mark) (at : TimeParts) (may : MayRetire m at) (d : Distinct m
           or-first true b k = absurd (true≢false k)
           or-first false b k = refl
 
-      either : (b : Bool) → lt x at ≡ b → Has (Put o x v) (retired m at) ⊎ Gone (retired m at) o x
-      either true e = below-mark o x v j e (settle_of m x.stamp) refl
-      either false e = inl (above e (has-stands o m x v j))
-
 -- ---- it stays given up
 
 pub put-of : (P : TimeParts → Type 0) (o : ObjectId) (m : List Mark) → HasPut P o m → (y : TimeParts) × (v : Value) × P y × Has (Put o y v) m
@@ -120,21 +83,16 @@ put-of P o [] j = absurd j
 put-of P o (Put a y w ∷ m) (inl j) = (y, w, j.1, inl (ap (λ z. Put z y w) j.0))
 put-of P o (Put a y w ∷ m) (inr j) = let h = put-of P o m j in (h.0, h.1, h.2, inr h.3)
 put-of P o (Stretch a y ∷ m) j = let h = put-of P o m j in (h.0, h.1, h.2, inr h.3)
-put-of P o (Settle s c ∷ m) j = let h = put-of P o m j in (h.0, h.1, h.2, inr h.3)
-put-of P o (Floor y ∷ m) j = let h = put-of P o m j in (h.0, h.1, h.2, inr h.3)
+put-of P o (_ ∷ m) j = let h = put-of P o m j in (h.0, h.1, h.2, inr h.3)
 
 pub floor-stays : (m : List Mark) (f : Mark) → Fits m f → floor_of (f ∷ m) ≡ floor_of m
 unfolding floor_of
-floor-stays m (Put a x v) fits = refl
-floor-stays m (Stretch a x) fits = refl
-floor-stays m (Settle s c) fits = refl
 floor-stays m (Floor x) fits = absurd fits
+floor-stays m _ fits = refl
 
 put-more : (P : TimeParts → Type 0) (o : ObjectId) (m : List Mark) (f : Mark) → HasPut P o m → HasPut P o (f ∷ m)
 put-more P o m (Put a x v) j = inr j
-put-more P o m (Stretch a x) j = j
-put-more P o m (Settle s c) j = j
-put-more P o m (Floor x) j = j
+put-more P o m _ j = j
 
 gone-stays : (m : List Mark) (f : Mark) (o : ObjectId) (x : TimeParts) → Fits m f → Gone m o x → Gone (f ∷ m) o x
 gone-stays m f o x fits (e, is, l, inl dead) = (e, floor-stays m f fits ∙ is, l, inl (settled-kept m f x.stamp false dead))
@@ -149,10 +107,7 @@ gone-stays m f o x fits (e, is, l, inr j) = (
 
 -- under each mark that fits
 pub given-up-fits : (m old : List Mark) (f : Mark) → Fits m f → GivenUp m old → GivenUp (f ∷ m) old
-given-up-fits m old f fits g o x v j = elim (g o x v j) [
-  | inl h ↦ inl (inr h)
-  | inr h ↦ inr (gone-stays m f o x fits h)
-]
+given-up-fits m old f fits g o x v j = elim (g o x v j) [ inl h ↦ inl (inr h) | inr h ↦ inr (gone-stays m f o x fits h) ]
 
 gone-again : (m : List Mark) (at : TimeParts) → MayRetire m at → Distinct m → (o : ObjectId) (x : TimeParts) → Gone m o x → Gone (retired m at) o x
 gone-again m at may d o x (e, is, l, inl dead) = (at, floor-kept m at m, lt-trans x e at l (may.floor e is), inl (settle-kept m at m x.stamp ∙ dead))
@@ -168,10 +123,7 @@ gone-again m at may d o x (e, is, l, inr j) =
 
 -- and under each retirement
 pub given-up-again : (m old : List Mark) (at : TimeParts) → MayRetire m at → Distinct m → GivenUp m old → GivenUp (retired m at) old
-given-up-again m old at may d g o x v j = elim (g o x v j) [
-  | inl h ↦ given-up m at may d o x v h
-  | inr h ↦ inr (gone-again m at may d o x h)
-]
+given-up-again m old at may d g o x v j = elim (g o x v j) [ inl h ↦ given-up m at may d o x v h | inr h ↦ inr (gone-again m at may d o x h) ]
 
 -- ---- OVER ALL VERSIONS THAT EVER WERE, WHAT A READER SAW IN AN OLDER HISTORY IS SEEN STILL
 
@@ -200,8 +152,7 @@ module _ (l all : List Mark) (o : ObjectId) (t : TimeParts) (f : Follows l all o
   firm-later : (r : Option Seen) → Firm l t r → Passes (λ x. shows l t x) r → Passes (λ x. shows all t x) r
   firm-later None h p = tt
   firm-later (Some q) (inl own) p = and-both (lt q.start t) _ (and-left (lt q.start t) _ p) (or-own (alive all q.start) _ (same_stamp-of q.start.stamp t.stamp own))
-  firm-later (Some q) (inr set) p =
-      and-both (lt q.start t) _ (and-left (lt q.start t) _ p) (subst (λ u. (is_alive u || same_stamp q.start.stamp t.stamp) ≡ true) (sym (f.settles q.start.stamp true set)) refl)
+  firm-later (Some q) (inr set) p = and-both (lt q.start t) _ (and-left (lt q.start t) _ p) (subst (λ u. (is_alive u || same_stamp q.start.stamp t.stamp) ≡ true) (sym (f.settles q.start.stamp true set)) refl)
 
   same-view : Firm l t (views l o t) → scan (λ x. shows all t x) o l ≡ views l o t
   same-view firm =
@@ -225,10 +176,7 @@ module _ (l all : List Mark) (o : ObjectId) (t : TimeParts) (f : Follows l all o
   stood (Some r) s p most q e =
       let is : r ≡ q = cc e in
       subst (λ (z : Seen). Has (Put o z.start z.value) l) is
-      (elim (f.given r.start r.value (stands-has o all r s)) [
-        | inl h ↦ known h
-        | inr h ↦ absurd (true≢false (sym (and-left (lt r.start t) _ p) ∙ h))
-      ])
+      (elim (f.given r.start r.value (stands-has o all r s)) [ inl h ↦ known h | inr h ↦ absurd (true≢false (sym (and-left (lt r.start t) _ p) ∙ h)) ])
     where
       known : Has (Put o r.start r.value) l ⊎ Gone l o r.start → Has (Put o r.start r.value) l
       known (inl h) = h

@@ -1,27 +1,5 @@
 -- What a reader at or above the mark viewed, it views still once the versions below were given up.
-use Rattle.std.proofs.Common.{◌≡◌, ◌≢◌, ℕ, Bool, true, false, List, [], ◌∷◌, refl, sym, ◌∙◌, ap, subst, Option, Some, None, ◌&&◌, ◌||◌, not, if◌then◌else◌, ◌⊎◌, inl, inr}
-use Rattle.std.proofs.lemmas.Bool.{false≢true, true≢false}
-use Rattle.pseudo_time.specs.StampParts.{StampParts}
-use Rattle.pseudo_time.specs.TimeParts.{TimeParts}
-use Rattle.pseudo_time.specs.Lists.{Has}
-use Rattle.pseudo_time.specs.Order.{same_stamp, lt}
-use Rattle.pseudo_time.proofs.OrderLemmas.{same_stamp-is, lt-split, lt-total}
-use Rattle.value_form.specs.declared.objects.ObjectId.{ObjectId}
-use Rattle.value_form.specs.declared.values.Value.{Value}
-use Rattle.object_history.specs.declared.marks.Mark.{Mark}
-use Rattle.object_history.specs.declared.marks.Mark.TheVariants.{Put, Stretch, Settle, Floor}
-use Rattle.object_history.specs.Objects.{same_object}
-use Rattle.object_history.specs.History.{Seen, or_else, settle_of, is_alive, is_committed, alive, version_count, scan, sees, place_of, same_place, top, stretched, floor_of, read_to, reach}
-use Rattle.object_history.specs.Views.{Starts, HasPut, IsVersion, Distinct, shows, views, Covers, Firm, Shut, value_of, Viewed}
-use Rattle.object_retirement.specs.Retired.{last_firm, stays_put, kept, retired, MayRetire, Same, NoneOwn}
-use Rattle.object_history.proofs.Words.{Passes, AtMost}
-use Rattle.object_history.proofs.BoolLemmas.{and-both, and-left, and-right, not-false}
-use Rattle.object_history.proofs.ObjectLemmas.{eq-from, eqb-yes}
-use Rattle.object_history.proofs.TestLemmas.{two-tests}
-use Rattle.object_history.proofs.StableLemmas.{starts-all, scan-passes}
-use Rattle.object_history.proofs.ViewLemmas.{top-all, has-map, covers-which, covers-either, covers-first, covers-rest, covers-floor, covers-read, covers-top}
-use Rattle.object_history.proofs.ScanLemmas.{Standing, standing, same-scan, stands-starts, stands-has, one-version}
-use Rattle.object_history.proofs.ReachLemmas.{one-place}
+use Rattle.object_retirement.proofs.Names.{◌≡◌, ◌≢◌, ℕ, Bool, true, false, List, [], ◌∷◌, refl, sym, ◌∙◌, ap, subst, Option, Some, None, ◌&&◌, ◌||◌, not, if◌then◌else◌, ◌⊎◌, inl, inr, false≢true, true≢false, StampParts, TimeParts, Has, same_stamp, lt, same_stamp-is, lt-split, lt-total, ObjectId, Value, Mark, Put, Stretch, Settle, Floor, same_object, Seen, or_else, settle_of, is_alive, is_committed, alive, version_count, scan, sees, place_of, same_place, top, stretched, floor_of, read_to, reach, Starts, HasPut, IsVersion, Distinct, shows, views, Covers, Firm, Shut, value_of, Viewed, last_firm, stays_put, kept, retired, MayRetire, Same, NoneOwn, Passes, AtMost, and-both, and-left, and-right, not-false, eq-from, eqb-yes, two-tests, starts-all, scan-passes, top-all, has-map, covers-which, covers-either, covers-first, covers-rest, covers-floor, covers-read, covers-top, Standing, standing, same-scan, stands-starts, stands-has, one-version, one-place}
 
 -- ---- versions of two lists
 
@@ -29,12 +7,8 @@ pub starts-has : (P : TimeParts → Type 0) (o : ObjectId) (m : List Mark) (x : 
 starts-has P o [] x v h j = absurd j
 starts-has P o (Put a y w ∷ m) x v h (inl e) = let p : y ≡ x = cc e in let q : a ≡ o = cc e in subst P p (h.0 q)
 starts-has P o (Put a y w ∷ m) x v h (inr j) = starts-has P o m x v h.1 j
-starts-has P o (Stretch a y ∷ m) x v h (inl e) = absurd (cc e)
-starts-has P o (Stretch a y ∷ m) x v h (inr j) = starts-has P o m x v h j
-starts-has P o (Settle s c ∷ m) x v h (inl e) = absurd (cc e)
-starts-has P o (Settle s c ∷ m) x v h (inr j) = starts-has P o m x v h j
-starts-has P o (Floor y ∷ m) x v h (inl e) = absurd (cc e)
-starts-has P o (Floor y ∷ m) x v h (inr j) = starts-has P o m x v h j
+starts-has P o (_ ∷ m) x v h (inl e) = absurd (cc e)
+starts-has P o (_ ∷ m) x v h (inr j) = starts-has P o m x v h j
 
 apart : (a o : ObjectId) (y x : TimeParts) (u v w : Value) (m : List Mark) → Put a y u ≡ Put o x v → Starts (λ z. z ≢ y) a m → Has (Put o x w) m → ⊥
 apart a o y x u v w m e h j =
@@ -49,14 +23,9 @@ one-value o (Put a y u ∷ m) x v w d (inl e) (inr j) = absurd (apart a o y x u 
 one-value o (Put a y u ∷ m) x v w d (inr i) (inl f) = absurd (apart a o y x u w v m f d.0 i)
 one-value o (Put a y u ∷ m) x v w d (inr i) (inr j) = one-value o m x v w d.1 i j
 one-value o (Stretch a y ∷ m) x v w d (inl e) j = absurd (cc e)
-one-value o (Stretch a y ∷ m) x v w d (inr i) (inl f) = absurd (cc f)
-one-value o (Stretch a y ∷ m) x v w d (inr i) (inr j) = one-value o m x v w d i j
-one-value o (Settle s c ∷ m) x v w d (inl e) j = absurd (cc e)
-one-value o (Settle s c ∷ m) x v w d (inr i) (inl f) = absurd (cc f)
-one-value o (Settle s c ∷ m) x v w d (inr i) (inr j) = one-value o m x v w d i j
-one-value o (Floor y ∷ m) x v w d (inl e) j = absurd (cc e)
-one-value o (Floor y ∷ m) x v w d (inr i) (inl f) = absurd (cc f)
-one-value o (Floor y ∷ m) x v w d (inr i) (inr j) = one-value o m x v w d i j
+one-value o (_ ∷ m) x v w d (inl e) j = absurd (cc e)
+one-value o (_ ∷ m) x v w d (inr i) (inl f) = absurd (cc f)
+one-value o (_ ∷ m) x v w d (inr i) (inr j) = one-value o m x v w d i j
 
 module _ (ok : TimeParts → Bool) (o : ObjectId) (m k : List Mark) (d : Distinct m) (sub : (x : TimeParts) (v : Value) → Has (Put o x v) k → Has (Put o x v) m) where
   same-end : (r s : Option Seen) → Standing o m r → Passes ok r → Starts (λ y. ok y ≡ true → AtMost r y) o m → ((q : Seen) → r ≡ Some q → Has (Put o q.start q.value) k) →
@@ -67,14 +36,12 @@ module _ (ok : TimeParts → Bool) (o : ObjectId) (m k : List Mark) (d : Distinc
   same-end (Some q) (Some p) sr pr tr stay ss ps ts =
       let in_m : Has (Put o p.start p.value) m = sub p.start p.value (stands-has o k p ss) in
       let high : lt q.start p.start ≡ false = starts-has (λ y. ok y ≡ true → lt q.start y ≡ false) o m p.start p.value tr in_m ps in
-      let low : lt p.start q.start ≡ false = starts-has (λ y. ok y ≡ true → lt p.start y ≡ false) o k q.start q.value ts (stay q refl) pr in
-      let e : p.start ≡ q.start = lt-total p.start q.start low high in
+      let e : p.start ≡ q.start = lt-total p.start q.start (starts-has (λ y. ok y ≡ true → lt p.start y ≡ false) o k q.start q.value ts (stay q refl) pr) high in
       (e, one-value o m q.start p.value q.value d (subst (λ z. Has (Put o z p.value) m) e in_m) (stands-has o m q sr))
 
   -- of a list with fewer versions the same is found, if what was found is among them
   pub same-found : ((q : Seen) → scan ok o m ≡ Some q → Has (Put o q.start q.value) k) → Same (scan ok o k) (scan ok o m)
-  same-found stay =
-      same-end (scan ok o m) (scan ok o k) (standing ok o m) (scan-passes ok o m) (top-all ok o m) stay (standing ok o k) (scan-passes ok o k) (top-all ok o k)
+  same-found stay = same-end (scan ok o m) (scan ok o k) (standing ok o m) (scan-passes ok o m) (top-all ok o m) stay (standing ok o k) (scan-passes ok o k) (top-all ok o k)
 
 -- ---- what stays
 
@@ -101,8 +68,7 @@ unfolding kept floor_of
 floor-kept all at [] = refl
 floor-kept all at (Put o x v ∷ m) = floor-if (stays_put all at o x (version_count o m)) (Put o x v) (kept all at m) refl ∙ floor-kept all at m
 floor-kept all at (Stretch o x ∷ m) = floor-if (lt at x) (Stretch o x) (kept all at m) refl ∙ floor-kept all at m
-floor-kept all at (Settle p c ∷ m) = floor-kept all at m
-floor-kept all at (Floor x ∷ m) = floor-kept all at m
+floor-kept all at (_ ∷ m) = floor-kept all at m
 
 sub-if : (b : Bool) (f p : Mark) (k m : List Mark) → (Has p k → Has p m) → Has p (if b then f ∷ k else k) → Has p (f ∷ m)
 sub-if true f p k m h (inl e) = inl e
@@ -149,11 +115,9 @@ starts-if P o false f k h i = i
 pub starts-kept : (P : TimeParts → Type 0) (o : ObjectId) (all : List Mark) (at : TimeParts) (m : List Mark) → Starts P o m → Starts P o (kept all at m)
 unfolding kept
 starts-kept P o all at [] h = tt
-starts-kept P o all at (Put a x v ∷ m) h =
-    starts-if P o (stays_put all at a x (version_count a m)) (Put a x v) (kept all at m) (h.0, starts-kept P o all at m h.1) (starts-kept P o all at m h.1)
+starts-kept P o all at (Put a x v ∷ m) h = starts-if P o (stays_put all at a x (version_count a m)) (Put a x v) (kept all at m) (h.0, starts-kept P o all at m h.1) (starts-kept P o all at m h.1)
 starts-kept P o all at (Stretch a x ∷ m) h = starts-if P o (lt at x) (Stretch a x) (kept all at m) (starts-kept P o all at m h) (starts-kept P o all at m h)
-starts-kept P o all at (Settle s c ∷ m) h = starts-kept P o all at m h
-starts-kept P o all at (Floor x ∷ m) h = starts-kept P o all at m h
+starts-kept P o all at (_ ∷ m) h = starts-kept P o all at m h
 
 distinct-if : (b : Bool) (f : Mark) (k : List Mark) → Distinct (f ∷ k) → Distinct k → Distinct (if b then f ∷ k else k)
 distinct-if true f k h i = h
@@ -165,8 +129,7 @@ distinct-retired all at [] d = tt
 distinct-retired all at (Put o x v ∷ m) d =
     distinct-if (stays_put all at o x (version_count o m)) (Put o x v) (kept all at m) (starts-kept (λ y. y ≢ x) o all at m d.0, distinct-retired all at m d.1) (distinct-retired all at m d.1)
 distinct-retired all at (Stretch o x ∷ m) d = distinct-if (lt at x) (Stretch o x) (kept all at m) (distinct-retired all at m d) (distinct-retired all at m d)
-distinct-retired all at (Settle s c ∷ m) d = distinct-retired all at m d
-distinct-retired all at (Floor x ∷ m) d = distinct-retired all at m d
+distinct-retired all at (_ ∷ m) d = distinct-retired all at m d
 
 -- ---- A READER AT OR ABOVE THE MARK SEES THE SAME
 
@@ -242,11 +205,9 @@ has-put-kept P o all at (Put a x v ∷ m) h (inl j) = either (lt x at) (h x j.1)
     either : (b : Bool) → b ≡ false → (c : Bool) → HasPut P o (if not b || c then Put a x v ∷ kept all at m else kept all at m)
     either true e c = absurd (true≢false e)
     either false e c = inl j
-has-put-kept P o all at (Put a x v ∷ m) h (inr j) =
-    has-if P o (stays_put all at a x (version_count a m)) (Put a x v) (kept all at m) (has-put-kept P o all at m h j) (inr (has-put-kept P o all at m h j))
+has-put-kept P o all at (Put a x v ∷ m) h (inr j) = has-if P o (stays_put all at a x (version_count a m)) (Put a x v) (kept all at m) (has-put-kept P o all at m h j) (inr (has-put-kept P o all at m h j))
 has-put-kept P o all at (Stretch a x ∷ m) h j = has-if P o (lt at x) (Stretch a x) (kept all at m) (has-put-kept P o all at m h j) (has-put-kept P o all at m h j)
-has-put-kept P o all at (Settle s c ∷ m) h j = has-put-kept P o all at m h j
-has-put-kept P o all at (Floor x ∷ m) h j = has-put-kept P o all at m h j
+has-put-kept P o all at (_ ∷ m) h j = has-put-kept P o all at m h j
 
 stands-if : (o : ObjectId) (b : Bool) (f : Mark) (k : List Mark) (q : Seen) → IsVersion o k q → IsVersion o (f ∷ k) q → IsVersion o (if b then f ∷ k else k) q
 stands-if o true f k q s i = i
@@ -263,9 +224,7 @@ one-end o m k d (Some r) None s s2 a b c e f g h = absurd f
 one-end o m k d (Some r) r2 None s2 a b c e f g h = absurd (false≢true h)
 one-end o m k d (Some r) r2 (Some s) None a b c e f g h = absurd g
 one-end o m k d (Some r) (Some r2) (Some s) (Some s2) a b c e f g h =
-    let same : s ≡ r = one-place o m s r c a (eq-from s.place r.place h) in
-    let start : s2.start ≡ r2.start = g.0 ∙ ap (λ (z : Seen). z.start) same ∙ sym f.0 in
-    let one : s2 ≡ r2 = one-version o k s2 r2 d e b start in
+    let one : s2 ≡ r2 = one-version o k s2 r2 d e b (g.0 ∙ ap (λ (z : Seen). z.start) (one-place o m s r c a (eq-from s.place r.place h)) ∙ sym f.0) in
     eqb-yes s2.place r2.place (ap (λ (z : Seen). z.place) one)
 
 lifted : (o : ObjectId) (l m : List Mark) (r : Option Seen) → ((q : Seen) → IsVersion o l q → IsVersion o m q) → Standing o l r → Standing o m r
@@ -273,10 +232,7 @@ lifted o l m None up s = tt
 lifted o l m (Some q) up s = up q s
 
 covers-cases : (b : Bool) (x t : TimeParts) (e : Option TimeParts) → Covers (if b then top x e else e) t → ((b ≡ true) × (lt x t ≡ false)) ⊎ Covers e t
-covers-cases true x t e c = elim (covers-either x e t c) [
-  | inl h ↦ inl (refl, h)
-  | inr h ↦ inr h
-]
+covers-cases true x t e c = elim (covers-either x e t c) [ inl h ↦ inl (refl, h) | inr h ↦ inr h ]
 covers-cases false x t e c = inr c
 
 covers-yes : (b : Bool) (x t : TimeParts) (e : Option TimeParts) → b ≡ true → lt x t ≡ false → Covers (if b then top x e else e) t
@@ -331,8 +287,6 @@ module _ (m : List Mark) (at : TimeParts) (o : ObjectId) (t : TimeParts) (d : Di
         | inl h ↦ inl h
         | inr h ↦ inr (covers-put o (place_of r2) b a x v (kept m at l) t h)
       ]
-  stretch-stays (Settle s e ∷ l) dl up up2 c = stretch-stays l dl up up2 c
-  stretch-stays (Floor x ∷ l) dl up up2 c = stretch-stays l dl up up2 c
   stretch-stays (Stretch a x ∷ l) dl up up2 c = elim (covers-cases (same_object a o && same_place (place_of (sees l o x)) (place_of r)) x t (stretched l o (place_of r)) c) [
     | inr h ↦
         elim (stretch-stays l dl up (λ q s. up2 q (stands-if o (lt at x) (Stretch a x) (kept m at l) q s s)) h) [
@@ -346,6 +300,7 @@ module _ (m : List Mark) (at : TimeParts) (o : ObjectId) (t : TimeParts) (d : Di
           (lt at t ≡ false) ⊎ Covers (stretched (if b then Stretch a x ∷ kept m at l else kept m at l) o (place_of r2)) t
       either true e k c = inr (covers-yes _ x t (stretched (kept m at l) o (place_of r2)) k c)
       either false e k c = inl (not-false (lt at t) (λ n. true≢false (sym (lt-split at x t n c) ∙ e)))
+  stretch-stays (_ ∷ l) dl up up2 c = stretch-stays l dl up up2 c
 
 no-floor : (f : Option TimeParts) (at t : TimeParts) → ((e : TimeParts) → f ≡ Some e → lt e at ≡ true) → lt t at ≡ false → Covers f t → ⊥
 no-floor None at t h a c = c
@@ -366,10 +321,7 @@ same-values (Some r) (Some z) s = s.1
 
 read-stretched : (m : List Mark) (o : ObjectId) (t : TimeParts) (r : Option Seen) → Passes (λ x. shows m t x) r → Covers (read_to m o r) t → Covers (stretched m o (place_of r)) t
 read-stretched m o t None p c = c
-read-stretched m o t (Some q) p c = elim (covers-either q.start (stretched m o (Some q.place)) t c) [
-  | inl h ↦ absurd (true≢false (sym (and-left (lt q.start t) _ p) ∙ h))
-  | inr h ↦ h
-]
+read-stretched m o t (Some q) p c = elim (covers-either q.start (stretched m o (Some q.place)) t c) [ inl h ↦ absurd (true≢false (sym (and-left (lt q.start t) _ p) ∙ h)) | inr h ↦ h ]
 
 stretched-read : (m : List Mark) (o : ObjectId) (t : TimeParts) (r : Option Seen) → Covers (stretched m o (place_of r)) t → Covers (read_to m o r) t
 stretched-read m o t None c = c

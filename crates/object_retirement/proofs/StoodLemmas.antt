@@ -1,21 +1,5 @@
 -- The versions that ever stood are gathered, each object and start once.
-use Rattle.std.proofs.Common.{◌≡◌, ◌≢◌, ℕ, ◌≤◌, Bool, true, false, List, [], ◌∷◌, ◌&&◌, ◌||◌, refl, sym, ◌∙◌, ap, subst, Some, if◌then◌else◌, ◌⊎◌, inl, inr}
-use Rattle.std.proofs.lemmas.Bool.{true≢false}
-use Rattle.pseudo_time.specs.StampParts.{StampParts}
-use Rattle.pseudo_time.specs.TimeParts.{TimeParts}
-use Rattle.pseudo_time.specs.Lists.{Has}
-use Rattle.pseudo_time.specs.Order.{same_time}
-use Rattle.pseudo_time.proofs.OrderLemmas.{same_time-is, same_time-of}
-use Rattle.value_form.specs.declared.objects.ObjectId.{ObjectId}
-use Rattle.value_form.specs.declared.values.Value.{Value}
-use Rattle.object_history.specs.declared.marks.Mark.{Mark}
-use Rattle.object_history.specs.declared.marks.Mark.TheVariants.{Put, Stretch, Settle, Floor}
-use Rattle.object_history.specs.Objects.{same_object}
-use Rattle.object_history.specs.History.{settle_of}
-use Rattle.object_history.specs.Views.{Starts, Distinct}
-use Rattle.object_history.proofs.BoolLemmas.{and-both, and-left, and-right}
-use Rattle.object_history.proofs.ObjectLemmas.{same_object-is, same_object-of}
-use Rattle.object_retirement.specs.Chains.{AllOf, Chain, SomeOf}
+use Rattle.object_retirement.proofs.Names.{◌≡◌, ◌≢◌, ◌≤◌, Bool, true, false, List, [], ◌∷◌, ◌&&◌, ◌||◌, refl, sym, ◌∙◌, ap, subst, if◌then◌else◌, ◌⊎◌, inl, inr, true≢false, StampParts, TimeParts, Has, same_time, same_time-is, same_time-of, ObjectId, Value, Mark, Put, Floor, same_object, settle_of, Starts, Distinct, and-both, and-left, and-right, same_object-is, same_object-of, AllOf, Chain, SomeOf}
 use Rattle.object_retirement.specs.Stood.{all_stood, has_start, with_old}
 use Rattle.object_retirement.proofs.ChainLemmas.{chain-distinct}
 
@@ -35,14 +19,9 @@ start-has o x [] e = absurd (cc e)
 start-has o x (Put a y v ∷ m) e = go (or-here (same_object a o && same_time y x) (has_start o x m) e) (λ h. start-has o x m h)
   where
     go : ((same_object a o && same_time y x) ≡ true) ⊎ (has_start o x m ≡ true) → (has_start o x m ≡ true → (w : Value) × Has (Put o x w) m) → (w : Value) × Has (Put o x w) (Put a y v ∷ m)
-    go (inl k) rest =
-        let p : a ≡ o = same_object-is a o (and-left (same_object a o) (same_time y x) k) in
-        let q : y ≡ x = same_time-is y x (and-right (same_object a o) (same_time y x) k) in
-        (v, inl (ap (λ z. Put z y v) p ∙ ap (λ z. Put o z v) q))
+    go (inl k) rest = (v, inl (ap (λ z. Put z y v) (same_object-is a o (and-left (same_object a o) (same_time y x) k)) ∙ ap (λ z. Put o z v) (same_time-is y x (and-right (same_object a o) (same_time y x) k))))
     go (inr k) rest = let r = rest k in (r.0, inr r.1)
-start-has o x (Stretch a y ∷ m) e = let r = start-has o x m e in (r.0, inr r.1)
-start-has o x (Settle s c ∷ m) e = let r = start-has o x m e in (r.0, inr r.1)
-start-has o x (Floor z ∷ m) e = let r = start-has o x m e in (r.0, inr r.1)
+start-has o x (_ ∷ m) e = let r = start-has o x m e in (r.0, inr r.1)
 
 no-start : (o : ObjectId) (x : TimeParts) (m : List Mark) → has_start o x m ≡ false → Starts (λ y. y ≢ x) o m
 unfolding has_start
@@ -50,9 +29,7 @@ no-start o x [] e = tt
 no-start o x (Put a y v ∷ m) e =
     let k = or-none (same_object a o && same_time y x) (has_start o x m) e in
     ((λ p q. true≢false (sym (and-both (same_object a o) (same_time y x) (same_object-of a o p) (same_time-of y x q)) ∙ k.0)), no-start o x m k.1)
-no-start o x (Stretch a y ∷ m) e = no-start o x m e
-no-start o x (Settle s c ∷ m) e = no-start o x m e
-no-start o x (Floor z ∷ m) e = no-start o x m e
+no-start o x (_ ∷ m) e = no-start o x m e
 
 -- ---- one older history
 
@@ -64,33 +41,19 @@ distinct-with met (Put o x v ∷ m) d = go (has_start o x (with_old met m)) refl
     go : (b : Bool) → has_start o x (with_old met m) ≡ b → Distinct (with_old met m) → Distinct (if b then with_old met m else Put o x v ∷ with_old met m)
     go true e k = k
     go false e k = (no-start o x (with_old met m) e, k)
-distinct-with met (Stretch o x ∷ m) d = distinct-with met m d
-distinct-with met (Settle s c ∷ m) d = distinct-with met m d
-distinct-with met (Floor z ∷ m) d = distinct-with met m d
+distinct-with met (_ ∷ m) d = distinct-with met m d
 
 settles-with : (met m : List Mark) (s : StampParts) → settle_of (with_old met m) s ≡ settle_of met s
 unfolding with_old settle_of
 settles-with met [] s = refl
-settles-with met (Put o x v ∷ m) s = go (has_start o x (with_old met m)) ∙ settles-with met m s
-  where
-    go : (b : Bool) → settle_of (if b then with_old met m else Put o x v ∷ with_old met m) s ≡ settle_of (with_old met m) s
-    go true = refl
-    go false = refl
-settles-with met (Stretch o x ∷ m) s = settles-with met m s
-settles-with met (Settle t c ∷ m) s = settles-with met m s
-settles-with met (Floor z ∷ m) s = settles-with met m s
+settles-with met (Put o x v ∷ m) s = (elim (has_start o x (with_old met m)) as (λ b. settle_of (if b then with_old met m else Put o x v ∷ with_old met m) s ≡ settle_of (with_old met m) s) [ true ↦ refl | false ↦ refl ]) ∙ settles-with met m s
+settles-with met (_ ∷ m) s = settles-with met m s
 
 with-has : (met m : List Mark) (f : Mark) → Has f met → Has f (with_old met m)
 unfolding with_old
 with-has met [] f h = h
-with-has met (Put o x v ∷ m) f h = go (has_start o x (with_old met m)) (with-has met m f h)
-  where
-    go : (b : Bool) → Has f (with_old met m) → Has f (if b then with_old met m else Put o x v ∷ with_old met m)
-    go true k = k
-    go false k = inr k
-with-has met (Stretch o x ∷ m) f h = with-has met m f h
-with-has met (Settle s c ∷ m) f h = with-has met m f h
-with-has met (Floor z ∷ m) f h = with-has met m f h
+with-has met (Put o x v ∷ m) f h = (elim (has_start o x (with_old met m)) as (λ b. Has f (with_old met m) → Has f (if b then with_old met m else Put o x v ∷ with_old met m)) [ true ↦ λ k. k | false ↦ λ k. inr k ]) (with-has met m f h)
+with-has met (_ ∷ m) f h = with-has met m f h
 
 has-with : (met m : List Mark) (f : Mark) → Has f (with_old met m) → Has f met ⊎ Has f m
 unfolding with_old
@@ -105,9 +68,7 @@ has-with met (Put o x v ∷ m) f h = go (has_start o x (with_old met m)) h (λ k
     go true k rest = deeper (rest k)
     go false (inl e) rest = inr (inl e)
     go false (inr k) rest = deeper (rest k)
-has-with met (Stretch o x ∷ m) f h = elim (has-with met m f h) [ inl k ↦ inl k | inr k ↦ inr (inr k) ]
-has-with met (Settle s c ∷ m) f h = elim (has-with met m f h) [ inl k ↦ inl k | inr k ↦ inr (inr k) ]
-has-with met (Floor z ∷ m) f h = elim (has-with met m f h) [ inl k ↦ inl k | inr k ↦ inr (inr k) ]
+has-with met (_ ∷ m) f h = elim (has-with met m f h) [ inl k ↦ inl k | inr k ↦ inr (inr k) ]
 
 module _ (o : ObjectId) (P : TimeParts → Value → Type 0) (one : (x : TimeParts) (v w : Value) → P x v → P x w → v ≡ w) where
   abbrev Are : List Mark → Type 0
@@ -134,12 +95,9 @@ module _ (o : ObjectId) (P : TimeParts → Value → Type 0) (one : (x : TimePar
       go : (b : Bool) → Has (Put o x v) (with_old met m) → Has (Put o x v) (if b then with_old met m else Put u y w ∷ with_old met m)
       go true k = k
       go false k = inr k
-  each-with met (Stretch u y ∷ m) a c x v (inl e) = absurd (cc e)
-  each-with met (Stretch u y ∷ m) a c x v (inr h) = each-with met m a (λ z t k. c z t (inr k)) x v h
-  each-with met (Settle s d ∷ m) a c x v (inl e) = absurd (cc e)
-  each-with met (Settle s d ∷ m) a c x v (inr h) = each-with met m a (λ z t k. c z t (inr k)) x v h
-  each-with met (Floor z ∷ m) a c x v (inl e) = absurd (cc e)
+  each-with met (_ ∷ m) a c x v (inl e) = absurd (cc e)
   each-with met (Floor z ∷ m) a c x v (inr h) = each-with met m a (λ z t k. c z t (inr k)) x v h
+  each-with met (_ ∷ m) a c x v (inr h) = each-with met m a (λ z t k. c z t (inr k)) x v h
 
 -- ---- all of them
 
@@ -149,21 +107,15 @@ over P m old olds (inr k) = inr (inr k)
 
 none-all : (o : ObjectId) (olds : List (List Mark)) (m : List Mark) (x : TimeParts) (v : Value) → Has (Put o x v) (all_stood olds m) → SomeOf (λ l. Has (Put o x v) l) (m ∷ olds)
 none-all o [] m x v h = inl h
-none-all o (old ∷ olds) m x v h = elim (has-with (all_stood olds m) old (Put o x v) h) [
-  | inl k ↦ over (λ l. Has (Put o x v) l) m old olds (none-all o olds m x v k)
-  | inr k ↦ inr (inl k)
-]
+none-all o (old ∷ olds) m x v h = elim (has-with (all_stood olds m) old (Put o x v) h) [ inl k ↦ over (λ l. Has (Put o x v) l) m old olds (none-all o olds m x v k) | inr k ↦ inr (inl k) ]
 
 each-all : (o : ObjectId) (P : TimeParts → Value → Type 0) → ((x : TimeParts) (v w : Value) → P x v → P x w → v ≡ w) → (olds : List (List Mark)) (m : List Mark) →
     ((x : TimeParts) (v : Value) → SomeOf (λ l. Has (Put o x v) l) (m ∷ olds) → P x v) → (x : TimeParts) (v : Value) → SomeOf (λ l. Has (Put o x v) l) (m ∷ olds) → Has (Put o x v) (all_stood olds m)
 each-all o P one [] m a x v (inl h) = h
 each-all o P one [] m a x v (inr h) = absurd h
-each-all o P one (old ∷ olds) m a x v (inl h) =
-    with-has (all_stood olds m) old (Put o x v) (each-all o P one olds m (λ z t k. a z t (over (λ l. Has (Put o z t) l) m old olds k)) x v (inl h))
-each-all o P one (old ∷ olds) m a x v (inr (inl h)) =
-    each-with o P one (all_stood olds m) old (λ z t k. a z t (over (λ l. Has (Put o z t) l) m old olds (none-all o olds m z t k))) (λ z t k. a z t (inr (inl k))) x v h
-each-all o P one (old ∷ olds) m a x v (inr (inr h)) =
-    with-has (all_stood olds m) old (Put o x v) (each-all o P one olds m (λ z t k. a z t (over (λ l. Has (Put o z t) l) m old olds k)) x v (inr h))
+each-all o P one (old ∷ olds) m a x v (inl h) = with-has (all_stood olds m) old (Put o x v) (each-all o P one olds m (λ z t k. a z t (over (λ l. Has (Put o z t) l) m old olds k)) x v (inl h))
+each-all o P one (old ∷ olds) m a x v (inr (inl h)) = each-with o P one (all_stood olds m) old (λ z t k. a z t (over (λ l. Has (Put o z t) l) m old olds (none-all o olds m z t k))) (λ z t k. a z t (inr (inl k))) x v h
+each-all o P one (old ∷ olds) m a x v (inr (inr h)) = with-has (all_stood olds m) old (Put o x v) (each-all o P one olds m (λ z t k. a z t (over (λ l. Has (Put o z t) l) m old olds k)) x v (inr h))
 
 distinct-all : (olds : List (List Mark)) (m : List Mark) → Distinct m → Distinct (all_stood olds m)
 distinct-all [] m d = d
