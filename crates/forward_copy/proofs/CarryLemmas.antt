@@ -1,15 +1,5 @@
 -- What an append of a whole volume leaves.
-use Rattle.std.proofs.Common.{◌≡◌, ℕ, zero, suc, true, false, List, [], ◌∷◌, ◌++◌, take, refl, sym, ◌∙◌, ap, subst, arith, Ok, Result}
-use Rattle.std.proofs.lemmas.Bool.{true≢false, false≢true}
-use Rattle.pseudo_time.specs.TimeParts.{TimeParts}
-use Rattle.effect_form.specs.declared.effects.Effect.{Effect}
-use Rattle.effect_form.specs.declared.effects.Effect.TheVariants.{Put, Stretch, Begin, Decide, Learn, Run, Act, Try, Got, Acked, End, Mark, Whole}
-use Rattle.medium_port.specs.Image.{Image}
-use Rattle.version_store.specs.Filling.{HasPrefix}
-use Rattle.version_store.specs.Storage.{storage}
-use Rattle.forward_copy.specs.Carried.{LeavesFront}
-use Rattle.forward_copy.specs.Sifted.{between}
-use Rattle.forward_copy.specs.Wholes.{has_whole}
+use Rattle.forward_copy.proofs.Names.{◌≡◌, ℕ, zero, suc, true, false, List, [], ◌∷◌, ◌++◌, take, refl, sym, ◌∙◌, ap, subst, arith, Ok, Result, true≢false, false≢true, TimeParts, Effect, Put, Stretch, Begin, Decide, Learn, Run, Act, Try, Got, Acked, End, Mark, Whole, Image, HasPrefix, storage, LeavesFront, between, has_whole}
 
 -- a front with a Whole of a list whose last effect alone is one is all of it
 front-whole : (n : ℕ) (l : List Effect) → has_whole l ≡ false → has_whole (take n (l ++ Whole ∷ [])) ≡ true → take n (l ++ Whole ∷ []) ≡ l ++ Whole ∷ []
@@ -31,15 +21,11 @@ front-whole (suc n) (End i e ∷ l) none some = ap (λ z. End i e ∷ z) (front-
 front-whole (suc n) (Mark x ∷ l) none some = ap (λ z. Mark x ∷ z) (front-whole n l none some)
 
 pub prefix-front : (at : TimeParts) (kept : List Effect) (c : Image) → has_whole kept ≡ false → HasPrefix [] (between at kept) c → LeavesFront (between at kept) c
-prefix-front at kept c none has = record { front = has; all = λ log is some. all-there log (cc (sym is ∙ has.is)) some }
-  where
-    all-there : (log : List Effect) → log ≡ take has.kept (between at kept) → has_whole log ≡ true → log ≡ between at kept
-    all-there log e some = e ∙ front-whole has.kept (Mark at ∷ kept) none (sym (ap has_whole e) ∙ some)
+prefix-front at kept c none has = record { front = has; all = λ log is some. ((cc (sym is ∙ has.is)) ∙ front-whole has.kept (Mark at ∷ kept) none (sym (ap has_whole (cc (sym is ∙ has.is))) ∙ some)) }
 
 -- where the log was empty
 pub carried-front : (at : TimeParts) (kept log effects : List Effect) (c : Image) → log ≡ [] → effects ≡ between at kept → has_whole kept ≡ false → HasPrefix log effects c → LeavesFront (between at kept) c
-carried-front at kept log effects c none is whole has =
-    prefix-front at kept c whole (subst (λ l. HasPrefix l (between at kept) c) none (subst (λ e. HasPrefix log e c) is has))
+carried-front at kept log effects c none is whole has = prefix-front at kept c whole (subst (λ l. HasPrefix l (between at kept) c) none (subst (λ e. HasPrefix log e c) is has))
 
 -- where nothing was written
 pub front-none : (at : TimeParts) (kept : List Effect) (c : Image) → storage c ≡ Ok [] → LeavesFront (between at kept) c

@@ -1,31 +1,10 @@
 -- What the code keeps of each object is the version that a retirement keeps, and the effects that it keeps are those.
-use Rattle.std.proofs.Common.{◌≡◌, ◌⊎◌, ℕ, ◌+◌, ◌<◌, ◌≤◌, Bool, true, false, List, [], ◌∷◌, ◌++◌, length, refl, sym, ◌∙◌, ap, subst, Option, Some, None, ◌==◌, ◌&&◌, ◌||◌, not, if◌then◌else◌, cond, arith, inl, inr}
-use Rattle.std.specs.Ordering.{is_eq}
+use Rattle.forward_copy.proofs.Names.{◌≡◌, ◌⊎◌, ℕ, ◌+◌, ◌<◌, ◌≤◌, Bool, true, false, List, [], ◌∷◌, ◌++◌, length, refl, sym, ◌∙◌, ap, subst, Option, Some, None, ◌==◌, ◌&&◌, ◌||◌, not, if◌then◌else◌, cond, arith, inl, inr, is_eq, get-insert, common_steps, false≢true, eq_by_cmp_equiv, StampParts, TimeParts, lt, ObjectId, Value, object_cmp, object_cmp-total, Effect, Put, Begin, Decide, Learn, Try, Mark, Whole, Seen, is_committed, pick, place_of, same_place, scan, settle_of, version_count, last_firm, marks, known, Version, FirmMap, AreFirm, firm_of, is_index, last_of, starts_over, stays_above, with_put, put_below, stays, sifted}
 use Rattle.std.specs.FinMap as finite
-use Rattle.std.specs.FinMap.{get-insert}
-use Rattle.std.proofs.lemmas.Grind.{common_steps}
-use Rattle.std.proofs.lemmas.Bool.{false≢true}
-use Rattle.std.proofs.lemmas.Cmp.{eq_by_cmp_equiv}
-use Rattle.pseudo_time.specs.StampParts.{StampParts}
-use Rattle.pseudo_time.specs.TimeParts.{TimeParts}
-use Rattle.pseudo_time.specs.Order.{lt}
-use Rattle.value_form.specs.declared.objects.ObjectId.{ObjectId}
-use Rattle.value_form.specs.declared.values.Value.{Value}
-use Rattle.value_form.specs.Objects.{object_cmp}
-use Rattle.value_form.proofs.ObjectLemmas.{object_cmp-total}
-use Rattle.effect_form.specs.declared.effects.Effect.{Effect}
-use Rattle.effect_form.specs.declared.effects.Effect.TheVariants.{Put, Stretch, Begin, Decide, Learn, Run, Act, Try, Got, Acked, End, Mark, Whole}
 use Rattle.object_history.specs.declared.marks.Mark as history
 use Rattle.object_history.specs.Objects.{same_object}
-use Rattle.object_history.specs.History.{Seen, is_committed, pick, place_of, same_place, scan, settle_of, version_count}
 use Rattle.object_history.proofs.ObjectLemmas.{same_object-is, same_object-of}
-use Rattle.object_retirement.specs.Retired.{last_firm}
-use Rattle.repository_log.specs.Logs.{marks, known}
 use Rattle.forward_copy.specs.declared.firms.Firm.{Firm}
-use Rattle.forward_copy.specs.declared.versions.Version.{Version}
-use Rattle.forward_copy.specs.Firms.{FirmMap, AreFirm, firm_of, is_index, last_of, starts_over, stays_above, with_put}
-use Rattle.forward_copy.specs.Opens.{put_below}
-use Rattle.forward_copy.specs.Sifted.{stays, sifted}
 use Rattle.forward_copy.proofs.SiftLemmas.{sifted-same}
 
 -- ---- how many versions stand below
@@ -40,23 +19,8 @@ count-put o x v l = ap (λ b. if b then version_count o (marks l) + 1 else versi
 
 count-more : (o : ObjectId) (f : Effect) (l : List Effect) → version_count o (marks l) ≤ version_count o (marks (f ∷ l))
 unfolding version_count
-count-more o (Put a x v) l = grown (same_object a o)
-  where
-    grown : (b : Bool) → version_count o (marks l) ≤ (if b then version_count o (marks l) + 1 else version_count o (marks l))
-    grown true = omega arith
-    grown false = omega arith
-count-more o (Stretch a x) l = omega arith
-count-more o (Begin s d) l = omega arith
-count-more o (Decide s d) l = omega arith
-count-more o (Learn s c) l = omega arith
-count-more o (Run n) l = omega arith
-count-more o (Act i h t n c b) l = omega arith
-count-more o (Try i s) l = omega arith
-count-more o (Got k v) l = omega arith
-count-more o (Acked k) l = omega arith
-count-more o (End i e) l = omega arith
-count-more o (Mark x) l = omega arith
-count-more o Whole l = omega arith
+count-more o (Put a x v) l = elim (same_object a o) as (λ b. version_count o (marks l) ≤ (if b then version_count o (marks l) + 1 else version_count o (marks l))) [ true ↦ omega arith | false ↦ omega arith ]
+count-more o _ l = omega arith
 
 -- a version that stands in a log has fewer below it than the log has
 count-under : (o : ObjectId) (x : TimeParts) (v : Value) (front k : List Effect) → version_count o (marks k) < version_count o (marks (front ++ Put o x v ∷ k))
@@ -106,8 +70,7 @@ agree-more o f l (Some q) (Some p) h =
 
 agree-new : (o : ObjectId) (x : TimeParts) (v : Value) (l : List Effect) → Agree (Put o x v ∷ l) o (Some (record { place = version_count o (marks l); start = x; value = v })) (Some (record { start = x; index = length l }))
 agree-new o x v l =
-    let e = count-put o x v l in
-    (refl, omega (arith, e), omega arith, λ y w k u. here y w k (head-put (Put o x v) u.0 l k o y w u.1))
+    (refl, omega (arith, count-put o x v l), omega arith, λ y w k u. here y w k (head-put (Put o x v) u.0 l k o y w u.1))
   where
     here : (y : TimeParts) (w : Value) (k : List Effect) → (k ≡ l) ⊎ Under l o y w k → (version_count o (marks l) == version_count o (marks k)) ≡ (length l == length k)
     here y w k (inl e) = same (version_count o (marks l)) (version_count o (marks k)) (sym (ap (λ z. version_count o (marks z)) e)) ∙ sym (same (length l) (length k) (sym (ap length e)))
@@ -148,8 +111,7 @@ pick-none false s r = refl
 agree-put : (settled : StampParts → Option Bool) (a o : ObjectId) (x : TimeParts) (v : Value) (l : List Effect) (r : Option Seen) (p : Option Firm) (b : Bool) → Agree l o r p →
     Agree (Put a x v ∷ l) o (pick (same_object a o && (b && is_committed (settled x.stamp))) (record { place = version_count o (marks l); start = x; value = v }) r)
     (with_put settled (if b then Some (record { object = a; start = x }) else None) (length l) o p)
-agree-put settled a o x v l r p true h =
-    agree-chosen a o x v l r p (same_object a o && is_committed (settled x.stamp)) (λ e. same_object-is a o (and-first (same_object a o) (is_committed (settled x.stamp)) e)) h
+agree-put settled a o x v l r p true h = agree-chosen a o x v l r p (same_object a o && is_committed (settled x.stamp)) (λ e. same_object-is a o (and-first (same_object a o) (is_committed (settled x.stamp)) e)) h
 agree-put settled a o x v l r p false h =
     subst (λ z. Agree (Put a x v ∷ l) o z p) (sym (pick-none (same_object a o) (record { place = version_count o (marks l); start = x; value = v }) r)) (agree-more o (Put a x v) l r p h)
 
@@ -157,20 +119,13 @@ pub agree : (all : List history.Mark) (at : TimeParts) (o : ObjectId) (l : List 
     Agree l o (scan (λ x. lt x at && is_committed (settle_of all x.stamp)) o (marks l)) (firm_of (λ s. settle_of all s) at l o)
 unfolding scan
 agree all at o [] = tt
-agree all at o (Put a x v ∷ l) =
-    agree-put (λ s. settle_of all s) a o x v l (scan (λ y. lt y at && is_committed (settle_of all y.stamp)) o (marks l)) (firm_of (λ s. settle_of all s) at l o) (lt x at) (agree all at o l)
-agree all at o (Stretch a x ∷ l) = agree-more o (Stretch a x) l (scan (λ y. lt y at && is_committed (settle_of all y.stamp)) o (marks l)) (firm_of (λ s. settle_of all s) at l o) (agree all at o l)
+agree all at o (Put a x v ∷ l) = agree-put (λ s. settle_of all s) a o x v l (scan (λ y. lt y at && is_committed (settle_of all y.stamp)) o (marks l)) (firm_of (λ s. settle_of all s) at l o) (lt x at) (agree all at o l)
 agree all at o (Begin s d ∷ l) = agree-more o (Begin s d) l (scan (λ y. lt y at && is_committed (settle_of all y.stamp)) o (marks l)) (firm_of (λ s. settle_of all s) at l o) (agree all at o l)
 agree all at o (Decide s d ∷ l) = agree-more o (Decide s d) l (scan (λ y. lt y at && is_committed (settle_of all y.stamp)) o (marks l)) (firm_of (λ s. settle_of all s) at l o) (agree all at o l)
 agree all at o (Learn s c ∷ l) = agree-more o (Learn s c) l (scan (λ y. lt y at && is_committed (settle_of all y.stamp)) o (marks l)) (firm_of (λ s. settle_of all s) at l o) (agree all at o l)
-agree all at o (Run n ∷ l) = agree-more o (Run n) l (scan (λ y. lt y at && is_committed (settle_of all y.stamp)) o (marks l)) (firm_of (λ s. settle_of all s) at l o) (agree all at o l)
-agree all at o (Act i h t n c b ∷ l) = agree-more o (Act i h t n c b) l (scan (λ y. lt y at && is_committed (settle_of all y.stamp)) o (marks l)) (firm_of (λ s. settle_of all s) at l o) (agree all at o l)
 agree all at o (Try i s ∷ l) = agree-more o (Try i s) l (scan (λ y. lt y at && is_committed (settle_of all y.stamp)) o (marks l)) (firm_of (λ s. settle_of all s) at l o) (agree all at o l)
-agree all at o (Got k v ∷ l) = agree-more o (Got k v) l (scan (λ y. lt y at && is_committed (settle_of all y.stamp)) o (marks l)) (firm_of (λ s. settle_of all s) at l o) (agree all at o l)
-agree all at o (Acked k ∷ l) = agree-more o (Acked k) l (scan (λ y. lt y at && is_committed (settle_of all y.stamp)) o (marks l)) (firm_of (λ s. settle_of all s) at l o) (agree all at o l)
-agree all at o (End i e ∷ l) = agree-more o (End i e) l (scan (λ y. lt y at && is_committed (settle_of all y.stamp)) o (marks l)) (firm_of (λ s. settle_of all s) at l o) (agree all at o l)
-agree all at o (Mark x ∷ l) = agree-more o (Mark x) l (scan (λ y. lt y at && is_committed (settle_of all y.stamp)) o (marks l)) (firm_of (λ s. settle_of all s) at l o) (agree all at o l)
 agree all at o (Whole ∷ l) = agree-more o Whole l (scan (λ y. lt y at && is_committed (settle_of all y.stamp)) o (marks l)) (firm_of (λ s. settle_of all s) at l o) (agree all at o l)
+agree all at o (f ∷ l) = agree-more o f l (scan (λ y. lt y at && is_committed (settle_of all y.stamp)) o (marks l)) (firm_of (λ s. settle_of all s) at l o) (agree all at o l)
 
 -- ---- the effects that stay
 
@@ -197,24 +152,12 @@ stays-same settled at all firms known are front (Put o x v) k is =
     ap (λ b. not (lt x at) || b)
     (ap (λ p. is_index p (length k)) (are o ∙ firm-same settled (λ s. settle_of (marks all) s) at all o known)
     ∙ said all o (last_firm (marks all) at o) (firm_of (λ s. settle_of (marks all) s) at all o) (agree (marks all) at o all) x v k (front, is))
-stays-same settled at all firms known are front (Stretch o x) k is = refl
-stays-same settled at all firms known are front (Begin s d) k is = refl
-stays-same settled at all firms known are front (Decide s d) k is = refl
-stays-same settled at all firms known are front (Learn s c) k is = refl
-stays-same settled at all firms known are front (Run n) k is = refl
-stays-same settled at all firms known are front (Act i h t n c b) k is = refl
-stays-same settled at all firms known are front (Try i s) k is = refl
-stays-same settled at all firms known are front (Got n v) k is = refl
-stays-same settled at all firms known are front (Acked n) k is = refl
-stays-same settled at all firms known are front (End i e) k is = refl
-stays-same settled at all firms known are front (Mark x) k is = refl
-stays-same settled at all firms known are front Whole k is = refl
+stays-same settled at all firms known are front _ k is = refl
 
 -- what the code keeps
 pub kept-same : (settled : StampParts → Option Bool) (at : TimeParts) (all : List Effect) (firms : FirmMap) → ((s : StampParts) → settled s ≡ known all s) → AreFirm settled at all firms →
     sifted (λ l f. stays_above firms at (length l) f) all ≡ sifted (stays all at) all
-kept-same settled at all firms known are =
-    sifted-same (λ l f. stays_above firms at (length l) f) (stays all at) [] all (stays-same settled at all firms known are)
+kept-same settled at all firms known are = sifted-same (λ l f. stays_above firms at (length l) f) (stays all at) [] all (stays-same settled at all firms known are)
 
 -- and what it drops
 pub dropped-same : (settled : StampParts → Option Bool) (at : TimeParts) (all : List Effect) (firms : FirmMap) → ((s : StampParts) → settled s ≡ known all s) → AreFirm settled at all firms →

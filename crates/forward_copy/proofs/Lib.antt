@@ -4,3 +4,4 @@ pub mod OpenLemmas
 pub mod RefusalLemmas
 pub mod SettledLemmas
 pub mod SiftLemmas
+pub mod Names

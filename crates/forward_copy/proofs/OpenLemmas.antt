@@ -1,25 +1,9 @@
 -- The version that the code finds is the first undecided one, and where it finds none there is none.
-use Rattle.std.proofs.Common.{◌≡◌, ◌≢◌, Bool, true, false, List, [], ◌∷◌, refl, sym, ◌∙◌, ap, subst, Option, Some, None, if◌then◌else◌, inl, inr}
-use Rattle.std.specs.Ordering.{ordering_reverse, is_lt, is_gt}
+use Rattle.forward_copy.proofs.Names.{◌≡◌, ◌≢◌, Bool, true, false, List, [], ◌∷◌, refl, sym, ◌∙◌, ap, subst, Option, Some, None, if◌then◌else◌, inl, inr, ordering_reverse, is_lt, is_gt, true≢false, false≢true, on_total, then_total, upto, StampParts, TimeParts, Has, lt, time_cmp-total, ObjectId, Value, object_cmp-total, Effect, Put, Whole, marks, Version, version_cmp, lesser, when_open, with_version, first_open}
 use Rattle.std.specs.declared.cmp.Ordering.{Ordering}
-use Rattle.std.specs.declared.cmp.Ordering.TheVariants.{Less, Equal, Greater}
+use Rattle.std.specs.declared.cmp.Ordering.TheVariants.{Less, Greater}
 use Rattle.std.specs.Cmp.{IsTotalOrder, tied_itself}
-use Rattle.std.proofs.lemmas.Bool.{true≢false, false≢true}
-use Rattle.std.proofs.lemmas.Cmp.{on_total, then_total, upto}
-use Rattle.pseudo_time.specs.StampParts.{StampParts}
-use Rattle.pseudo_time.specs.TimeParts.{TimeParts}
-use Rattle.pseudo_time.specs.Lists.{Has}
-use Rattle.pseudo_time.specs.Order.{lt}
-use Rattle.pseudo_time.proofs.OrderLemmas.{time_cmp-total}
-use Rattle.value_form.specs.declared.objects.ObjectId.{ObjectId}
-use Rattle.value_form.specs.declared.values.Value.{Value}
-use Rattle.value_form.proofs.ObjectLemmas.{object_cmp-total}
-use Rattle.effect_form.specs.declared.effects.Effect.{Effect}
-use Rattle.effect_form.specs.declared.effects.Effect.TheVariants.{Put, Stretch, Begin, Decide, Learn, Run, Act, Try, Got, Acked, End, Mark, Whole}
 use Rattle.object_history.specs.Views.{Starts}
-use Rattle.repository_log.specs.Logs.{marks}
-use Rattle.forward_copy.specs.declared.versions.Version.{Version}
-use Rattle.forward_copy.specs.Opens.{version_cmp, lesser, when_open, with_version, first_open}
 
 -- ---- the order of versions
 
@@ -28,18 +12,15 @@ version_cmp-total = then_total (on_total (λ v. v.object) object_cmp-total) (on_
 
 turned : (o p : Ordering) → p ≡ ordering_reverse o → is_lt o ≡ false → is_gt p ≡ false
 turned Less p e h = absurd (true≢false h)
-turned Equal p e h = ap is_gt e
-turned Greater p e h = ap is_gt e
+turned _ p e h = ap is_gt e
 
 back : (o p : Ordering) → p ≡ ordering_reverse o → is_gt o ≡ false → is_lt p ≡ false
-back Less p e h = ap is_lt e
-back Equal p e h = ap is_lt e
 back Greater p e h = absurd (true≢false h)
+back _ p e h = ap is_lt e
 
 never-both : (o p : Ordering) → p ≡ ordering_reverse o → is_lt o ≡ true → is_lt p ≡ false
-never-both Less p e h = ap is_lt e
-never-both Equal p e h = ap is_lt e
 never-both Greater p e h = absurd (false≢true h)
+never-both _ p e h = ap is_lt e
 
 -- v isn't above w, and w isn't above u
 not-under : (u v w : Version) → is_lt (version_cmp w v) ≡ false → is_lt (version_cmp u w) ≡ false → is_lt (version_cmp u v) ≡ false
@@ -66,18 +47,7 @@ none-open settled at o [] h = tt
 none-open settled at o (Put a x v ∷ l) h =
     let s = put-none settled (lt x at) (record { object = a; start = x }) (first_open settled at l) h in
     (λ e. s.1, none-open settled at o l s.0)
-none-open settled at o (Stretch a x ∷ l) h = none-open settled at o l h
-none-open settled at o (Begin s d ∷ l) h = none-open settled at o l h
-none-open settled at o (Decide s d ∷ l) h = none-open settled at o l h
-none-open settled at o (Learn s c ∷ l) h = none-open settled at o l h
-none-open settled at o (Run n ∷ l) h = none-open settled at o l h
-none-open settled at o (Act i h' t n c b ∷ l) h = none-open settled at o l h
-none-open settled at o (Try i s ∷ l) h = none-open settled at o l h
-none-open settled at o (Got k v ∷ l) h = none-open settled at o l h
-none-open settled at o (Acked k ∷ l) h = none-open settled at o l h
-none-open settled at o (End i e ∷ l) h = none-open settled at o l h
-none-open settled at o (Mark x ∷ l) h = none-open settled at o l h
-none-open settled at o (Whole ∷ l) h = none-open settled at o l h
+none-open settled at o (_ ∷ l) h = none-open settled at o l h
 
 -- ---- where one is found
 
@@ -116,10 +86,7 @@ only-deeper settled at f l none u s = pick s.has
 
 finds-passed : (settled : StampParts → Option Bool) (at : TimeParts) (f : Effect) (l : List Effect) (r : Option Version) → PutsNone settled at f → Finds settled at l r → Finds settled at (f ∷ l) r
 finds-passed settled at f l None none h = λ u s. h u (only-deeper settled at f l none u s)
-finds-passed settled at f l (Some w) none h = record {
-  stands = deeper settled at f l w h.stands;
-  leads = λ u s. h.leads u (only-deeper settled at f l none u s);
-}
+finds-passed settled at f l (Some w) none h = record { stands = deeper settled at f l w h.stands; leads = λ u s. h.leads u (only-deeper settled at f l none u s) }
 
 abbrev version : ObjectId → TimeParts → Version
 version o x = record { object = o; start = x }
@@ -145,10 +112,7 @@ stands-put settled at o x v l e b = record { value = v; has = inl refl; unknown 
 
 finds-lesser : (settled : StampParts → Option Bool) (at : TimeParts) (o : ObjectId) (x : TimeParts) (v : Value) (l : List Effect) (r : Option Version) → settled x.stamp ≡ None → lt x at ≡ true →
     Finds settled at l r → Opens settled at (Put o x v ∷ l) (lesser (version o x) r)
-finds-lesser settled at o x v l None e b h = record {
-  stands = stands-put settled at o x v l e b;
-  leads = leads-put settled at o x v l (version o x) (itself (version o x)) (λ u s. absurd (h u s));
-}
+finds-lesser settled at o x v l None e b h = record { stands = stands-put settled at o x v l e b; leads = leads-put settled at o x v l (version o x) (itself (version o x)) (λ u s. absurd (h u s)) }
 finds-lesser settled at o x v l (Some w) e b h = pick (is_lt (version_cmp w (version o x))) refl
   where
     pick : (c : Bool) → is_lt (version_cmp w (version o x)) ≡ c → Opens settled at (Put o x v ∷ l) (if c then w else version o x)
@@ -156,10 +120,7 @@ finds-lesser settled at o x v l (Some w) e b h = pick (is_lt (version_cmp w (ver
       stands = deeper settled at (Put o x v) l w h.stands;
       leads = leads-put settled at o x v l w (never-both (version_cmp w (version o x)) (version_cmp (version o x) w) (version_cmp-total.antisymm (version o x) w) k) h.leads;
     }
-    pick false k = record {
-      stands = stands-put settled at o x v l e b;
-      leads = leads-put settled at o x v l (version o x) (itself (version o x)) (λ u s. not-under u (version o x) w k (h.leads u s));
-    }
+    pick false k = record { stands = stands-put settled at o x v l e b; leads = leads-put settled at o x v l (version o x) (itself (version o x)) (λ u s. not-under u (version o x) w k (h.leads u s)) }
 
 finds-when : (settled : StampParts → Option Bool) (at : TimeParts) (o : ObjectId) (x : TimeParts) (v : Value) (l : List Effect) (first : Option Version) (r : Option Bool) → settled x.stamp ≡ r → lt x at ≡ true →
     Finds settled at l first → Finds settled at (Put o x v ∷ l) (when_open r (version o x) first)
@@ -182,18 +143,8 @@ finds-put settled at o x v l first false b h =
 pub finds : (settled : StampParts → Option Bool) (at : TimeParts) (l : List Effect) → Finds settled at l (first_open settled at l)
 finds settled at [] = λ u s. s.has
 finds settled at (Put o x v ∷ l) = finds-put settled at o x v l (first_open settled at l) (lt x at) refl (finds settled at l)
-finds settled at (Stretch a x ∷ l) = finds-passed settled at (Stretch a x) l (first_open settled at l) (λ o y v e. cc e) (finds settled at l)
-finds settled at (Begin s d ∷ l) = finds-passed settled at (Begin s d) l (first_open settled at l) (λ o y v e. cc e) (finds settled at l)
-finds settled at (Decide s d ∷ l) = finds-passed settled at (Decide s d) l (first_open settled at l) (λ o y v e. cc e) (finds settled at l)
-finds settled at (Learn s c ∷ l) = finds-passed settled at (Learn s c) l (first_open settled at l) (λ o y v e. cc e) (finds settled at l)
-finds settled at (Run n ∷ l) = finds-passed settled at (Run n) l (first_open settled at l) (λ o y v e. cc e) (finds settled at l)
-finds settled at (Act i h t n c b ∷ l) = finds-passed settled at (Act i h t n c b) l (first_open settled at l) (λ o y v e. cc e) (finds settled at l)
-finds settled at (Try i s ∷ l) = finds-passed settled at (Try i s) l (first_open settled at l) (λ o y v e. cc e) (finds settled at l)
-finds settled at (Got k w ∷ l) = finds-passed settled at (Got k w) l (first_open settled at l) (λ o y v e. cc e) (finds settled at l)
-finds settled at (Acked k ∷ l) = finds-passed settled at (Acked k) l (first_open settled at l) (λ o y v e. cc e) (finds settled at l)
-finds settled at (End i d ∷ l) = finds-passed settled at (End i d) l (first_open settled at l) (λ o y v e. cc e) (finds settled at l)
-finds settled at (Mark x ∷ l) = finds-passed settled at (Mark x) l (first_open settled at l) (λ o y v e. cc e) (finds settled at l)
 finds settled at (Whole ∷ l) = finds-passed settled at Whole l (first_open settled at l) (λ o y v e. cc e) (finds settled at l)
+finds settled at (f ∷ l) = finds-passed settled at f l (first_open settled at l) (λ o y v e. cc e) (finds settled at l)
 
 pub found : (settled : StampParts → Option Bool) (at : TimeParts) (l : List Effect) (w : Version) → first_open settled at l ≡ Some w → Opens settled at l w
 found settled at l w e = subst (λ r. Finds settled at l r) e (finds settled at l)

@@ -1,22 +1,9 @@
 -- What the code finds, in the words of the promise: the first undecided version, or that the log may be retired.
-use Rattle.std.proofs.Common.{◌≡◌, ◌≢◌, true, List, reverse, length, sym, ◌∙◌, ap, subst, Some, None, not}
+use Rattle.forward_copy.proofs.Names.{◌≡◌, ◌≢◌, true, List, reverse, length, sym, ◌∙◌, ap, subst, Some, None, not, TimeParts, lt, ObjectId, Effect, settle_of, Settled, MayRetire, marks, known, Version, FirmMap, AreFirm, stays_above, first_open, AreKnown, stays, sifted}
 use Rattle.std.specs.FinMap as finite
-use Rattle.pseudo_time.specs.TimeParts.{TimeParts}
-use Rattle.pseudo_time.specs.Order.{lt}
-use Rattle.value_form.specs.declared.objects.ObjectId.{ObjectId}
-use Rattle.effect_form.specs.declared.effects.Effect.{Effect}
-use Rattle.object_history.specs.History.{settle_of}
-use Rattle.object_history.specs.Kept.{Settled}
 use Rattle.object_history.proofs.StableLemmas.{starts-map}
-use Rattle.object_retirement.specs.Forward.{MayRetire}
-use Rattle.repository_log.specs.Logs.{marks, known}
-use Rattle.forward_copy.specs.declared.versions.Version.{Version}
 use Rattle.forward_copy.specs.declared.faults.ForwardFault.TheVariants.{Undecided}
-use Rattle.forward_copy.specs.Firms.{FirmMap, AreFirm, stays_above}
-use Rattle.forward_copy.specs.Opens.{first_open}
 use Rattle.forward_copy.specs.Refusals.{IsFirstUndecided, IsNewMark}
-use Rattle.forward_copy.specs.Settled.{AreKnown}
-use Rattle.forward_copy.specs.Sifted.{stays, sifted}
 use Rattle.forward_copy.proofs.FirmLemmas.{kept-same, dropped-same}
 use Rattle.forward_copy.proofs.OpenLemmas.{found, none-open}
 

@@ -1,39 +1,15 @@
 -- What the map of settled attempts has, after one effect more.
-use Rattle.std.proofs.Common.{◌≡◌, Bool, true, false, List, ◌∷◌, refl, sym, ◌∙◌, ap, Option, Some, None, cond, if◌then◌else◌}
-use Rattle.std.specs.Ordering.{is_eq}
+use Rattle.forward_copy.proofs.Names.{◌≡◌, Bool, true, false, List, ◌∷◌, refl, sym, ◌∙◌, ap, Option, Some, None, cond, if◌then◌else◌, is_eq, get-insert, true≢false, false≢true, eq_by_cmp_equiv, StampParts, stamp_cmp, same_stamp, stamp_cmp-total, same_stamp-is, Effect, Learn, or_else, settle_of, Settled, known, decided_by, is_commit, with_decision, AreKnown}
 use Rattle.std.specs.Prelude.{is_some}
 use Rattle.std.specs.FinMap as finite
-use Rattle.std.specs.FinMap.{get-insert}
-use Rattle.std.proofs.lemmas.Bool.{true≢false, false≢true}
-use Rattle.std.proofs.lemmas.Cmp.{eq_by_cmp_equiv}
-use Rattle.pseudo_time.specs.StampParts.{StampParts, stamp_cmp}
-use Rattle.pseudo_time.specs.Order.{same_stamp}
 use Rattle.pseudo_time.specs.declared.decisions.Decision.{Decision}
-use Rattle.pseudo_time.proofs.OrderLemmas.{stamp_cmp-total, same_stamp-is}
-use Rattle.effect_form.specs.declared.effects.Effect.{Effect}
-use Rattle.effect_form.specs.declared.effects.Effect.TheVariants.{Put, Stretch, Begin, Decide, Learn, Run, Act, Try, Got, Acked, End, Mark, Whole}
-use Rattle.object_history.specs.History.{or_else, settle_of}
-use Rattle.object_history.specs.Kept.{Settled}
-use Rattle.repository_log.specs.Logs.{known, decided_by, is_commit}
-use Rattle.forward_copy.specs.Settled.{with_decision, AreKnown}
 
 -- what a log knows with one effect more
 pub known-more : (f : Effect) (l : List Effect) (s : StampParts) → known (f ∷ l) s ≡ with_decision (decided_by f) s (known l s)
 unfolding settle_of
-known-more (Put o x v) l s = refl
-known-more (Stretch o x) l s = refl
-known-more (Begin p d) l s = refl
-known-more (Decide p d) l s = refl
 known-more (Learn p true) l s = refl
 known-more (Learn p false) l s = refl
-known-more (Run n) l s = refl
-known-more (Act i h t n c b) l s = refl
-known-more (Try i p) l s = refl
-known-more (Got k v) l s = refl
-known-more (Acked k) l s = refl
-known-more (End i e) l s = refl
-known-more (Mark x) l s = refl
-known-more Whole l s = refl
+known-more _ l s = refl
 
 first_settle : (b : Bool) (c : Bool) (r u : Option Bool) → (b ≡ true → u ≡ None) → r ≡ u → cond b (Some c) r ≡ (if b then or_else u c else u)
 first_settle true c r u h e = ap (λ z. or_else z c) (sym (h refl))
@@ -57,8 +33,7 @@ known-first l f old d e none h s =
     ∙ sym (known-more f l s ∙ ap (λ z. with_decision z s (known l s)) e)
 
 -- it was
-pub known-again : (l : List Effect) (f : Effect) (old : Settled) (d : StampParts × Decision) (c : Bool) → decided_by f ≡ Some d → finite.get old d.0 ≡ Some c → AreKnown l old →
-    AreKnown (f ∷ l) old
+pub known-again : (l : List Effect) (f : Effect) (old : Settled) (d : StampParts × Decision) (c : Bool) → decided_by f ≡ Some d → finite.get old d.0 ≡ Some c → AreKnown l old → AreKnown (f ∷ l) old
 unfolding same_stamp
 known-again l f old d c e there h s =
     h s ∙ later_settle (is_eq (stamp_cmp d.0 s)) (is_commit d.1) c (known l s) (λ t. ap (known l) (sym (same_stamp-is d.0 s t)) ∙ sym (h d.0) ∙ there)

@@ -1,19 +1,6 @@
 -- What is kept of a log by how many effects stand below is what a retirement carries forward.
-use Rattle.std.proofs.Common.{◌≡◌, ℕ, zero, suc, ◌+◌, ◌<◌, ◌≤◌, Bool, true, false, List, [], ◌∷◌, ◌++◌, length, reverse, take, slice_index_or, refl, sym, ◌∙◌, ap, subst, ◌||◌, if◌then◌else◌, arith}
-use Rattle.std.proofs.lemmas.Grind.{common_steps}
-use Rattle.std.proofs.lemmas.Bool.{true≢false, false≢true}
+use Rattle.forward_copy.proofs.Names.{◌≡◌, ℕ, zero, suc, ◌+◌, ◌<◌, ◌≤◌, Bool, true, false, List, [], ◌∷◌, ◌++◌, length, reverse, take, slice_index_or, refl, sym, ◌∙◌, ap, subst, ◌||◌, if◌then◌else◌, arith, common_steps, true≢false, false≢true, TimeParts, Every, lt, Effect, Put, Stretch, Begin, Decide, Learn, Run, Act, Try, Got, Acked, End, Mark, Whole, carried, forward, stays_put, version_count, marks, between, stays, sifted, has_whole}
 use Rattle.std.proofs.lemmas.List.{length-reverse, reverse-append}
-use Rattle.pseudo_time.specs.TimeParts.{TimeParts}
-use Rattle.pseudo_time.specs.Lists.{Every}
-use Rattle.pseudo_time.specs.Order.{lt}
-use Rattle.effect_form.specs.declared.effects.Effect.{Effect}
-use Rattle.effect_form.specs.declared.effects.Effect.TheVariants.{Put, Stretch, Begin, Decide, Learn, Run, Act, Try, Got, Acked, End, Mark, Whole}
-use Rattle.object_retirement.specs.Forward.{carried, forward}
-use Rattle.object_retirement.specs.Retired.{stays_put}
-use Rattle.object_history.specs.History.{version_count}
-use Rattle.repository_log.specs.Logs.{marks}
-use Rattle.forward_copy.specs.Sifted.{between, stays, sifted}
-use Rattle.forward_copy.specs.Wholes.{has_whole}
 
 -- ---- the sieve of the definition
 
@@ -25,8 +12,6 @@ pub carried-sifted : (all : List Effect) (at : TimeParts) (l : List Effect) → 
 carried-sifted all at [] = refl
 carried-sifted all at (Put o x v ∷ l) = chosen at (stays_put (marks all) at o x (version_count o (marks l))) (Put o x v) (carried all at l) (sifted (stays all at) l) (carried-sifted all at l)
 carried-sifted all at (Stretch o x ∷ l) = chosen at (lt at x) (Stretch o x) (carried all at l) (sifted (stays all at) l) (carried-sifted all at l)
-carried-sifted all at (Mark x ∷ l) = carried-sifted all at l
-carried-sifted all at (Whole ∷ l) = carried-sifted all at l
 carried-sifted all at (Begin s d ∷ l) = ap (λ z. Begin s d ∷ z) (carried-sifted all at l)
 carried-sifted all at (Decide s d ∷ l) = ap (λ z. Decide s d ∷ z) (carried-sifted all at l)
 carried-sifted all at (Learn s c ∷ l) = ap (λ z. Learn s c ∷ z) (carried-sifted all at l)
@@ -36,13 +21,13 @@ carried-sifted all at (Try i s ∷ l) = ap (λ z. Try i s ∷ z) (carried-sifted
 carried-sifted all at (Got k v ∷ l) = ap (λ z. Got k v ∷ z) (carried-sifted all at l)
 carried-sifted all at (Acked k ∷ l) = ap (λ z. Acked k ∷ z) (carried-sifted all at l)
 carried-sifted all at (End i e ∷ l) = ap (λ z. End i e ∷ z) (carried-sifted all at l)
+carried-sifted all at (_ ∷ l) = carried-sifted all at l
 
 -- the log that is carried forward, by what is kept
 pub forward-between : (log : List Effect) (at : TimeParts) → between at (reverse (sifted (stays (reverse log) at) (reverse log))) ≡ forward log at
 forward-between log at =
-    let k = sifted (stays (reverse log) at) (reverse log) in
     sym (reverse-append (Whole ∷ []) (carried (reverse log) at (reverse log)) ∙ ap (λ z. reverse z ++ Whole ∷ []) (carried-sifted (reverse log) at (reverse log))
-    ∙ ap (λ z. z ++ Whole ∷ []) (reverse-append k (Mark at ∷ [])))
+    ∙ ap (λ z. z ++ Whole ∷ []) (reverse-append (sifted (stays (reverse log) at) (reverse log)) (Mark at ∷ [])))
 
 -- ---- any sieve
 
@@ -79,33 +64,12 @@ pub no-whole : (all : List Effect) (at : TimeParts) (l : List Effect) → has_wh
 no-whole all at [] = refl
 no-whole all at (Put o x v ∷ l) = if-whole (stays all at l (Put o x v)) (Put o x v) (sifted (stays all at) l) refl (no-whole all at l)
 no-whole all at (Stretch o x ∷ l) = if-whole (stays all at l (Stretch o x)) (Stretch o x) (sifted (stays all at) l) refl (no-whole all at l)
-no-whole all at (Mark x ∷ l) = no-whole all at l
-no-whole all at (Whole ∷ l) = no-whole all at l
-no-whole all at (Begin s d ∷ l) = no-whole all at l
-no-whole all at (Decide s d ∷ l) = no-whole all at l
-no-whole all at (Learn s c ∷ l) = no-whole all at l
-no-whole all at (Run n ∷ l) = no-whole all at l
-no-whole all at (Act i h t n c b ∷ l) = no-whole all at l
-no-whole all at (Try i s ∷ l) = no-whole all at l
-no-whole all at (Got k v ∷ l) = no-whole all at l
-no-whole all at (Acked k ∷ l) = no-whole all at l
-no-whole all at (End i e ∷ l) = no-whole all at l
+no-whole all at (_ ∷ l) = no-whole all at l
 
 or-whole : (l m : List Effect) → has_whole (l ++ m) ≡ (has_whole l || has_whole m)
 or-whole [] m = refl
 or-whole (Whole ∷ l) m = refl
-or-whole (Put o x v ∷ l) m = or-whole l m
-or-whole (Stretch o x ∷ l) m = or-whole l m
-or-whole (Mark x ∷ l) m = or-whole l m
-or-whole (Begin s d ∷ l) m = or-whole l m
-or-whole (Decide s d ∷ l) m = or-whole l m
-or-whole (Learn s c ∷ l) m = or-whole l m
-or-whole (Run n ∷ l) m = or-whole l m
-or-whole (Act i h t n c b ∷ l) m = or-whole l m
-or-whole (Try i s ∷ l) m = or-whole l m
-or-whole (Got k v ∷ l) m = or-whole l m
-or-whole (Acked k ∷ l) m = or-whole l m
-or-whole (End i e ∷ l) m = or-whole l m
+or-whole (_ ∷ l) m = or-whole l m
 
 whole-step : (f : Effect) (l : List Effect) → has_whole (f ∷ l) ≡ (has_whole (f ∷ []) || has_whole l)
 whole-step f l = or-whole (f ∷ []) l

@@ -1,5 +1,4 @@
-use Rattle.std.proofs.Common.{◌≡◌, ◌∷◌, take}
-use Rattle.effect_form.specs.declared.effects.Effect.TheVariants.{Mark}
+use Rattle.forward_copy.proofs.Names.{◌≡◌, ◌∷◌, take, Mark}
 use Rattle.forward_copy.proofs.carries.carried.Given as goal
 
 -- the mark, and what is kept so far

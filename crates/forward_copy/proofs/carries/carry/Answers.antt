@@ -1,11 +1,6 @@
-use Rattle.std.proofs.Common.{◌≡◌, ◌∙◌, ap, rules, subst, sym, Ok, []}
-use Rattle.medium_port.specs.Image.{Image}
+use Rattle.forward_copy.proofs.Names.{◌≡◌, ◌∙◌, ap, rules, subst, sym, Ok, [], HasPrefix, effects_found, storage, LeavesFront, between}
 use Rattle.medium_port.specs.Moment.{LeavesOnly, stays, widens}
 use Rattle.version_store.specs.StoreWords.{medium_of, effects_in, handed}
-use Rattle.version_store.specs.Filling.{HasPrefix}
-use Rattle.version_store.specs.Storage.{effects_found, storage}
-use Rattle.forward_copy.specs.Carried.{LeavesFront}
-use Rattle.forward_copy.specs.Sifted.{between}
 use Rattle.forward_copy.proofs.CarryLemmas.{carried-front, front-none}
 use Rattle.forward_copy.proofs.carries.carry.Goals as goal
 

@@ -1,10 +1,5 @@
-use Rattle.std.proofs.Common.{ap, sym, subst, ◌∙◌, List, reverse, take, arith}
+use Rattle.forward_copy.proofs.Names.{ap, sym, subst, ◌∙◌, List, reverse, take, arith, get-empty, StampParts, object_cmp, Effect, AreFirm}
 use Rattle.std.specs.FinMap as finite
-use Rattle.std.specs.FinMap.{get-empty}
-use Rattle.pseudo_time.specs.StampParts.{StampParts}
-use Rattle.value_form.specs.Objects.{object_cmp}
-use Rattle.effect_form.specs.declared.effects.Effect.{Effect}
-use Rattle.forward_copy.specs.Firms.{AreFirm}
 use Rattle.forward_copy.proofs.SiftLemmas.{met-length, reverse-step}
 use Rattle.forward_copy.proofs.firms.firms_of.Goals as goal
 

@@ -1,6 +1,5 @@
-use Rattle.std.proofs.Common.{reverse, take}
+use Rattle.forward_copy.proofs.Names.{reverse, take, AreFirm}
 use Rattle.std.specs.FinMap as finite
-use Rattle.forward_copy.specs.Firms.{AreFirm}
 use Rattle.forward_copy.proofs.firms.firms_of.Given as goal
 
 -- those of the log so far

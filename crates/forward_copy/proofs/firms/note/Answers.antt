@@ -1,8 +1,5 @@
-use Rattle.std.proofs.Common.{rules, ◌∷◌, sym, subst, ◌∙◌, ℕ}
+use Rattle.forward_copy.proofs.Names.{rules, ◌∷◌, sym, subst, ◌∙◌, ℕ, StampParts, on_ok, AreFirm}
 use Rattle.std.specs.FinMap as finite
-use Rattle.pseudo_time.specs.StampParts.{StampParts}
-use Rattle.object_history.proofs.TrackLemmas.{on_ok}
-use Rattle.forward_copy.specs.Firms.{AreFirm}
 use Rattle.forward_copy.proofs.FirmLemmas.{noted, noted-below}
 use Rattle.forward_copy.proofs.firms.note.Goals as goal
 

@@ -1,8 +1,5 @@
-use Rattle.std.proofs.Common.{ap, sym, subst, ◌≡◌, ◌∙◌, false, List, reverse}
-use Rattle.effect_form.specs.declared.effects.Effect.{Effect}
+use Rattle.forward_copy.proofs.Names.{ap, sym, subst, ◌≡◌, ◌∙◌, false, List, reverse, Effect, between, stays, sifted, has_whole}
 use Rattle.effect_form.specs.Effects.{AreEffects, IsEffect}
-use Rattle.forward_copy.specs.Sifted.{between, stays, sifted}
-use Rattle.forward_copy.specs.Wholes.{has_whole}
 use Rattle.forward_copy.proofs.RefusalLemmas.{dropped-is, first-told, kept-is, may-retire}
 use Rattle.forward_copy.proofs.SiftLemmas.{every-reverse, forward-between, none-whole, sifted-every}
 use Rattle.forward_copy.proofs.forwards.forward.Goals as goal
@@ -13,8 +10,7 @@ returns-in-Some-first_open-clause-undecided c = λ o x told.
     (sym c.first_open.ensures ∙ c.in-Some-first_open.is) told
 
 pub returns-clause-may : goal.returns-clause-may
-returns-clause-may c =
-    may-retire (reverse c.args.log.now) c.args.mark c.in_ok-settles.settles c.in_ok-settles.ensures c.requires c.in_default.ensures.new (sym c.first_open.ensures ∙ c.in_default-first_open.is)
+returns-clause-may c = may-retire (reverse c.args.log.now) c.args.mark c.in_ok-settles.settles c.in_ok-settles.ensures c.requires c.in_default.ensures.new (sym c.first_open.ensures ∙ c.in_default-first_open.is)
 
 pub returns-clause-kept : goal.returns-clause-kept
 returns-clause-kept c =

@@ -1,6 +1,5 @@
-use Rattle.std.proofs.Common.{sym, ap, ◌∙◌}
+use Rattle.forward_copy.proofs.Names.{sym, ap, ◌∙◌, on_ok}
 use Rattle.std.specs.FinMap as finite
-use Rattle.object_history.proofs.TrackLemmas.{on_ok}
 use Rattle.forward_copy.proofs.SettledLemmas.{known-plain, known-first, known-kept, none-of}
 use Rattle.forward_copy.proofs.settles.settle.Goals as goal
 

@@ -1,8 +1,5 @@
-use Rattle.std.proofs.Common.{ap, ◌∙◌}
+use Rattle.forward_copy.proofs.Names.{ap, ◌∙◌, get-empty, stamp_cmp, settle_of}
 use Rattle.std.specs.FinMap as finite
-use Rattle.std.specs.FinMap.{get-empty}
-use Rattle.pseudo_time.specs.StampParts.{stamp_cmp}
-use Rattle.object_history.specs.History.{settle_of}
 use Rattle.forward_copy.proofs.settles.settles_of.Goals as goal
 
 pub loop-effect-init : goal.loop-effect-init

@@ -1,5 +1,4 @@
-use Rattle.std.proofs.Common.{reverse, take}
-use Rattle.forward_copy.specs.Settled.{AreKnown}
+use Rattle.forward_copy.proofs.Names.{reverse, take, AreKnown}
 use Rattle.forward_copy.proofs.settles.settles_of.Given as goal
 
 -- the log so far

@@ -1,6 +1,5 @@
-use Rattle.std.proofs.Common.{◌≡◌, length, not, reverse, take}
+use Rattle.forward_copy.proofs.Names.{◌≡◌, length, not, reverse, take, sifted}
 use Rattle.forward_copy.specs.Firms as spec
-use Rattle.forward_copy.specs.Sifted.{sifted}
 use Rattle.forward_copy.proofs.sieves.sift.Given as goal
 
 -- what was sifted of the log so far

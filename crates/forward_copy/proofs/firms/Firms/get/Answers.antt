@@ -1,7 +1,5 @@
-use Rattle.std.proofs.Common.{sym, ap, ◌∙◌}
+use Rattle.forward_copy.proofs.Names.{sym, ap, ◌∙◌, object_cmp-total, object_cmp-exact, get-entries_of}
 use Rattle.std.specs.FinMap as finite
-use Rattle.value_form.proofs.ObjectLemmas.{object_cmp-total, object_cmp-exact}
-use Rattle.object_history.proofs.MapLemmas.{get-entries_of}
 use Rattle.forward_copy.proofs.firms.Firms.get.Goals as goal
 
 pub returns : goal.returns

@@ -1,7 +1,5 @@
-use Rattle.std.proofs.Common.{ap, ◌∙◌}
+use Rattle.forward_copy.proofs.Names.{ap, ◌∙◌, object_cmp-total, object_cmp-exact, insert-entries_of}
 use Rattle.std.specs.FinMap as finite
-use Rattle.value_form.proofs.ObjectLemmas.{object_cmp-total, object_cmp-exact}
-use Rattle.object_history.proofs.MapLemmas.{insert-entries_of}
 use Rattle.forward_copy.proofs.firms.Firms.put.Goals as goal
 
 pub returns : goal.returns
