@@ -1,10 +1,5 @@
 -- A turn over any log refuses a request only where its log says so.
-use Rattle.std.proofs.Common.{◌≡◌, ℕ, ◌+◌, Bool, true, false, List, [], ◌∷◌, ◌++◌, refl, ◌∙◌, Option, Some, None, ◌==◌, ◌||◌, not, nat_le, if◌then◌else◌, inl, inr}
-use Rattle.std.proofs.lemmas.Bool.{false≢true}
-use Rattle.std.specs.List.{filter}
-use Rattle.std.specs.Map.{remove_entry}
-use Rattle.std.specs.BTreeMap.{insert_entry, is_at}
-use Rattle.repository_laws.proofs.Names.{StampParts, TimeParts, time_cmp, Every, same_stamp, Decision, NodeId, every-append, every-map, has-left, ObjectId, Value, Effect, Message, Post, WasSent, RecordState, Unknown, Decided, ReadStep, Answer, Wait, LaterRead, WriteStep, read_step, stands_written, write_step, is_settled, read-below, later-read, later-version, and-left, and-right, eq-from, HeldRead, Asker, every-filter, every-remove, every-put, Hand, Mind, note, now, send, broker, repository, ask_again, asks, expire, expire_all, expire_as, on_moment, waited, due, accepts, ask_as, begin_as, close_as, hold, is_broker_of, learn_as, on_ask, on_begin, on_close, on_learn, on_message, on_read, on_write, read_as, read_known, release, reread, row, tell_askers, tells, unhold, waits_for, write_as, hand_at, ReadSent, WriteSent, HeldHolds}
+use Rattle.repository_laws.proofs.Names.{StampParts, TimeParts, time_cmp, Every, same_stamp, Decision, NodeId, every-append, every-map, has-left, ObjectId, Value, Effect, Message, Post, WasSent, RecordState, Unknown, Decided, ReadStep, Answer, Wait, LaterRead, WriteStep, read_step, stands_written, write_step, is_settled, read-below, later-read, later-version, and-left, and-right, eq-from, HeldRead, Asker, every-filter, every-remove, every-put, Hand, Mind, note, now, send, broker, repository, ask_again, asks, expire, expire_all, expire_as, on_moment, waited, due, accepts, ask_as, begin_as, close_as, hold, is_broker_of, learn_as, on_ask, on_begin, on_close, on_learn, on_message, on_read, on_write, read_as, read_known, release, reread, row, tell_askers, tells, unhold, waits_for, write_as, hand_at, ReadSent, WriteSent, HeldHolds, ◌≡◌, ℕ, ◌+◌, Bool, true, false, List, [], ◌∷◌, ◌++◌, refl, ◌∙◌, Option, Some, None, ◌==◌, ◌||◌, not, nat_le, if◌then◌else◌, inl, inr, false≢true, filter, remove_entry, insert_entry, is_at}
 use Rattle.pseudo_time.specs.declared.decisions.Decision.TheVariants as decision
 use Rattle.effect_form.specs.declared.effects.Effect.TheVariants as effect
 use Rattle.message_form.specs.declared.messages.Message.TheVariants as message

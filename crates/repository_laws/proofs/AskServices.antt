@@ -1,18 +1,8 @@
 -- An Ask that is taken is kept or told, where its attempt has begun.
-use Rattle.std.proofs.Common.{◌≡◌, ◌⊎◌, ℕ, Bool, true, false, List, [], ◌∷◌, refl, sym, ◌∙◌, subst, Option, Some, None, if◌then◌else◌, inl, inr, arith}
-use Rattle.std.proofs.lemmas.Grind.{common_steps}
-use Rattle.std.proofs.lemmas.Bool.{eq-eqb, false≢true}
-use Rattle.std.specs.BTreeSet.{insert_key}
-use Rattle.std.specs.Ordering.{match_ordering, nat_cmp, ordering_then}
-use Rattle.std.specs.declared.cmp.Ordering.{Ordering}
-use Rattle.std.specs.declared.cmp.Ordering.TheVariants.{Less, Equal, Greater}
-use Rattle.repository_laws.proofs.Names.{Has, has-right, StampParts, same_stamp, same_stamp-of, Decision, RecordState, Effect, or_else, Asker, Hand, asker_cmp, now, repository, is_commit, record_of, ask_as, on_ask, on_message, tell_of}
-use Rattle.pseudo_time.specs.StampParts.{stamp_cmp}
-use Rattle.pseudo_time.proofs.OrderLemmas.{stamp_cmp-exact}
+use Rattle.repository_laws.proofs.Names.{Has, has-right, StampParts, same_stamp, same_stamp-of, Decision, RecordState, Effect, or_else, Asker, Hand, asker_cmp, now, repository, is_commit, record_of, ask_as, on_ask, on_message, tell_of, ◌≡◌, ◌⊎◌, ℕ, Bool, true, false, List, [], ◌∷◌, refl, sym, ◌∙◌, subst, Option, Some, None, if◌then◌else◌, inl, inr, arith, common_steps, eq-eqb, false≢true, insert_key, match_ordering, nat_cmp, ordering_then, Ordering, Less, Equal, Greater, stamp_cmp, stamp_cmp-exact, decision_of, first_begin, record_from}
 use Rattle.commit_record.specs.declared.states.RecordState.TheVariants as state
 use Rattle.effect_form.specs.declared.effects.Effect.TheVariants as effect
 use Rattle.message_form.specs.declared.messages.Message.TheVariants as message
-use Rattle.repository_log.specs.Logs.{decision_of, first_begin, record_from}
 
 -- a Begin makes a record
 begins-first : (l : List Effect) (s : StampParts) (d : ℕ) → Has (effect.Begin s d) l → first_begin l s ≡ None → ⊥
@@ -28,30 +18,8 @@ begins-first (effect.Begin p x ∷ l) s d h n = go (λ i z. begins-first l s d i
     go again true e (Some y) q n h = absurd (cc n)
     go again false e u q n (inl i) = false≢true (sym e ∙ same_stamp-of p s (first i))
     go again false e u q n (inr i) = again i (q ∙ n)
-begins-first (effect.Put o x v ∷ l) s d (inr h) n = begins-first l s d h n
-begins-first (effect.Stretch o x ∷ l) s d (inr h) n = begins-first l s d h n
-begins-first (effect.Decide p x ∷ l) s d (inr h) n = begins-first l s d h n
-begins-first (effect.Learn p x ∷ l) s d (inr h) n = begins-first l s d h n
-begins-first (effect.Run k ∷ l) s d (inr h) n = begins-first l s d h n
-begins-first (effect.Act i x t k c y ∷ l) s d (inr h) n = begins-first l s d h n
-begins-first (effect.Try i p ∷ l) s d (inr h) n = begins-first l s d h n
-begins-first (effect.Got k v ∷ l) s d (inr h) n = begins-first l s d h n
-begins-first (effect.Acked k ∷ l) s d (inr h) n = begins-first l s d h n
-begins-first (effect.End i e ∷ l) s d (inr h) n = begins-first l s d h n
-begins-first (effect.Mark at ∷ l) s d (inr h) n = begins-first l s d h n
-begins-first (effect.Whole ∷ l) s d (inr h) n = begins-first l s d h n
-begins-first (effect.Put o x v ∷ l) s d (inl e) n = absurd (cc e)
-begins-first (effect.Stretch o x ∷ l) s d (inl e) n = absurd (cc e)
-begins-first (effect.Decide p x ∷ l) s d (inl e) n = absurd (cc e)
-begins-first (effect.Learn p x ∷ l) s d (inl e) n = absurd (cc e)
-begins-first (effect.Run k ∷ l) s d (inl e) n = absurd (cc e)
-begins-first (effect.Act i x t k c y ∷ l) s d (inl e) n = absurd (cc e)
-begins-first (effect.Try i p ∷ l) s d (inl e) n = absurd (cc e)
-begins-first (effect.Got k v ∷ l) s d (inl e) n = absurd (cc e)
-begins-first (effect.Acked k ∷ l) s d (inl e) n = absurd (cc e)
-begins-first (effect.End i x ∷ l) s d (inl e) n = absurd (cc e)
-begins-first (effect.Mark at ∷ l) s d (inl e) n = absurd (cc e)
-begins-first (effect.Whole ∷ l) s d (inl e) n = absurd (cc e)
+begins-first (_ ∷ l) s d (inr h) n = begins-first l s d h n
+begins-first (_ ∷ l) s d (inl e) n = absurd (cc e)
 
 pub has-record : (l : List Effect) (s : StampParts) (d : ℕ) → Has (effect.Begin s d) l → record_of l s ≡ None → ⊥
 has-record l s d h n = go (first_begin l s) refl (decision_of l s) n
@@ -72,9 +40,8 @@ asker-exact a b e = go (nat_cmp a.repository b.repository) refl e
     both m n s t p q = λ i. record { repository = p i; stamp = q i }
 
     go : (o : Ordering) → nat_cmp a.repository b.repository ≡ o → ordering_then o (stamp_cmp a.stamp b.stamp) ≡ Equal → a ≡ b
-    go Less q e = absurd (cc e)
     go Equal q e = both a.repository b.repository a.stamp b.stamp (same a.repository b.repository q) (stamp_cmp-exact a.stamp b.stamp e)
-    go Greater q e = absurd (cc e)
+    go _ q e = absurd (cc e)
 
 set-has : (xs : List Asker) (a : Asker) → Has a (insert_key asker_cmp xs a)
 set-has [] a = inl refl

@@ -1,13 +1,5 @@
 -- What each step of a repository's turn keeps of those who asked: an asker is kept while its attempt isn't decided, and then it is told.
-use Rattle.std.proofs.Common.{◌≡◌, ◌⊎◌, ℕ, ◌+◌, ◌==◌, Bool, true, false, ◌||◌, not, List, [], ◌∷◌, refl, sym, ◌∙◌, ap, subst, Option, Some, None, if◌then◌else◌, inl, inr}
-use Rattle.std.proofs.lemmas.Bool.{false≢true}
-use Rattle.std.specs.List.{filter}
-use Rattle.std.specs.Prelude.{cond, nat_le}
-use Rattle.std.specs.BTreeSet.{insert_key}
-use Rattle.std.specs.Ordering.{match_ordering}
-use Rattle.std.specs.declared.cmp.Ordering.{Ordering}
-use Rattle.std.specs.declared.cmp.Ordering.TheVariants.{Less, Equal, Greater}
-use Rattle.repository_laws.proofs.Names.{Has, has-left, has-right, StampParts, TimeParts, same_stamp, same_stamp-is, same_stamp-of, Decision, NodeId, RecordState, ObjectId, Value, Effect, Message, Out, ReadStep, Answer, Wait, LaterRead, WriteStep, is_settled, read_step, stands_written, write_step, eq-from, and-right, HeldRead, Asker, Hand, asker_cmp, note, now, send, repository, is_commit, known, marks, record_of, accepts, ask_as, begin_as, close_as, hold, learn_as, on_ask, on_begin, on_close, on_learn, on_message, on_read, on_write, read_as, read_known, release, reread, row, tell_askers, tells, unhold, waits_for, write_as, is_repository, unknown-unsettled, due, ask_again, asks, expire, expire_all, expire_as, on_moment, waited, tell_of}
+use Rattle.repository_laws.proofs.Names.{Has, has-left, has-right, StampParts, TimeParts, same_stamp, same_stamp-is, same_stamp-of, Decision, NodeId, RecordState, ObjectId, Value, Effect, Message, Out, ReadStep, Answer, Wait, LaterRead, WriteStep, is_settled, read_step, stands_written, write_step, eq-from, and-right, HeldRead, Asker, Hand, asker_cmp, note, now, send, repository, is_commit, known, marks, record_of, accepts, ask_as, begin_as, close_as, hold, learn_as, on_ask, on_begin, on_close, on_learn, on_message, on_read, on_write, read_as, read_known, release, reread, row, tell_askers, tells, unhold, waits_for, write_as, is_repository, unknown-unsettled, due, ask_again, asks, expire, expire_all, expire_as, on_moment, waited, tell_of, ◌≡◌, ◌⊎◌, ℕ, ◌+◌, ◌==◌, Bool, true, false, ◌||◌, not, List, [], ◌∷◌, refl, sym, ◌∙◌, ap, subst, Option, Some, None, if◌then◌else◌, inl, inr, false≢true, filter, cond, nat_le, insert_key, match_ordering, Ordering, Less, Equal, Greater}
 use Rattle.pseudo_time.specs.declared.decisions.Decision.TheVariants as decision
 use Rattle.commit_record.specs.declared.states.RecordState.TheVariants as state
 use Rattle.effect_form.specs.declared.effects.Effect.TheVariants as effect
@@ -36,15 +28,7 @@ abbrev NoDecide : Effect → Type 0
 NoDecide f = (s : StampParts) (d : Decision) → f ≡ effect.Decide s d → ⊥
 
 note-still : (h : Hand) (f : Effect) → NoDecide f → Still h (note f h)
-note-still h f never = record {
-  number = refl;
-  askers = refl;
-  outs = λ o i. i;
-  decides = λ s d i. elim i [
-    | inl e ↦ absurd (never s d e)
-    | inr j ↦ j
-  ];
-}
+note-still h f never = record { number = refl; askers = refl; outs = λ o i. i; decides = λ s d i. elim i [ inl e ↦ absurd (never s d e) | inr j ↦ j ] }
 
 read-as-still : (before : List (TimeParts × HeldRead)) (h : Hand) (from : NodeId) (t : TimeParts) (o : ObjectId) (s : ReadStep) → Still h (read_as before h from t o s)
 read-as-still before h from t o (Answer v true) = then-still h (note (effect.Stretch o t) h) (send from (message.Value t v) (note (effect.Stretch o t) h)) (note-still h (effect.Stretch o t) (λ s d e. absurd (cc e))) (send-still (note (effect.Stretch o t) h) from (message.Value t v))
@@ -86,10 +70,7 @@ module _ (old : Hand) where
 
   still-askers : (h k : Hand) → Still h k → Askers h → Askers k
   still-askers h k s a = record {
-    kept = λ x i. elim (a.kept x i) [
-      | inl j ↦ inl (subst (Has x) (sym s.askers) j)
-      | inr j ↦ inr (j.0, s.outs (tell_of x j.0) j.1)
-    ];
+    kept = λ x i. elim (a.kept x i) [ inl j ↦ inl (subst (Has x) (sym s.askers) j) | inr j ↦ inr (j.0, s.outs (tell_of x j.0) j.1) ];
     undone = λ x i. let u = a.undone x (subst (Has x) s.askers i) in (u.0 ∙ sym s.number, λ d j. u.1 d (s.decides x.stamp d j));
   }
 
@@ -173,10 +154,7 @@ module _ (old : Hand) where
       go again Less (inr k) = inr k
       go again Equal k = inr k
       go again Greater (inl e) = inr (inl e)
-      go again Greater (inr k) = elim (again k) [
-        | inl e ↦ inl e
-        | inr j ↦ inr (inr j)
-      ]
+      go again Greater (inr k) = elim (again k) [ inl e ↦ inl e | inr j ↦ inr (inr j) ]
 
   stays-in : (xs : List Asker) (x y : Asker) → Has y xs → Has y (insert_key asker_cmp xs x)
   stays-in [] x y i = absurd i
@@ -192,10 +170,7 @@ module _ (old : Hand) where
   ask-as-askers h from s None e home a = a
   ask-as-askers h from s (Some (state.Decided d)) e home a = still-askers h (send from (message.Tell s (is_commit d)) h) (send-still h from (message.Tell s (is_commit d))) a
   ask-as-askers h from s (Some (state.Unknown t)) e home a = record {
-    kept = λ x i. elim (a.kept x i) [
-      | inl j ↦ inl (stays-in h.askers (record { repository = from.number; stamp = s }) x j)
-      | inr j ↦ inr j
-    ];
+    kept = λ x i. elim (a.kept x i) [ inl j ↦ inl (stays-in h.askers (record { repository = from.number; stamp = s }) x j) | inr j ↦ inr j ];
     undone = λ x i. elim (inserted h.askers (record { repository = from.number; stamp = s }) x i) [
       | inl q ↦ subst (λ (z : Asker). (z.stamp.home ≡ h.number) × ((d : Decision) → Has (effect.Decide z.stamp d) (now h) → ⊥)) q (
         home,
@@ -234,7 +209,7 @@ module _ (old : Hand) where
   -- a message is taken
   pub on-message-askers : (h : Hand) (from : NodeId) (m : Message) → Askers h → Askers (on_message h from m)
   unfolding on_message on_begin on_close on_write on_ask
-  on-message-askers h from m a = go (accepts h.number from m) refl
+  on-message-askers h from m a = (elim (accepts h.number from m) as (λ b. accepts h.number from m ≡ b → Askers (if b then row h from m else h)) [ true ↦ λ e. one m e | false ↦ λ e. a ]) refl
     where
       one : (m : Message) → accepts h.number from m ≡ true → Askers (row h from m)
       one (message.Begin s timeout) e = begin-as-askers h from s timeout (record_of (now h) s) a
@@ -245,10 +220,6 @@ module _ (old : Hand) where
       one (message.Ask s) e = ask-as-askers h from s (record_of (now h) s) refl (eq-from s.home h.number (and-right (is_repository from.kind) (s.home == h.number) e)) a
       one (message.Tell s c) e = on-learn-askers h s c a
       one _ e = a
-
-      go : (b : Bool) → accepts h.number from m ≡ b → Askers (if b then row h from m else h)
-      go true e = one m e
-      go false e = a
 
   -- ---- a moment
 

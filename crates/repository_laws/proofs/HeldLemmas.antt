@@ -1,15 +1,5 @@
 -- Lists of held reads: what a filter, an insertion and a removal leave of them.
-use Rattle.std.proofs.Common.{◌≡◌, ◌⊎◌, Bool, true, false, ◌||◌, not, List, [], ◌∷◌, refl, sym, subst, inl, inr}
-use Rattle.std.proofs.lemmas.Bool.{false≢true}
-use Rattle.std.specs.Prelude.{cond}
-use Rattle.std.specs.List.{filter}
-use Rattle.std.specs.Map.{remove_entry}
-use Rattle.std.specs.BTreeMap.{insert_entry, is_at}
-use Rattle.std.specs.Ordering.{match_ordering, is_eq}
-use Rattle.std.specs.declared.cmp.Ordering.{Ordering}
-use Rattle.std.specs.declared.cmp.Ordering.TheVariants.{Less, Equal, Greater}
-use Rattle.repository_laws.proofs.Names.{Every, Has, StampParts, TimeParts, time_cmp, same_stamp, HeldRead, waits_for}
-use Rattle.pseudo_time.proofs.OrderLemmas.{is_equal, time_cmp-exact}
+use Rattle.repository_laws.proofs.Names.{Every, Has, StampParts, TimeParts, time_cmp, same_stamp, HeldRead, waits_for, ◌≡◌, ◌⊎◌, Bool, true, false, ◌||◌, not, List, [], ◌∷◌, refl, sym, subst, inl, inr, false≢true, cond, filter, remove_entry, insert_entry, is_at, match_ordering, is_eq, Ordering, Less, Equal, Greater, is_equal, time_cmp-exact}
 
 -- ---- lists
 
@@ -33,14 +23,8 @@ has-split {A} test (y ∷ xs) x h = go (λ k. has-split test xs x k) (test y) re
     go : (Has x xs → Has x (filter test xs) ⊎ Has x (filter (λ y. not (test y)) xs)) → (b : Bool) → test y ≡ b → Has x (y ∷ xs) → Has x (cond b (y ∷ filter test xs) (filter test xs)) ⊎ Has x (cond (not b) (y ∷ filter (λ y. not (test y)) xs) (filter (λ y. not (test y)) xs))
     go again true q (inl p) = inl (inl p)
     go again false q (inl p) = inr (inl p)
-    go again true q (inr k) = elim (again k) [
-      | inl a ↦ inl (inr a)
-      | inr b ↦ inr b
-    ]
-    go again false q (inr k) = elim (again k) [
-      | inl a ↦ inl a
-      | inr b ↦ inr (inr b)
-    ]
+    go again true q (inr k) = elim (again k) [ inl a ↦ inl (inr a) | inr b ↦ inr b ]
+    go again false q (inr k) = elim (again k) [ inl a ↦ inl a | inr b ↦ inr (inr b) ]
 
 -- what passed a filter stood in the list
 pub filter-has : {X : Type 0} (test : X → Bool) (xs : List X) (x : X) → Has x (filter test xs) → Has x xs
@@ -71,10 +55,7 @@ gone-or t (x ∷ es) e h = go (λ k. gone-or t es e k) (is_eq (time_cmp t x.0)) 
     go again true q (inl p) = inl (subst (λ (z : TimeParts × HeldRead). z.0 ≡ t) p (sym (time_cmp-exact t x.0 (is_equal (time_cmp t x.0) q))))
     go again true q (inr k) = inr k
     go again false q (inl p) = inr (inl p)
-    go again false q (inr k) = elim (again k) [
-      | inl a ↦ inl a
-      | inr b ↦ inr (inr b)
-    ]
+    go again false q (inr k) = elim (again k) [ inl a ↦ inl a | inr b ↦ inr (inr b) ]
 
 pub kept-or : (t : TimeParts) (x : HeldRead) (es : List (TimeParts × HeldRead)) (e : TimeParts × HeldRead) → Has e es → (e.0 ≡ t) ⊎ Has e (insert_entry time_cmp es t x)
 kept-or t x [] e h = absurd h
@@ -85,10 +66,7 @@ kept-or t x (y ∷ es) e h = go (λ k. kept-or t x es e k) (time_cmp t y.0) refl
     go again Equal q (inl p) = inl (subst (λ (z : TimeParts × HeldRead). z.0 ≡ t) p (sym (time_cmp-exact t y.0 q)))
     go again Equal q (inr k) = inr (inr k)
     go again Greater q (inl p) = inr (inl p)
-    go again Greater q (inr k) = elim (again k) [
-      | inl a ↦ inl a
-      | inr b ↦ inr (inr b)
-    ]
+    go again Greater q (inr k) = elim (again k) [ inl a ↦ inl a | inr b ↦ inr (inr b) ]
 
 -- ---- what is waited for
 
@@ -98,16 +76,10 @@ waits-put w t x (y ∷ es) h = go (λ k. waits-put w t x es k) (time_cmp t y.0) 
   where
     go : (waits_for w (insert_entry time_cmp es t x) ≡ true → (same_stamp x.waits w ≡ true) ⊎ (waits_for w es ≡ true)) → (o : Ordering) → waits_for w (match_ordering o ((t, x) ∷ y ∷ es) ((y.0, x) ∷ es) (y ∷ insert_entry time_cmp es t x)) ≡ true → (same_stamp x.waits w ≡ true) ⊎ (waits_for w (y ∷ es) ≡ true)
     go again Less h = or-split (same_stamp x.waits w) (waits_for w (y ∷ es)) h
-    go again Equal h = elim (or-split (same_stamp x.waits w) (waits_for w es) h) [
-      | inl a ↦ inl a
-      | inr b ↦ inr (or-right (same_stamp y.1.waits w) (waits_for w es) b)
-    ]
+    go again Equal h = elim (or-split (same_stamp x.waits w) (waits_for w es) h) [ inl a ↦ inl a | inr b ↦ inr (or-right (same_stamp y.1.waits w) (waits_for w es) b) ]
     go again Greater h = elim (or-split (same_stamp y.1.waits w) (waits_for w (insert_entry time_cmp es t x)) h) [
       | inl a ↦ inr (or-left (same_stamp y.1.waits w) (waits_for w es) a)
-      | inr b ↦ elim (again b) [
-        | inl c ↦ inl c
-        | inr d ↦ inr (or-right (same_stamp y.1.waits w) (waits_for w es) d)
-      ]
+      | inr b ↦ elim (again b) [ inl c ↦ inl c | inr d ↦ inr (or-right (same_stamp y.1.waits w) (waits_for w es) d) ]
     ]
 
 pub waits-remove : (w : StampParts) (test : TimeParts → Bool) (es : List (TimeParts × HeldRead)) → waits_for w (remove_entry test es) ≡ true → waits_for w es ≡ true

@@ -1,9 +1,5 @@
 -- After a decision was learned its attempt is known, whatever reads were released.
-use Rattle.std.proofs.Common.{◌≡◌, ◌==◌, Bool, true, false, ◌||◌, not, List, [], ◌∷◌, refl, ◌∙◌, Option, Some, None, if◌then◌else◌}
-use Rattle.std.proofs.lemmas.Bool.{false≢true}
-use Rattle.std.specs.List.{filter}
-use Rattle.repository_laws.proofs.Names.{StampParts, TimeParts, same_stamp, NodeId, ObjectId, Effect, ReadStep, Answer, Wait, LaterRead, or_else, settle_of, read_step, HeldRead, Hand, note, now, send, repository, known, marks, hold, learn_as, on_learn, on_read, read_as, read_known, release, reread, unhold, waits_for}
-use Rattle.pseudo_time.proofs.OrderLemmas.{same_stamp-self}
+use Rattle.repository_laws.proofs.Names.{StampParts, TimeParts, same_stamp, NodeId, ObjectId, Effect, ReadStep, Answer, Wait, LaterRead, or_else, settle_of, read_step, HeldRead, Hand, note, now, send, repository, known, marks, hold, learn_as, on_learn, on_read, read_as, read_known, release, reread, unhold, waits_for, ◌≡◌, ◌==◌, Bool, true, false, ◌||◌, not, List, [], ◌∷◌, refl, ◌∙◌, Option, Some, None, if◌then◌else◌, false≢true, filter, same_stamp-self}
 use Rattle.effect_form.specs.declared.effects.Effect.TheVariants as effect
 use Rattle.message_form.specs.declared.messages.Message.TheVariants as message
 use Rattle.repository_laws.proofs.ReadSteps.{known-stretch}

@@ -1,14 +1,9 @@
 -- a repository's log
-use Rattle.std.proofs.Common.{◌≡◌, ◌≢◌, ℕ, Bool, true, false, List, [], ◌∷◌, ◌++◌, refl, sym, ◌∙◌, ap, subst, Option, Some, None, if◌then◌else◌, inl, inr}
-use Rattle.std.proofs.lemmas.Bool.{false≢true}
-use Rattle.repository_laws.proofs.Names.{StampParts, TimeParts, ObjectId, Value, Decision, Effect, Put, Stretch, Decide, Learn, Unknown, Decided, or_else, settle_of, floor_of, read_step, read-below, same_stamp-is, same_stamp-of, Has, same_stamp, unknown-unsettled, FitsLog, IsTidy, IsTimely, Once, grew_keeps, Grew}
-use Rattle.effect_form.specs.declared.effects.Effect.TheVariants.{Begin, Run, Act, Try, Got, Acked, End, Mark, Whole}
+use Rattle.repository_laws.proofs.Names.{StampParts, TimeParts, ObjectId, Value, Decision, Effect, Put, Stretch, Decide, Learn, Unknown, Decided, or_else, settle_of, floor_of, read_step, read-below, same_stamp-is, same_stamp-of, Has, same_stamp, unknown-unsettled, FitsLog, IsTidy, IsTimely, Once, grew_keeps, Grew, ◌≡◌, ◌≢◌, ℕ, Bool, true, false, List, [], ◌∷◌, ◌++◌, refl, sym, ◌∙◌, ap, subst, Option, Some, None, if◌then◌else◌, inl, inr, false≢true, Begin, Mark, Whole, new-start, settled-kept, undecided, from-begin, from-decided}
 use Rattle.object_history.specs.declared.marks.Mark.TheVariants as mark
-use Rattle.object_history.proofs.ScanLemmas.{new-start, settled-kept}
 use Rattle.object_history.proofs.ViewLemmas.{viewed-kept}
 use Rattle.object_history.specs.declared.steps.ReadStep.TheVariants as read
 use Rattle.object_history.specs.Views.{Distinct, IsOnFloor, Viewed}
-use Rattle.repository_log.proofs.LogLemmas.{undecided, from-begin, from-decided}
 use Rattle.repository_core.specs.Logs.{decision_of, first_begin, is_commit, marks, record_of, as_decision}
 
 -- ----- records -----
@@ -47,14 +42,9 @@ Homed r (Stretch o x) = o.repository ≡ r
 Homed r (Begin s d) = s.home ≡ r
 Homed r (Decide s d) = s.home ≡ r
 Homed r (Learn s c) = s.home ≢ r
-Homed r (Run n) = ⊥
-Homed r (Act i h t n c b) = ⊥
-Homed r (Try i s) = ⊥
-Homed r (Got k v) = ⊥
-Homed r (Acked k) = ⊥
-Homed r (End i e) = ⊥
 Homed r (Mark at) = Unit {0}
 Homed r Whole = Unit {0}
+Homed r _ = ⊥
 
 homed-head : (r : ℕ) (f : Effect) (l : List Effect) → IsTidy r (f ∷ l) → Homed r f
 homed-head r (Put o x v) l t = t.0
@@ -168,10 +158,8 @@ learn-if true p s c d u l q g h = absurd (q refl)
 decision-stands : (r : ℕ) (l : List Effect) (s : StampParts) (d : Decision) → IsTidy r l → s.home ≡ r → decision_of l s ≡ Some d → Has (Decide s d) l
 unfolding decision_of
 decision-stands r [] s d t e h = cc h
-decision-stands r (Decide p q ∷ l) s d t e h =
-    decide-if (same_stamp p s) p s q d (decision_of l s) l (same_stamp-is p s) (decision-stands r l s d t.2 e) h
-decision-stands r (Learn p c ∷ l) s d t e h =
-    learn-if (same_stamp p s) p s c d (decision_of l s) l (λ k. t.0 (ap (λ z. z.home) (same_stamp-is p s k) ∙ e)) (decision-stands r l s d t.2 e) h
+decision-stands r (Decide p q ∷ l) s d t e h = decide-if (same_stamp p s) p s q d (decision_of l s) l (same_stamp-is p s) (decision-stands r l s d t.2 e) h
+decision-stands r (Learn p c ∷ l) s d t e h = learn-if (same_stamp p s) p s c d (decision_of l s) l (λ k. t.0 (ap (λ z. z.home) (same_stamp-is p s k) ∙ e)) (decision-stands r l s d t.2 e) h
 decision-stands r (f ∷ l) s d t e h = inr (decision-stands r l s d (tidy-tail r f l t) e h)
 
 pub decided-stands : (r : ℕ) (l : List Effect) (s : StampParts) (d : Decision) → IsTidy r l → s.home ≡ r → record_of l s ≡ Some (Decided d) → Has (Decide s d) l
@@ -200,8 +188,7 @@ decide-counts r (f ∷ l) s d t (inl q) = absurd (cc q)
 decide-counts r (f ∷ l) s d t (inr h) = decide-counts r l s d (tidy-tail r f l t) h
 
 pub decided-once : (r : ℕ) (l : List Effect) (s : StampParts) (d e : Decision) → IsTidy r l → Has (Decide s d) l → Has (Decide s e) l → d ≡ e
-decided-once r l s d e t h k =
-    let both : Some d ≡ Some e = sym (decide-counts r l s d t h) ∙ decide-counts r l s e t k in cc
+decided-once r l s d e t h k = let both : Some d ≡ Some e = sym (decide-counts r l s d t h) ∙ decide-counts r l s e t k in cc
 
 -- what IsTidy says of a Decide that stands in the log, at its tail
 pub decide-cause : (r : ℕ) (l : List Effect) (s : StampParts) (d : Decision) → IsTidy r l → Has (Decide s d) l → (t : ℕ) × Has (Begin s t) l × IsTimely t d
@@ -238,8 +225,7 @@ decide-settles (Decide p e ∷ l) s d (inl q) = let same : p ≡ s = cc q in if-
 decide-settles (f ∷ l) s d (inl q) = absurd (cc q)
 decide-settles (f ∷ l) s d (inr h) = let k = decide-settles l s d h in (k.0, settled-log l f s k.0 k.1)
 
-pub viewed-log : (r : ℕ) (l : List Effect) (f : Effect) (o : ObjectId) (t : TimeParts) (v : Value) → FitsLog r l f →
-    Viewed (marks l) o t v → Viewed (marks (f ∷ l)) o t v
+pub viewed-log : (r : ℕ) (l : List Effect) (f : Effect) (o : ObjectId) (t : TimeParts) (v : Value) → FitsLog r l f → Viewed (marks l) o t v → Viewed (marks (f ∷ l)) o t v
 viewed-log r l (Put a x w) o t v k h = viewed-kept (marks l) (mark.Put a x w) o t v k.1 h
 viewed-log r l (Stretch a x) o t v k h = viewed-kept (marks l) (mark.Stretch a x) o t v tt h
 viewed-log r l (Begin s d) o t v k h = h

@@ -1,10 +1,8 @@
 -- the facts of messages, of evidence and of held reads only grow
-use Rattle.std.proofs.Common.{ℕ, List, ◌∷◌, ◌++◌, inl, inr}
 use Rattle.pseudo_time.specs.declared.decisions.Decision.TheVariants as decision
-use Rattle.repository_laws.proofs.Names.{Effect, Put, Stretch, Decide, Learn, Message, NodeId, Post, TimeParts, ObjectId, HeldRead, has-left, Has, FitsLog, RestsOn, HeldHolds, PostHolds, grew_keeps, Grew}
+use Rattle.repository_laws.proofs.Names.{Effect, Put, Stretch, Decide, Learn, Message, NodeId, Post, TimeParts, ObjectId, HeldRead, has-left, Has, FitsLog, RestsOn, HeldHolds, PostHolds, grew_keeps, Grew, ℕ, List, ◌∷◌, ◌++◌, inl, inr, WasReadLater}
 use Rattle.message_form.specs.declared.messages.Message.TheVariants as message
 use Rattle.repository_laws.proofs.Logs.{settled-log, viewed-log, on-floor-log}
-use Rattle.repository_laws.specs.Facts.{WasReadLater}
 
 pub later-stays : (ever : List Post) (r : ℕ) (l : List Effect) (f : Effect) (o : ObjectId) (t e : TimeParts) → WasReadLater ever r l o t e → WasReadLater ever r (f ∷ l) o t e
 later-stays ever r l f o t e (inl p) = inl (p.0, inr p.1)
@@ -28,8 +26,7 @@ post-stays ever r l f to (message.Ask s) k p = tt
 post-stays ever r l f to m k p = absurd p
 
 -- and a whole turn, or the part of it that a crash keeps
-pub post-stays-through : (ever : List Post) (r : ℕ) (l added : List Effect) (to : NodeId) (m : Message) → Grew (FitsLog r) l added →
-    PostHolds ever r l to m → PostHolds ever r (added ++ l) to m
+pub post-stays-through : (ever : List Post) (r : ℕ) (l added : List Effect) (to : NodeId) (m : Message) → Grew (FitsLog r) l added → PostHolds ever r l to m → PostHolds ever r (added ++ l) to m
 post-stays-through ever r l added to m g p = grew_keeps (FitsLog r) (λ k. PostHolds ever r k to m) (λ k f q fit. post-stays ever r k f to m fit q) l added g p
 
 -- more messages

@@ -1,37 +1,20 @@
 -- What each step of a turn keeps of the reads: one that is held stays held or is answered, what is waited for isn't known, and the home of what is waited for anew is asked.
-use Rattle.std.proofs.Common.{◌≡◌, ◌⊎◌, ℕ, ◌+◌, ◌==◌, Bool, true, false, ◌&&◌, ◌||◌, not, List, [], ◌∷◌, ◌++◌, refl, sym, ◌∙◌, ap, subst, Option, Some, None, if◌then◌else◌, inl, inr}
-use Rattle.std.proofs.lemmas.Bool.{false≢true, true≢false}
-use Rattle.std.specs.Prelude.{nat_le}
-use Rattle.std.specs.List.{filter}
-use Rattle.std.specs.BTreeMap.{is_at}
-use Rattle.std.specs.BTreeSet.{insert_key}
-use Rattle.repository_laws.proofs.Names.{Every, Has, has-left, has-right, every-map, StampParts, TimeParts, time_cmp, same_stamp, same_stamp-is, same_stamp-of, Decision, RecordState, Unknown, Decided, NodeId, ObjectId, Value, Effect, Message, Out, ReadStep, Answer, Wait, LaterRead, WriteStep, or_else, settle_of, is_settled, alive, floor_of, read_step, stands_written, write_step, and-left, HeldRead, Asker, Hand, asker_cmp, note, now, send, repository, is_commit, known, marks, record_of, accepts, ask_as, begin_as, close_as, hold, learn_as, on_ask, on_begin, on_close, on_learn, on_message, on_read, on_write, row, write_as, read_as, read_known, release, reread, tell_askers, tells, unhold, waits_for, due, ask_again, asks, expire, expire_all, expire_as, on_moment, waited, Waits, put-in, every-remove, every-put}
-use Rattle.pseudo_time.proofs.ListLemmas.{every-has}
-use Rattle.pseudo_time.specs.Order.{lt}
+use Rattle.repository_laws.proofs.Names.{Every, Has, has-left, has-right, every-map, StampParts, TimeParts, time_cmp, same_stamp, same_stamp-is, same_stamp-of, Decision, RecordState, Unknown, Decided, NodeId, ObjectId, Value, Effect, Message, Out, ReadStep, Answer, Wait, LaterRead, WriteStep, or_else, settle_of, is_settled, alive, floor_of, read_step, stands_written, write_step, and-left, HeldRead, Asker, Hand, asker_cmp, note, now, send, repository, is_commit, known, marks, record_of, accepts, ask_as, begin_as, close_as, hold, learn_as, on_ask, on_begin, on_close, on_learn, on_message, on_read, on_write, row, write_as, read_as, read_known, release, reread, tell_askers, tells, unhold, waits_for, due, ask_again, asks, expire, expire_all, expire_as, on_moment, waited, Waits, put-in, every-remove, every-put, ◌≡◌, ◌⊎◌, ℕ, ◌+◌, ◌==◌, Bool, true, false, ◌&&◌, ◌||◌, not, List, [], ◌∷◌, ◌++◌, refl, sym, ◌∙◌, ap, subst, Option, Some, None, if◌then◌else◌, inl, inr, false≢true, true≢false, nat_le, filter, is_at, insert_key, every-has, lt, Seen, sees, read_seen, read_from, needs_stretch, standing, Standing, stands-has, ask_for, ask_of}
 use Rattle.pseudo_time.specs.declared.decisions.Decision.TheVariants as decision
 use Rattle.effect_form.specs.declared.effects.Effect.TheVariants as effect
 use Rattle.message_form.specs.declared.messages.Message.TheVariants as message
 use Rattle.object_history.specs.declared.steps.WriteStep.TheVariants as write
 use Rattle.object_history.specs.declared.marks.Mark.{Mark}
-use Rattle.object_history.specs.History.{Seen, sees}
-use Rattle.object_history.specs.Answers.{read_seen, read_from, needs_stretch}
-use Rattle.object_history.proofs.ScanLemmas.{standing, Standing, stands-has}
 use Rattle.object_history.proofs.StableLemmas.{scan-passes}
 use Rattle.object_history.proofs.Words.{Passes}
-use Rattle.repository_core.specs.Rows.{ask_for}
 use Rattle.repository_laws.proofs.Logs.{put-logged}
-use Rattle.repository_laws.specs.Waits.{ask_of}
 use Rattle.repository_laws.proofs.HeldLemmas.{or-split, has-split, every-passing, gone-or, kept-or, waits-put, waits-remove, waits-filter}
 
 -- a read that has to wait
 -- a read that waits isn't below the floor
 waits-from : (f : Option TimeParts) (m : List Mark) (o : ObjectId) (t : TimeParts) (w : StampParts) → read_from f m o t ≡ Wait w → read_seen m o t (sees m o t) ≡ Wait w
 waits-from None m o t w h = h
-waits-from (Some e) m o t w h = choice (lt t e) h
-  where
-    choice : (b : Bool) → (if b then LaterRead e else read_seen m o t (sees m o t)) ≡ Wait w → read_seen m o t (sees m o t) ≡ Wait w
-    choice true h = absurd (cc h)
-    choice false h = h
+waits-from (Some e) m o t w h = (elim (lt t e) as (λ b. (if b then LaterRead e else read_seen m o t (sees m o t)) ≡ Wait w → read_seen m o t (sees m o t) ≡ Wait w) [ true ↦ λ h. absurd (cc h) | false ↦ λ h. h ]) h
 
 pub read-waits : (l : List Effect) (from : NodeId) (t : TimeParts) (o : ObjectId) (w : StampParts) → read_step (marks l) o t ≡ Wait w → Waits l (t, record { from = from; object = o; waits = w })
 read-waits l from t o w h = go (sees (marks l) o t) (standing (λ x. lt x t && alive (marks l) x) o (marks l)) (scan-passes (λ x. lt x t && alive (marks l) x) o (marks l)) (waits-from (floor_of (marks l)) (marks l) o t w h)
@@ -68,11 +51,7 @@ unfolding settle_of
 known-put l o x v w = refl
 
 settled-other : (s w : StampParts) (c : Bool) (u : Option Bool) → u ≡ None → (w ≡ s) ⊎ ((if same_stamp s w then or_else u c else u) ≡ None)
-settled-other s w c u n = go (same_stamp s w) refl
-  where
-    go : (b : Bool) → same_stamp s w ≡ b → (w ≡ s) ⊎ ((if b then or_else u c else u) ≡ None)
-    go true e = inl (sym (same_stamp-is s w e))
-    go false e = inr n
+settled-other s w c u n = (elim (same_stamp s w) as (λ b. same_stamp s w ≡ b → (w ≡ s) ⊎ ((if b then or_else u c else u) ≡ None)) [ true ↦ λ e. inl (sym (same_stamp-is s w e)) | false ↦ λ e. inr n ]) refl
 
 known-decide : (l : List Effect) (s : StampParts) (d : Decision) (w : StampParts) → known l w ≡ None → (w ≡ s) ⊎ (known (effect.Decide s d ∷ l) w ≡ None)
 unfolding settle_of
@@ -117,15 +96,9 @@ module _ (R : TimeParts → ObjectId → NodeId → Type 0) (agree : (t : TimePa
       number = k.number;
       first = k.first;
       reads = k.reads;
-      served = λ e i. elim (k.served e i) [
-        | inl a ↦ inl a
-        | inr b ↦ inr (serves-more h to m e.0 e.1.object e.1.from b)
-      ];
+      served = λ e i. elim (k.served e i) [ inl a ↦ inl a | inr b ↦ inr (serves-more h to m e.0 e.1.object e.1.from b) ];
       waiting = k.waiting;
-      asks = λ w i n. elim (k.asks w i n) [
-        | inl a ↦ inl a
-        | inr b ↦ inr (has-left h.outs (record { to = to; message = m } ∷ []) (ask_of w) b)
-      ];
+      asks = λ w i n. elim (k.asks w i n) [ inl a ↦ inl a | inr b ↦ inr (has-left h.outs (record { to = to; message = m } ∷ []) (ask_of w) b) ];
     }
 
     -- an effect is added
@@ -142,10 +115,7 @@ module _ (R : TimeParts → ObjectId → NodeId → Type 0) (agree : (t : TimePa
       where
         one : (e : TimeParts × HeldRead) → (off e.1.waits ⊎ Waits (now h) e) → more e.1.waits ⊎ Waits (f ∷ now h) e
         one e (inl a) = inl (wider e.1.waits a)
-        one e (inr w) = elim (stays e.1.waits w.unknown) [
-          | inl a ↦ inl a
-          | inr n ↦ inr (waits-more (now h) f e w n)
-        ]
+        one e (inr w) = elim (stays e.1.waits w.unknown) [ inl a ↦ inl a | inr n ↦ inr (waits-more (now h) f e w n) ]
 
     -- the gap of one read is closed
     abbrev At : TimeParts → (TimeParts × HeldRead → Type 0) → TimeParts × HeldRead → Type 0
@@ -157,13 +127,7 @@ module _ (R : TimeParts → ObjectId → NodeId → Type 0) (agree : (t : TimePa
       number = k.number;
       first = k.first;
       reads = k.reads;
-      served = λ e i. elim (k.served e i) [
-        | inl a ↦ elim a [
-          | inl q ↦ inr (mine e i q)
-          | inr g ↦ inl g
-        ]
-        | inr b ↦ inr b
-      ];
+      served = λ e i. elim (k.served e i) [ inl a ↦ elim a [ inl q ↦ inr (mine e i q) | inr g ↦ inl g ] | inr b ↦ inr b ];
       waiting = k.waiting;
       asks = k.asks;
     }
@@ -180,19 +144,13 @@ module _ (R : TimeParts → ObjectId → NodeId → Type 0) (agree : (t : TimePa
       number = k.number;
       first = k.first;
       reads = every-remove IsRead (is_at (time_cmp t)) h.held k.reads;
-      served = λ e i. elim (k.served e i) [
-        | inl a ↦ inl (inr a)
-        | inr b ↦ still e b
-      ];
+      served = λ e i. elim (k.served e i) [ inl a ↦ inl (inr a) | inr b ↦ still e b ];
       waiting = every-remove (λ (e : TimeParts × HeldRead). off e.1.waits ⊎ Waits (now h) e) (is_at (time_cmp t)) h.held k.waiting;
       asks = λ w i n. k.asks w (waits-remove w (is_at (time_cmp t)) h.held i) n;
     }
       where
         still : (e : TimeParts × HeldRead) → Serves h e.0 e.1.object e.1.from → At t gap e ⊎ Serves (unhold t h) e.0 e.1.object e.1.from
-        still e (inl (w, i)) = elim (gone-or t h.held (e.0, record { from = e.1.from; object = e.1.object; waits = w }) i) [
-          | inl q ↦ inl (inl q)
-          | inr j ↦ inr (inl (w, j))
-        ]
+        still e (inl (w, i)) = elim (gone-or t h.held (e.0, record { from = e.1.from; object = e.1.object; waits = w }) i) [ inl q ↦ inl (inl q) | inr j ↦ inr (inl (w, j)) ]
         still e (inr b) = inr (inr b)
 
     -- a read is held; `before` are the reads that were held just before
@@ -206,10 +164,7 @@ module _ (R : TimeParts → ObjectId → NodeId → Type 0) (agree : (t : TimePa
         x = record { from = from; object = o; waits = w }
 
         still : (e : TimeParts × HeldRead) → Serves h e.0 e.1.object e.1.from → At t gap e ⊎ Serves (hold t x h) e.0 e.1.object e.1.from
-        still e (inl (v, i)) = elim (kept-or t x h.held (e.0, record { from = e.1.from; object = e.1.object; waits = v }) i) [
-          | inl q ↦ inl (inl q)
-          | inr j ↦ inr (inl (v, j))
-        ]
+        still e (inl (v, i)) = elim (kept-or t x h.held (e.0, record { from = e.1.from; object = e.1.object; waits = v }) i) [ inl q ↦ inl (inl q) | inr j ↦ inr (inl (v, j)) ]
         still e (inr b) = inr (inr b)
 
         -- but for the Ask of w
@@ -221,22 +176,10 @@ module _ (R : TimeParts → ObjectId → NodeId → Type 0) (agree : (t : TimePa
           reads = every-put IsRead t x h.held r k.reads;
           served = λ e i. elim (k.served e i) [
             | inl a ↦ inl a
-            | inr b ↦ elim (still e b) [
-              | inl a ↦ inl a
-              | inr c ↦ inr (elim c [
-                | inl d ↦ inl d
-                | inr f ↦ inr (f.0, f.1, more (record { to = e.1.from; message = f.0 }) f.2)
-              ])
-            ]
+            | inr b ↦ elim (still e b) [ inl a ↦ inl a | inr c ↦ inr (elim c [ inl d ↦ inl d | inr f ↦ inr (f.0, f.1, more (record { to = e.1.from; message = f.0 }) f.2) ]) ]
           ];
           waiting = every-put (λ e. off e.1.waits ⊎ Waits (now h) e) t x h.held (inr waits) k.waiting;
-          asks = λ u i n. elim (waits-put u t x h.held i) [
-            | inl q ↦ anew u q n
-            | inr j ↦ elim (k.asks u j n) [
-              | inl a ↦ inl a
-              | inr b ↦ inr (more (ask_of u) b)
-            ]
-          ];
+          asks = λ u i n. elim (waits-put u t x h.held i) [ inl q ↦ anew u q n | inr j ↦ elim (k.asks u j n) [ inl a ↦ inl a | inr b ↦ inr (more (ask_of u) b) ] ];
         }
           where
             anew : (u : StampParts) → same_stamp w u ≡ true → (u.home == h.number) ≡ false → (waits_for u old.held ≡ true) ⊎ Has (ask_of u) outs
@@ -257,10 +200,7 @@ module _ (R : TimeParts → ObjectId → NodeId → Type 0) (agree : (t : TimePa
       number = k.number;
       first = k.first;
       reads = k.reads;
-      served = λ e i. elim (k.served e i) [
-        | inl a ↦ inl (f e a)
-        | inr b ↦ inr b
-      ];
+      served = λ e i. elim (k.served e i) [ inl a ↦ inl (f e a) | inr b ↦ inr b ];
       waiting = k.waiting;
       asks = k.asks;
     }
@@ -350,10 +290,7 @@ module _ (R : TimeParts → ObjectId → NodeId → Type 0) (agree : (t : TimePa
           number = k.number;
           first = k.first;
           reads = every-passing IsRead IsRead fails h.held (λ e q r. r) k.reads;
-          served = λ e i. elim (k.served e i) [
-            | inl a ↦ absurd a
-            | inr b ↦ parted e b
-          ];
+          served = λ e i. elim (k.served e i) [ inl a ↦ absurd a | inr b ↦ parted e b ];
           waiting = every-passing (λ e. (e.1.waits ≡ s) ⊎ Waits (now h) e) (λ e. ⊥ ⊎ Waits (now h) e) fails h.held others k.waiting;
           asks = λ w i n. k.asks w (waits-filter w fails h.held i) n;
         })
@@ -365,10 +302,7 @@ module _ (R : TimeParts → ObjectId → NodeId → Type 0) (agree : (t : TimePa
         fails e = not (same_stamp e.1.waits s)
 
         parted : (e : TimeParts × HeldRead) → Serves h e.0 e.1.object e.1.from → Missing (filter passes h.held) e ⊎ Serves (record h { held = filter fails h.held }) e.0 e.1.object e.1.from
-        parted e (inl (w, i)) = elim (has-split passes h.held (e.0, record { from = e.1.from; object = e.1.object; waits = w }) i) [
-          | inl a ↦ inl (w, a)
-          | inr b ↦ inr (inl (w, b))
-        ]
+        parted e (inl (w, i)) = elim (has-split passes h.held (e.0, record { from = e.1.from; object = e.1.object; waits = w }) i) [ inl a ↦ inl (w, a) | inr b ↦ inr (inl (w, b)) ]
         parted e (inr b) = inr (inr b)
 
         others : (e : TimeParts × HeldRead) → fails e ≡ true → ((e.1.waits ≡ s) ⊎ Waits (now h) e) → ⊥ ⊎ Waits (now h) e
@@ -461,22 +395,12 @@ module _ (R : TimeParts → ObjectId → NodeId → Type 0) (agree : (t : TimePa
     row-keeps h from (message.Write t o v) a k = on-write-keeps h from t o v k
     row-keeps h from (message.Ask s) a k = on-ask-keeps h from s k
     row-keeps h from (message.Tell s c) a k = on-learn-keeps h s c k
-    row-keeps h from (message.Begun s) a k = k
-    row-keeps h from (message.Value t v) a k = k
-    row-keeps h from (message.Stored t) a k = k
-    row-keeps h from (message.LaterRead t e) a k = k
-    row-keeps h from (message.LaterVersion t x) a k = k
-    row-keeps h from (message.Ended t) a k = k
-    row-keeps h from (message.Decided s d) a k = k
+    row-keeps h from _ a k = k
 
     -- a message is taken
     pub on-message-keeps : (h : Hand) (from : NodeId) (m : Message) → (accepts h.number from m ≡ true → Asks from m) → Fine h → Fine (on_message h from m)
     unfolding on_message
-    on-message-keeps h from m a k = go (accepts h.number from m) refl
-      where
-        go : (b : Bool) → accepts h.number from m ≡ b → Fine (if b then row h from m else h)
-        go true e = row-keeps h from m (a e) k
-        go false e = k
+    on-message-keeps h from m a k = (elim (accepts h.number from m) as (λ b. accepts h.number from m ≡ b → Fine (if b then row h from m else h)) [ true ↦ λ e. row-keeps h from m (a e) k | false ↦ λ e. k ]) refl
 
     -- a Read that is taken is held or answered
     pub on-message-serves : (h : Hand) (from : NodeId) (t : TimeParts) (o : ObjectId) → accepts h.number from (message.Read t o) ≡ true → R t o from → Fine h → Serves (on_message h from (message.Read t o)) t o from

@@ -1,13 +1,10 @@
 -- A request is answered in its turn, or held.
-use Rattle.std.proofs.Common.{◌≡◌, ◌⊎◌, ℕ, ◌+◌, ◌==◌, Bool, true, false, ◌||◌, not, List, [], ◌∷◌, refl, sym, subst, Option, Some, None, if◌then◌else◌, inl, inr}
-use Rattle.std.specs.List.{filter}
-use Rattle.repository_laws.proofs.Names.{same_stamp, repository, has-left, has-right, Has, StampParts, TimeParts, Decision, NodeId, Value, Message, ObjectId, Out, RecordState, ReadStep, Answer, Wait, LaterRead, WriteStep, is_settled, read_step, stands_written, write_step, is_commit, known, marks, record_of, HeldRead, Asker, put-in, Hand, note, now, send, accepts, begin_as, close_as, hold, on_begin, on_close, on_message, on_read, on_write, read_as, read_known, release, reread, row, tell_askers, tells, unhold, waits_for, write_as, IsServed}
+use Rattle.repository_laws.proofs.Names.{same_stamp, repository, has-left, has-right, Has, StampParts, TimeParts, Decision, NodeId, Value, Message, ObjectId, Out, RecordState, ReadStep, Answer, Wait, LaterRead, WriteStep, is_settled, read_step, stands_written, write_step, is_commit, known, marks, record_of, HeldRead, Asker, put-in, Hand, note, now, send, accepts, begin_as, close_as, hold, on_begin, on_close, on_message, on_read, on_write, read_as, read_known, release, reread, row, tell_askers, tells, unhold, waits_for, write_as, IsServed, ◌≡◌, ◌⊎◌, ℕ, ◌+◌, ◌==◌, Bool, true, false, ◌||◌, not, List, [], ◌∷◌, refl, sym, subst, Option, Some, None, if◌then◌else◌, inl, inr, filter, IsAnswer, GetsAnswer, IsHeld}
 use Rattle.pseudo_time.specs.declared.decisions.Decision.TheVariants as decision
 use Rattle.message_form.specs.declared.messages.Message.TheVariants as message
 use Rattle.effect_form.specs.declared.effects.Effect.TheVariants as effect
 use Rattle.commit_record.specs.declared.states.RecordState.TheVariants as state
 use Rattle.object_history.specs.declared.steps.WriteStep.TheVariants as write
-use Rattle.repository_laws.specs.Served.{IsAnswer, GetsAnswer, IsHeld}
 
 -- ---- what a repository owes stays owed in its turn
 
@@ -56,8 +53,7 @@ tells-grow (a ∷ as') s c h x i = tells-grow as' s c (send (repository a.reposi
 
 pub tell-askers-grow : (s : StampParts) (c : Bool) (h : Hand) → Grows h (tell_askers s c h)
 unfolding tell_askers
-tell-askers-grow s c h x i =
-    tells-grow (filter (λ a. same_stamp a.stamp s) h.askers) s c (record h { askers = filter (λ a. not (same_stamp a.stamp s)) h.askers }) x i
+tell-askers-grow s c h x i = tells-grow (filter (λ a. same_stamp a.stamp s) h.askers) s c (record h { askers = filter (λ a. not (same_stamp a.stamp s)) h.askers }) x i
 
 -- ---- each kind of request
 
@@ -126,15 +122,7 @@ row-serves h from (message.Commit s) = either-close h (on_close h from s decisio
 row-serves h from (message.Withdraw s) = either-close h (on_close h from s decision.Withdrawn) from s (message.Withdraw s) (λ a is. is) (close-gets h from s decision.Withdrawn)
 row-serves h from (message.Read t o) = read-known-gets h from t o (known (now h) t.stamp)
 row-serves h from (message.Write t o v) = write-as-gets h from t o v (stands_written (marks (now h)) o t v) (is_settled (known (now h) t.stamp)) (write_step (marks (now h)) o t v)
-row-serves h from (message.Begun s) = tt
-row-serves h from (message.Value t v) = tt
-row-serves h from (message.Stored t) = tt
-row-serves h from (message.LaterRead t e) = tt
-row-serves h from (message.LaterVersion t x) = tt
-row-serves h from (message.Ended t) = tt
-row-serves h from (message.Decided s d) = tt
-row-serves h from (message.Ask s) = tt
-row-serves h from (message.Tell s c) = tt
+row-serves h from _ = tt
 
 pub serves : (h : Hand) (from : NodeId) (m : Message) → accepts h.number from m ≡ true → IsServed h (on_message h from m) from m
 unfolding on_message

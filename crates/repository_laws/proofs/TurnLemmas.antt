@@ -1,9 +1,6 @@
 -- What a whole turn keeps, by the steps of its kind.
-use Rattle.std.proofs.Common.{◌≡◌, ◌⊎◌, sym, ◌∙◌, ap, inl, inr}
-use Rattle.repository_laws.proofs.Names.{Every, Has, every-map, TimeParts, NodeId, ObjectId, Message, Asker, HeldRead, Hand, now, hand_turn, Taking, Learning, Hearing, IsServed, Waits}
+use Rattle.repository_laws.proofs.Names.{Every, Has, every-map, TimeParts, NodeId, ObjectId, Message, Asker, HeldRead, Hand, now, hand_turn, Taking, Learning, Hearing, IsServed, Waits, ◌≡◌, ◌⊎◌, sym, ◌∙◌, ap, inl, inr, Input, AreOf, IsOf, KeepsReads, AreOpen, IsKeptOrTold}
 use Rattle.message_form.specs.declared.messages.Message.TheVariants as message
-use Rattle.repository_core.specs.Turns.{Input}
-use Rattle.repository_laws.specs.Waits.{AreOf, IsOf, KeepsReads, AreOpen, IsKeptOrTold}
 use Rattle.repository_laws.proofs.ReadSteps.{Serves, Keeps, Asks, begins, on-learn-keeps, on-message-keeps, on-moment-keeps}
 use Rattle.repository_laws.proofs.AskerSteps.{Askers, on-learn-askers, on-message-askers, on-moment-askers}
 
@@ -19,19 +16,7 @@ module _ (asked : TimeParts → ObjectId × NodeId) where
 
   asks-of : (h : Hand) (from : NodeId) (m : Message) → IsOf asked (Taking from m) → Asks R agree h from m
   asks-of h from (message.Read t o) k = k
-  asks-of h from (message.Begin s timeout) k = tt
-  asks-of h from (message.Commit s) k = tt
-  asks-of h from (message.Withdraw s) k = tt
-  asks-of h from (message.Write t o v) k = tt
-  asks-of h from (message.Ask s) k = tt
-  asks-of h from (message.Tell s c) k = tt
-  asks-of h from (message.Begun s) k = tt
-  asks-of h from (message.Value t v) k = tt
-  asks-of h from (message.Stored t) k = tt
-  asks-of h from (message.LaterRead t e) k = tt
-  asks-of h from (message.LaterVersion t x) k = tt
-  asks-of h from (message.Ended t) k = tt
-  asks-of h from (message.Decided s d) k = tt
+  asks-of h from _ k = tt
 
   turn-keeps : (h : Hand) (i : Input) → IsOf asked i → Keeps R agree h (λ e. ⊥) (λ w. ⊥) h → Keeps R agree h (λ e. ⊥) (λ w. ⊥) (hand_turn h i)
   turn-keeps h (Taking from m) of k = on-message-keeps R agree h h from m (λ e. asks-of h from m of) k
@@ -49,14 +34,8 @@ module _ (asked : TimeParts → ObjectId × NodeId) where
       let k = turn-keeps h i of (begins R agree h are waits) in
       record {
         reads = k.reads;
-        waits = every-map (λ e. ⊥ ⊎ Waits (now (hand_turn h i)) e) (Waits (now (hand_turn h i))) (λ e w. elim w [
-          | inl a ↦ absurd a
-          | inr b ↦ b
-        ]) (hand_turn h i).held k.waiting;
-        served = λ e j. elim (k.served e j) [
-          | inl a ↦ absurd a
-          | inr b ↦ is-served h (hand_turn h i) e.0 e.1.object e.1.from b
-        ];
+        waits = every-map (λ e. ⊥ ⊎ Waits (now (hand_turn h i)) e) (Waits (now (hand_turn h i))) (λ e w. elim w [ inl a ↦ absurd a | inr b ↦ b ]) (hand_turn h i).held k.waiting;
+        served = λ e j. elim (k.served e j) [ inl a ↦ absurd a | inr b ↦ is-served h (hand_turn h i) e.0 e.1.object e.1.from b ];
         asks = k.asks;
       }
 

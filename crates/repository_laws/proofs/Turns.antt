@@ -1,8 +1,5 @@
 -- each function of the hand keeps what holds of a hand
-use Rattle.std.proofs.Common.{◌≡◌, ◌≢◌, ℕ, ◌+◌, ◌≤◌, Bool, true, false, List, [], ◌∷◌, ◌++◌, refl, sym, ◌∙◌, ap, subst, Option, Some, None, ◌==◌, ◌&&◌, ◌||◌, not, nat_le, if◌then◌else◌, inl, inr, arith}
-use Rattle.std.proofs.lemmas.Grind.{common_steps}
-use Rattle.std.proofs.lemmas.Bool.{false≢true}
-use Rattle.repository_laws.proofs.Names.{StampParts, TimeParts, time_cmp, ObjectId, Value, Decision, Effect, Message, NodeId, NodeKind, Post, WasSent, RecordState, Unknown, Decided, ReadStep, Answer, Wait, LaterRead, WriteStep, HeldRead, Asker, read-below, later-read, later-version, and-left, and-right, eq-from, read_step, stands_written, write_step, alive, is_settled, settle_of, every-append, every-map, has-right, Every, Has, same_stamp, Hand, asker_cmp, note, now, send, broker, repository, is_repository, ask_again, asks, expire, expire_all, expire_as, on_moment, waited, due, accepts, ask_as, begin_as, close_as, hold, is_broker_of, learn_as, on_ask, on_begin, on_close, on_learn, on_message, on_read, on_write, read_as, read_known, release, reread, row, tell_askers, tells, unhold, waits_for, write_as, every-filter, every-remove, every-put, Once, FitsLog, HandHolds, RestsOn, HasCome, HeldHolds, IsBacked, IsDecidedAt, IsTidy, IsTimely, PostHolds, ReadSent, WriteSent}
+use Rattle.repository_laws.proofs.Names.{StampParts, TimeParts, time_cmp, ObjectId, Value, Decision, Effect, Message, NodeId, NodeKind, Post, WasSent, RecordState, Unknown, Decided, ReadStep, Answer, Wait, LaterRead, WriteStep, HeldRead, Asker, read-below, later-read, later-version, and-left, and-right, eq-from, read_step, stands_written, write_step, alive, is_settled, settle_of, every-append, every-map, has-right, Every, Has, same_stamp, Hand, asker_cmp, note, now, send, broker, repository, is_repository, ask_again, asks, expire, expire_all, expire_as, on_moment, waited, due, accepts, ask_as, begin_as, close_as, hold, is_broker_of, learn_as, on_ask, on_begin, on_close, on_learn, on_message, on_read, on_write, read_as, read_known, release, reread, row, tell_askers, tells, unhold, waits_for, write_as, every-filter, every-remove, every-put, Once, FitsLog, HandHolds, RestsOn, HasCome, HeldHolds, IsBacked, IsDecidedAt, IsTidy, IsTimely, PostHolds, ReadSent, WriteSent, ◌≡◌, ◌≢◌, ℕ, ◌+◌, ◌≤◌, Bool, true, false, List, [], ◌∷◌, ◌++◌, refl, sym, ◌∙◌, ap, subst, Option, Some, None, ◌==◌, ◌&&◌, ◌||◌, not, nat_le, if◌then◌else◌, inl, inr, arith, common_steps, false≢true, put-stands, again-stands, answer-viewed, answer-on-floor, is_alive, is_broker, filter, remove_entry, insert_entry, is_at, insert_key, WasClosed}
 use Rattle.pseudo_time.specs.declared.decisions.Decision.TheVariants as decision
 use Rattle.effect_form.specs.declared.effects.Effect.TheVariants as effect
 use Rattle.message_form.specs.declared.messages.Message.TheVariants as message
@@ -10,15 +7,7 @@ use Rattle.pseudo_time.specs.declared.nodes.NodeKind.TheVariants as kind
 use Rattle.object_history.specs.declared.steps.WriteStep.TheVariants as write
 use Rattle.repository_laws.proofs.Logs.{unknown-begun, decided-stands, tidy-through, begin-home, decide-settles, on-floor-log, put-logged}
 use Rattle.repository_laws.proofs.Posts.{post-stays}
-use Rattle.object_history.proofs.AnswerLemmas.{put-stands, again-stands, answer-viewed, answer-on-floor}
-use Rattle.object_history.specs.History.{is_alive}
-use Rattle.pseudo_time.specs.Nodes.{is_broker}
 use Rattle.repository_core.specs.Logs.{is_commit, known, marks, record_of}
-use Rattle.std.specs.List.{filter}
-use Rattle.std.specs.Map.{remove_entry}
-use Rattle.std.specs.BTreeMap.{insert_entry, is_at}
-use Rattle.std.specs.BTreeSet.{insert_key}
-use Rattle.repository_laws.specs.Facts.{WasClosed}
 
 pub broker-is : (n : ℕ) (from : NodeId) → is_broker_of n from ≡ true → from ≡ broker n
 broker-is n from h = go from.kind from.number (and-left (is_broker from.kind) _ h) (eq-from from.number n (and-right (is_broker from.kind) _ h))
@@ -96,19 +85,14 @@ module _ (ever : List Post) (homes : ℕ → List Effect) (ticks : List ℕ) (r 
   read-as-ok before h from t o (Answer v true) e alive sent own ok =
       send-ok (note (effect.Stretch o t) h) from (message.Value t v) (o, sent, own, answer-viewed (marks (now h)) o t v true alive e, on-floor-log r (now h) (effect.Stretch o t) t sent.1 (answer-on-floor (marks (now h)) o t v true e))
       (note-ok h (effect.Stretch o t) sent.1 sent ok)
-  read-as-ok before h from t o (Answer v false) e alive sent own ok =
-      send-ok h from (message.Value t v) (o, sent, own, answer-viewed (marks (now h)) o t v false alive e, answer-on-floor (marks (now h)) o t v false e) ok
+  read-as-ok before h from t o (Answer v false) e alive sent own ok = send-ok h from (message.Value t v) (o, sent, own, answer-viewed (marks (now h)) o t v false alive e, answer-on-floor (marks (now h)) o t v false e) ok
   read-as-ok before h from t o (Wait w) e alive sent own ok =
       let x : HeldRead = record { from = from; object = o; waits = w } in
       let k : Fine (hold t x h) = held-ok h (insert_entry time_cmp h.held t x) (every-put (HeldHolds ever r) t x h.held (sent, own) ok.held) ok in
       if-ok ((w.home == h.number) || waits_for w before) (hold t x h) (send (repository w.home) (message.Ask w) (hold t x h)) k
       (send-ok (hold t x h) (repository w.home) (message.Ask w) tt k)
   read-as-ok before h from t o (LaterRead x) e alive sent own ok =
-      send-ok h from (message.LaterRead t x) (
-        o,
-        (read-below (marks (now h)) o t x e).0,
-        inl (sent, once-now (λ k. read_step (marks k) o t ≡ LaterRead x) (now h) e),
-      ) ok
+      send-ok h from (message.LaterRead t x) (o, (read-below (marks (now h)) o t x e).0, inl (sent, once-now (λ k. read_step (marks k) o t ≡ LaterRead x) (now h) e)) ok
 
   unhold-ok : (h : Hand) (t : TimeParts) → Fine h → Fine (unhold t h)
   unhold-ok h t ok = held-ok h (remove_entry (is_at (time_cmp t)) h.held) (every-remove (HeldHolds ever r) (is_at (time_cmp t)) h.held ok.held) ok
@@ -118,11 +102,9 @@ module _ (ever : List Post) (homes : ℕ → List Effect) (ticks : List ℕ) (r 
   read-known-ok h from t o (Some false) e sent own ok = send-ok (unhold t h) from (message.Ended t) (false, e) (unhold-ok h t ok)
   read-known-ok h from t o (Some true) e sent own ok =
       read-as-ok h.held (unhold t h) from t o (read_step (marks (now h)) o t) refl (live (settle_of (marks (now h)) t.stamp) (ap (λ z. is_alive z) e)) sent own (unhold-ok h t ok)
-  read-known-ok h from t o None e sent own ok =
-      read-as-ok h.held (unhold t h) from t o (read_step (marks (now h)) o t) refl (live (settle_of (marks (now h)) t.stamp) (ap (λ z. is_alive z) e)) sent own (unhold-ok h t ok)
+  read-known-ok h from t o None e sent own ok = read-as-ok h.held (unhold t h) from t o (read_step (marks (now h)) o t) refl (live (settle_of (marks (now h)) t.stamp) (ap (λ z. is_alive z) e)) sent own (unhold-ok h t ok)
 
-  on-read-ok : (h : Hand) (from : NodeId) (t : TimeParts) (o : ObjectId) → ReadSent ever r t o → from ≡ broker t.stamp.broker →
-      Fine h → Fine (on_read h from t o)
+  on-read-ok : (h : Hand) (from : NodeId) (t : TimeParts) (o : ObjectId) → ReadSent ever r t o → from ≡ broker t.stamp.broker → Fine h → Fine (on_read h from t o)
   unfolding on_read
   on-read-ok h from t o sent own ok = read-known-ok h from t o (settle_of (marks (now h)) t.stamp) refl sent own ok
 
@@ -140,8 +122,7 @@ module _ (ever : List Post) (homes : ℕ → List Effect) (ticks : List ℕ) (r 
   tells-ok : (xs : List Asker) (s : StampParts) (c : Bool) (h : Hand) (d : Decision) → Has (effect.Decide s d) (now h) → c ≡ is_commit d → Fine h →
       Fine (tells xs s c h) × Has (effect.Decide s d) (now (tells xs s c h))
   tells-ok [] s c h d k e ok = (ok, k)
-  tells-ok (a ∷ xs) s c h d k e ok =
-      tells-ok xs s c (send (repository a.repository) (message.Tell s c) h) d k e (send-ok h (repository a.repository) (message.Tell s c) (d, k, e) ok)
+  tells-ok (a ∷ xs) s c h d k e ok = tells-ok xs s c (send (repository a.repository) (message.Tell s c) h) d k e (send-ok h (repository a.repository) (message.Tell s c) (d, k, e) ok)
 
   tell-askers-ok : (s : StampParts) (c : Bool) (h : Hand) (d : Decision) → Has (effect.Decide s d) (now h) → c ≡ is_commit d → Fine h → Fine (tell_askers s c h)
   unfolding tell_askers
@@ -152,8 +133,7 @@ module _ (ever : List Post) (homes : ℕ → List Effect) (ticks : List ℕ) (r 
   settle-all-ok : (s : StampParts) (c : Bool) (h : Hand) (d : Decision) → Has (effect.Decide s d) (now h) → c ≡ is_commit d → Fine h → Fine (release s (tell_askers s c h))
   settle-all-ok s c h d k e ok = release-ok s (tell_askers s c h) (tell-askers-ok s c h d k e ok)
 
-  begin-as-ok : (h : Hand) (from : NodeId) (s : StampParts) (timeout : ℕ) (u : Option RecordState) → record_of (now h) s ≡ u → s.home ≡ r →
-      Fine h → Fine (begin_as h from s timeout u)
+  begin-as-ok : (h : Hand) (from : NodeId) (s : StampParts) (timeout : ℕ) (u : Option RecordState) → record_of (now h) s ≡ u → s.home ≡ r → Fine h → Fine (begin_as h from s timeout u)
   begin-as-ok h from s timeout None e home ok =
       send-ok (note (effect.Begin s (h.moment + timeout)) h) from (message.Begun s) (h.moment + timeout, inl refl)
       (note-ok h (effect.Begin s (h.moment + timeout)) (home, e) tt ok)
@@ -173,50 +153,34 @@ module _ (ever : List Post) (homes : ℕ → List Effect) (ticks : List ℕ) (r 
       (note-ok h (effect.Decide s d) (home, (t, e, timely t)) closed ok))
   close-as-ok h from s d (Some (Decided g)) e home closed timely ok = send-ok h from (message.Decided s g) (decided-stands r (now h) s g (tidy-now h ok) home e) ok
 
-  on-close-ok : (h : Hand) (from : NodeId) (s : StampParts) (d : Decision) → s.home ≡ r → WasClosed ever ticks r s d → ((t : ℕ) → IsTimely t d) →
-      Fine h → Fine (on_close h from s d)
+  on-close-ok : (h : Hand) (from : NodeId) (s : StampParts) (d : Decision) → s.home ≡ r → WasClosed ever ticks r s d → ((t : ℕ) → IsTimely t d) → Fine h → Fine (on_close h from s d)
   unfolding on_close
   on-close-ok h from s d home closed timely ok = close-as-ok h from s d (record_of (now h) s) refl home closed timely ok
 
   stands-ok : (h : Hand) (from : NodeId) (t : TimeParts) (o : ObjectId) (v : Value) → stands_written (marks (now h)) o t v ≡ true → WriteSent ever r t o v →
       Fine h → Fine (send from (message.Stored t) h)
-  stands-ok h from t o v e sent ok =
-      send-ok h from (message.Stored t) (o, v, sent, put-logged (now h) o t v (put-stands o t v (marks (now h)) (and-right (alive (marks (now h)) t) _ e))) ok
+  stands-ok h from t o v e sent ok = send-ok h from (message.Stored t) (o, v, sent, put-logged (now h) o t v (put-stands o t v (marks (now h)) (and-right (alive (marks (now h)) t) _ e))) ok
 
   write-as-ok : (h : Hand) (from : NodeId) (t : TimeParts) (o : ObjectId) (v : Value) (b : Bool) (u : Option Bool) (w : WriteStep) →
       stands_written (marks (now h)) o t v ≡ b → known (now h) t.stamp ≡ u → write_step (marks (now h)) o t v ≡ w → WriteSent ever r t o v →
       Fine h → Fine (write_as h from t o v b (is_settled u) w)
   write-as-ok h from t o v true u w f g e sent ok = stands-ok h from t o v f sent ok
   write-as-ok h from t o v false (Some c) w f g e sent ok = send-ok h from (message.Ended t) (c, g) ok
-  write-as-ok h from t o v false None write.Again f g e sent ok =
-      send-ok h from (message.Stored t) (o, v, sent, put-logged (now h) o t v (again-stands (marks (now h)) o t v e)) ok
-  write-as-ok h from t o v false None write.Put f g e sent ok =
-      send-ok (note (effect.Put o t v) h) from (message.Stored t) (o, v, sent, inl refl) (note-ok h (effect.Put o t v) (sent.1, (g, e)) sent ok)
+  write-as-ok h from t o v false None write.Again f g e sent ok = send-ok h from (message.Stored t) (o, v, sent, put-logged (now h) o t v (again-stands (marks (now h)) o t v e)) ok
+  write-as-ok h from t o v false None write.Put f g e sent ok = send-ok (note (effect.Put o t v) h) from (message.Stored t) (o, v, sent, inl refl) (note-ok h (effect.Put o t v) (sent.1, (g, e)) sent ok)
   write-as-ok h from t o v false None (write.LaterVersion x) f g e sent ok =
-      send-ok h from (message.LaterVersion t x) (
-        o,
-        v,
-        sent,
-        (later-version (marks (now h)) o t v x e).0,
-        once-now (λ k. write_step (marks k) o t v ≡ write.LaterVersion x) (now h) e,
-      ) ok
+      send-ok h from (message.LaterVersion t x) (o, v, sent, (later-version (marks (now h)) o t v x e).0, once-now (λ k. write_step (marks k) o t v ≡ write.LaterVersion x) (now h) e) ok
   write-as-ok h from t o v false None (write.LaterRead x) f g e sent ok =
-      send-ok h from (message.LaterRead t x) (
-        o,
-        (later-read (marks (now h)) o t v x e).0,
-        inr (v, sent, once-now (λ k. write_step (marks k) o t v ≡ write.LaterRead x) (now h) e),
-      ) ok
+      send-ok h from (message.LaterRead t x) (o, (later-read (marks (now h)) o t v x e).0, inr (v, sent, once-now (λ k. write_step (marks k) o t v ≡ write.LaterRead x) (now h) e)) ok
 
   on-write-ok : (h : Hand) (from : NodeId) (t : TimeParts) (o : ObjectId) (v : Value) → WriteSent ever r t o v → Fine h → Fine (on_write h from t o v)
   unfolding on_write
-  on-write-ok h from t o v sent ok =
-      write-as-ok h from t o v (stands_written (marks (now h)) o t v) (known (now h) t.stamp) (write_step (marks (now h)) o t v) refl refl refl sent ok
+  on-write-ok h from t o v sent ok = write-as-ok h from t o v (stands_written (marks (now h)) o t v) (known (now h) t.stamp) (write_step (marks (now h)) o t v) refl refl refl sent ok
 
   ask-as-ok : (h : Hand) (from : NodeId) (s : StampParts) (u : Option RecordState) → record_of (now h) s ≡ u → s.home ≡ r → Fine h → Fine (ask_as h from s u)
   ask-as-ok h from s None e home ok = ok
   ask-as-ok h from s (Some (Unknown d)) e home ok = askers-ok h (insert_key asker_cmp h.askers (record { repository = from.number; stamp = s })) ok
-  ask-as-ok h from s (Some (Decided d)) e home ok =
-      send-ok h from (message.Tell s (is_commit d)) (d, decided-stands r (now h) s d (tidy-now h ok) home e, refl) ok
+  ask-as-ok h from s (Some (Decided d)) e home ok = send-ok h from (message.Tell s (is_commit d)) (d, decided-stands r (now h) s d (tidy-now h ok) home e, refl) ok
 
   on-ask-ok : (h : Hand) (from : NodeId) (s : StampParts) → s.home ≡ r → Fine h → Fine (on_ask h from s)
   unfolding on_ask
@@ -229,10 +193,8 @@ module _ (ever : List Post) (homes : ℕ → List Effect) (ticks : List ℕ) (r 
       let k = decide-settles (now h) s came.0 (has-right h.added h.past (effect.Decide s came.0) at_base) in
       let clash : Some k.0 ≡ None = sym k.1 ∙ e in cc
 
-  learn-as-ok : (h : Hand) (s : StampParts) (c : Bool) (u : Option Bool) → settle_of (marks (now h)) s ≡ u → homes r ≡ gated → IsDecidedAt homes s c →
-      Fine h → Fine (learn_as h s c u)
-  learn-as-ok h s c None e here came ok =
-      release-ok s (note (effect.Learn s c) h) (note-ok h (effect.Learn s c) (abroad h s c here came e ok, e) came ok)
+  learn-as-ok : (h : Hand) (s : StampParts) (c : Bool) (u : Option Bool) → settle_of (marks (now h)) s ≡ u → homes r ≡ gated → IsDecidedAt homes s c → Fine h → Fine (learn_as h s c u)
+  learn-as-ok h s c None e here came ok = release-ok s (note (effect.Learn s c) h) (note-ok h (effect.Learn s c) (abroad h s c here came e ok, e) came ok)
   learn-as-ok h s c (Some d) e here came ok = ok
 
   pub on-learn-ok : (h : Hand) (s : StampParts) (c : Bool) → homes r ≡ gated → IsDecidedAt homes s c → Fine h → Fine (on_learn h s c)
@@ -270,8 +232,7 @@ module _ (ever : List Post) (homes : ℕ → List Effect) (ticks : List ℕ) (r 
 
   pub hear-ok : (h : Hand) (m : ℕ) → Has m ticks → Fine h → Fine (on_moment h m)
   unfolding on_moment
-  hear-ok h m tick ok =
-      ask-again-ok (expire_all m (due m (now h)) (record h { moment = m })) (expire-all-ok m (due m (now h)) (record h { moment = m }) tick (moment-ok h m ok))
+  hear-ok h m tick ok = ask-again-ok (expire_all m (due m (now h)) (record h { moment = m })) (expire-all-ok m (due m (now h)) (record h { moment = m }) tick (moment-ok h m ok))
 
   here-is : (h : Hand) (n : ℕ) (a : Bool) → Fine h → (a && (n == h.number)) ≡ true → n ≡ r
   here-is h n a ok g = eq-from n h.number (and-right a (n == h.number) g) ∙ ok.number
@@ -300,8 +261,7 @@ module _ (ever : List Post) (homes : ℕ → List Effect) (ticks : List ℕ) (r 
       (subst (λ n. IsBacked homes n.kind n.number (message.Tell s c)) (repository-is s.home from g) came.1) ok
   row-ok h from m g came here ok = absurd (false≢true g)
 
-  take-if : (b : Bool) (h : Hand) (from : NodeId) (m : Message) → accepts h.number from m ≡ b → HasCome ever homes r from m → homes r ≡ gated → Fine h →
-      Fine (if b then row h from m else h)
+  take-if : (b : Bool) (h : Hand) (from : NodeId) (m : Message) → accepts h.number from m ≡ b → HasCome ever homes r from m → homes r ≡ gated → Fine h → Fine (if b then row h from m else h)
   take-if true h from m g came here ok = row-ok h from m g came here ok
   take-if false h from m g came here ok = ok
 

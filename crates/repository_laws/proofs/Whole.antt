@@ -1,10 +1,8 @@
 -- A turn over the whole log, of which the durable one is a beginning.
-use Rattle.std.proofs.Common.{◌≡◌, ℕ, ◌==◌, Bool, true, false, List, [], ◌∷◌, ◌++◌, refl, sym, ap, subst, if◌then◌else◌}
-use Rattle.repository_laws.proofs.Names.{Every, Has, StampParts, NodeId, NodeKind, has-right, Effect, Message, Grew, Post, eq-from, Hand, Mind, on_message, on_learn, on_moment, hand_at, hand_turn, Taking, Learning, Hearing, FitsLog, PostHolds, IsDecidedAt, RestsOn, HandHolds, IsBacked, HasCome}
+use Rattle.repository_laws.proofs.Names.{Every, Has, StampParts, NodeId, NodeKind, has-right, Effect, Message, Grew, Post, eq-from, Hand, Mind, on_message, on_learn, on_moment, hand_at, hand_turn, Taking, Learning, Hearing, FitsLog, PostHolds, IsDecidedAt, RestsOn, HandHolds, IsBacked, HasCome, ◌≡◌, ℕ, ◌==◌, Bool, true, false, List, [], ◌∷◌, ◌++◌, refl, sym, ap, subst, if◌then◌else◌, eqb-yes}
 use Rattle.pseudo_time.specs.declared.nodes.NodeKind.TheVariants.{Repository}
 use Rattle.effect_form.specs.declared.effects.Effect.TheVariants as effect
 use Rattle.message_form.specs.declared.messages.Message.TheVariants as message
-use Rattle.object_history.proofs.ObjectLemmas.{eqb-yes}
 use Rattle.repository_laws.specs.Givens.{IsGiven, Gives}
 use Rattle.repository_laws.proofs.Turns.{take-ok, on-learn-ok, hear-ok}
 
@@ -25,18 +23,7 @@ module _ (ever : List Post) (homes : ℕ → List Effect) (ticks : List ℕ) (r 
       go : (b : Bool) → (s.home == r) ≡ b → Has (effect.Decide s p.0) (if b then log else homes s.home) → Has (effect.Decide s p.0) (homes s.home)
       go true e h = absurd (fits.0 (eq-from s.home r e))
       go false e h = h
-  cause-back below (effect.Put o x v) fits p = p
-  cause-back below (effect.Stretch o x) fits p = p
-  cause-back below (effect.Begin s d) fits p = p
-  cause-back below (effect.Decide s d) fits p = p
-  cause-back below (effect.Run n) fits p = p
-  cause-back below (effect.Act i h t n c b) fits p = p
-  cause-back below (effect.Try i s) fits p = p
-  cause-back below (effect.Got k v) fits p = p
-  cause-back below (effect.Acked k) fits p = p
-  cause-back below (effect.End i e) fits p = p
-  cause-back below (effect.Mark at) fits p = p
-  cause-back below effect.Whole fits p = p
+  cause-back below _ fits p = p
 
   causes-back : (added : List Effect) → Grew (FitsLog r) log added → Every (RestsOn ever there ticks r) added → Grew (λ l f. RestsOn ever homes ticks r f) log added
   causes-back [] g p = tt
