@@ -1,9 +1,5 @@
 -- A turn over any log adds what counts, each with its cause, and says what holds of the tries of its run.
-use Rattle.std.proofs.Common.{◌≡◌, ℕ, zero, suc, ◌≤◌, ◌<◌, max, nat_lt, ◌==◌, Bool, true, false, List, [], ◌∷◌, ◌++◌, refl, sym, ◌∙◌, ap, subst, Option, Some, None, if◌then◌else◌, arith, append-nil, append_assoc}
-use Rattle.std.proofs.lemmas.Bool.{eqb-true}
-use Rattle.std.proofs.lemmas.Grind.{common_steps}
-use Rattle.broker_laws.proofs.Names.{Every, StampParts, NodeId, every-append, same_stamp-self, Effect, Outcome, Message, Out, Grew, Post, Got, Stored, Tree, Task, Act, Book, Try, book, close, enter, find, finish, gain, new_try, on_act, on_front, on_try, tries_of, add_if, counts, fits_try, keep, by_stage, owed, News, news, row, Idle, stage, stage_of, standing, open_try, last_try, Desk, Go, Hear, Input, Take, desk_turn, fuel, hears, note, note_if, reply, say, send, settle_up, state, all_effects, Heard, Reply, Adds, Hears, Ignored, EndFits, FitsBook, IsBelow, IsLater, PostHolds, MayInput}
-use Rattle.pseudo_time.proofs.ListLemmas.{every-map}
+use Rattle.broker_laws.proofs.Names.{Every, StampParts, NodeId, every-append, same_stamp-self, Effect, Outcome, Message, Out, Grew, Post, Got, Stored, Tree, Task, Act, Book, Try, book, close, enter, find, finish, gain, new_try, on_act, on_front, on_try, tries_of, add_if, counts, fits_try, keep, by_stage, owed, News, news, row, Idle, stage, stage_of, standing, open_try, last_try, Desk, Go, Hear, Input, Take, desk_turn, fuel, hears, note, note_if, reply, say, send, settle_up, state, all_effects, Heard, Reply, Adds, Hears, Ignored, EndFits, FitsBook, IsBelow, IsLater, PostHolds, MayInput, ◌≡◌, ℕ, zero, suc, ◌≤◌, ◌<◌, max, nat_lt, ◌==◌, Bool, true, false, List, [], ◌∷◌, ◌++◌, refl, sym, ◌∙◌, ap, subst, Option, Some, None, if◌then◌else◌, arith, append-nil, append_assoc, eqb-true, common_steps, every-map}
 use Rattle.effect_form.specs.declared.effects.Effect.TheVariants as effect
 use Rattle.effect_form.specs.declared.outcomes.Outcome.TheVariants as outcome
 use Rattle.broker_core.specs.Counted.{counted, own_tries}
@@ -112,8 +108,7 @@ module _ (script : List ℕ → Tree) (me run : ℕ) (acts : List Task) where
 
   -- in this run no other run begins
   run-stays : (b : Book) (f : Effect) → b.run ≡ run → FitsBook script me b f → (nat_lt run b.run ≡ false → nat_lt run (enter f b).run ≡ false) → (enter f b).run ≡ b.run
-  run-stays b (effect.Run n) r h later =
-      absurd (not-above run n (subst (λ z. z < n) r h) (later (subst (λ z. nat_lt run z ≡ false) (sym r) (not-below run))))
+  run-stays b (effect.Run n) r h later = absurd (not-above run n (subst (λ z. z < n) r h) (later (subst (λ z. nat_lt run z ≡ false) (sym r) (not-below run))))
   run-stays b (effect.Act i x t k c y) r h later = refl
   run-stays b (effect.Try i s) r h later = refl
   run-stays b (effect.Got k v) r h later = refl
@@ -149,9 +144,7 @@ module _ (script : List ℕ → Tree) (me run : ℕ) (acts : List Task) where
 
   -- the open try is found by its stamp
   pub open-own : (b : Book) (t : Try) → open_try b ≡ Some t → find t.stamp (tries_of b.acts) ≡ Some t
-  open-own b t e =
-      let w = at-open (λ x. x) b.acts [] t e in
-      subst (λ zs. find t.stamp (tries_of zs) ≡ Some t) (append-nil b.acts) (subst (λ xs. find t.stamp xs ≡ Some t) (sym w.1) (rw (same_stamp-self t.stamp) refl))
+  open-own b t e = subst (λ zs. find t.stamp (tries_of zs) ≡ Some t) (append-nil b.acts) (subst (λ xs. find t.stamp xs ≡ Some t) (sym (at-open (λ x. x) b.acts [] t e).1) (rw (same_stamp-self t.stamp) refl))
 
   -- ---- a turn
 
@@ -177,14 +170,11 @@ module _ (script : List ℕ → Tree) (me run : ℕ) (acts : List Task) where
   owed-in-run : (b : Book) (h : Heard) (f : Effect) → owed script me run acts b h ≡ Some f → InRun script me run acts b f
   owed-in-run b h f e = go (nat_lt b.run run) refl e
     where
-      run-alone : (g : Effect) → effect.Run run ≡ g → InRun script me run acts b g
-      run-alone g e = subst (InRun script me run acts b) e tt
-
       some-is : (x y : Effect) → Some x ≡ Some y → x ≡ y
       some-is x y e = cc e
 
       go : (c : Bool) → nat_lt b.run run ≡ c → (if c then Some (effect.Run run) else by_stage me acts h b (stage script run b h)) ≡ Some f → InRun script me run acts b f
-      go true q k = run-alone f (some-is (effect.Run run) f k)
+      go true q k = subst (InRun script me run acts b) (some-is (effect.Run run) f k) tt
       go false q k = in-run b f q
 
   row-in-run : (b : Book) (h : Heard) (n : News) (f : Effect) → row script (stage script run b h) h n ≡ Adds f → InRun script me run acts b f

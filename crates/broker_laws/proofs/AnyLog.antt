@@ -1,7 +1,5 @@
 -- A node that is reopened after a crash never finds another plan: over any log that is ready, it is ready with any beginning of what a turn adds.
-use Rattle.std.proofs.Common.{true, inl, ◌≡◌, ℕ, zero, suc, nat_lt, false, List, [], ◌∷◌, refl, sym, subst, Option, Some, None}
-use Rattle.broker_laws.proofs.Names.{Effect, Message, NodeId, Out, Post, Tree, Task, Book, book, other_plan, unfit_act, first_some, news, row, stage, standing, broker, Desk, Go, Hear, Input, Take, desk_turn, fuel, hears, note, note_if, reply, say, send, settle_up, state, all_effects, Heard, Reply, Adds, Hears, Ignored, IsReady}
-use Rattle.broker_laws.specs.Works.{AlwaysReady}
+use Rattle.broker_laws.proofs.Names.{Effect, Message, NodeId, Out, Post, Tree, Task, Book, book, other_plan, unfit_act, first_some, news, row, stage, standing, broker, Desk, Go, Hear, Input, Take, desk_turn, fuel, hears, note, note_if, reply, say, send, settle_up, state, all_effects, Heard, Reply, Adds, Hears, Ignored, IsReady, true, inl, ◌≡◌, ℕ, zero, suc, nat_lt, false, List, [], ◌∷◌, refl, sym, subst, Option, Some, None, AlwaysReady}
 use Rattle.broker_laws.proofs.Desks.{Good, OwedOk, ReplyOk, news-came, note-state, owed-ok, row-ok, stage-ok}
 
 module _ (script : List ℕ → Tree) (me run : ℕ) (acts : List Task) where

@@ -1,8 +1,5 @@
 -- What each step of a broker's turn keeps, where no Ended comes: an attempt has an answer or an End only after its Begin stands at its home, and all attempts but the last are decided there.
-use Rattle.std.proofs.Common.{◌≡◌, ℕ, ◌+◌, ◌==◌, max, nat_lt, Bool, true, false, ◌&&◌, ◌||◌, length, List, [], ◌∷◌, ◌++◌, refl, sym, ◌∙◌, ap, subst, Option, Some, None, if◌then◌else◌, inl, arith}
-use Rattle.std.proofs.lemmas.Grind.{common_steps}
-use Rattle.std.proofs.lemmas.Bool.{false≢true, true≢false}
-use Rattle.broker_laws.proofs.Names.{Every, Has, every-has, StampParts, TimeParts, same_stamp-is, Effect, Outcome, Answer, Got, Stored, Stop, Asks, Over, Tree, Heard, Task, task_with, Act, Book, Try, close, enter, finish, front, gain, last_try, new_try, on_act, on_front, on_try, open_of, open_front, open_try, if_open, tries_of, is_none, stop_of, Stage, Idle, Refused, Opening, Asking, Finishing, Stopping, Closing, by_stop, is_asking, is_closed, is_settled, no_answer, of_open, stage, stage_of, is_stamp, is_time, older, newest}
+use Rattle.broker_laws.proofs.Names.{Every, Has, every-has, StampParts, TimeParts, same_stamp-is, Effect, Outcome, Answer, Got, Stored, Stop, Over, Tree, Heard, Task, task_with, Act, Book, Try, close, enter, finish, front, gain, last_try, new_try, on_act, on_front, on_try, open_of, open_front, open_try, if_open, tries_of, is_none, stop_of, Stage, Idle, Refused, Opening, Asking, Finishing, Stopping, Closing, by_stop, is_asking, is_closed, is_settled, no_answer, of_open, stage, stage_of, is_stamp, is_time, older, newest, ◌≡◌, ℕ, ◌+◌, ◌==◌, max, nat_lt, Bool, true, false, ◌&&◌, ◌||◌, length, List, [], ◌∷◌, ◌++◌, refl, sym, ◌∙◌, ap, subst, Option, Some, None, if◌then◌else◌, inl, arith, common_steps, false≢true, true≢false}
 use Rattle.value_form.specs.declared.endings.Ending.TheVariants as ending
 use Rattle.effect_form.specs.declared.effects.Effect.TheVariants as effect
 use Rattle.effect_form.specs.declared.outcomes.Outcome.TheVariants as outcome
@@ -31,12 +28,8 @@ module _ (script : List ℕ → Tree) (me run : ℕ) (acts : List Task) (Begun D
 
   on-try-trail : (g : Try → Try) → ((t : Try) → (g t).stamp ≡ t.stamp) → (as' : List Act) → Trail as' → Trail (on_try g as')
   on-try-trail g same [] k = tt
-  on-try-trail g same (a ∷ done) k = (k.0, behind a.tries k.1, λ c e. all a.tries (k.2 c e))
+  on-try-trail g same (a ∷ done) k = (k.0, (elim a.tries as (λ ts. AllDecided (older ts) → AllDecided (older (on_front g ts))) [ [] ↦ λ k. k | t ∷ ts ↦ λ k. k ]) k.1, λ c e. all a.tries (k.2 c e))
     where
-      behind : (ts : List Try) → AllDecided (older ts) → AllDecided (older (on_front g ts))
-      behind [] k = k
-      behind (t ∷ ts) k = k
-
       all : (ts : List Try) → AllDecided ts → AllDecided (on_front g ts)
       all [] k = k
       all (t ∷ ts) k = (subst Decided (sym (same t)) k.0, k.1)
@@ -59,12 +52,8 @@ module _ (script : List ℕ → Tree) (me run : ℕ) (acts : List Task) (Begun D
 
   abbrev pub OutcomeAllowed : Outcome → Book → Type 0
   OutcomeAllowed outcome.Committed b = EndAllowed outcome.Committed b
-  OutcomeAllowed (outcome.Withdrawn l) b = EndAllowed (outcome.Withdrawn l) b
-  OutcomeAllowed (outcome.Failed l k) b = EndAllowed (outcome.Failed l k) b
-  OutcomeAllowed (outcome.LaterRead o e) b = EndAllowed (outcome.LaterRead o e) b
-  OutcomeAllowed (outcome.LaterVersion o x) b = EndAllowed (outcome.LaterVersion o x) b
-  OutcomeAllowed (outcome.Expired d m) b = EndAllowed (outcome.Expired d m) b
   OutcomeAllowed (outcome.Spent c) b = OfNewest b.acts (λ a. AllDecided a.tries)
+  OutcomeAllowed f b = EndAllowed f b
 
   abbrev pub Allowed : Book → Effect → Type 0
   Allowed b (effect.Run n) = (n ≡ run) × (b.acts ≡ [])
@@ -185,21 +174,18 @@ module _ (script : List ℕ → Tree) (me run : ℕ) (acts : List Task) (Begun D
 
   -- what a stage says: beyond Opening the attempt has begun, and no Ended was heard
   abbrev pub StageSound : Stage → Type 0
-  StageSound Idle = Unit {0}
   StageSound (Refused t) = ⊥
-  StageSound (Opening t) = Unit {0}
   StageSound (Asking t q) = Begun t.stamp
   StageSound (Finishing t) = Begun t.stamp
   StageSound (Stopping t (outcome.Withdrawn l)) = Begun t.stamp
   StageSound (Stopping t (outcome.Failed l k)) = Begun t.stamp
   StageSound (Stopping t o) = ⊥
   StageSound (Closing t) = Begun t.stamp × (is_none t.end ≡ false)
+  StageSound _ = Unit {0}
 
   by-stop-sound : (t : Try) (s : Stop) → Begun t.stamp → StageSound (by_stop t s)
-  by-stop-sound t (Asks q) k = k
   by-stop-sound t (Over ending.Finished) k = k
-  by-stop-sound t (Over (ending.Withdrawn l)) k = k
-  by-stop-sound t (Over (ending.Failed l x)) k = k
+  by-stop-sound t _ k = k
 
   pub stamp-heard : (o : Option StampParts) (s : StampParts) → is_stamp o s ≡ true → o ≡ Some s
   stamp-heard None s e = absurd (false≢true e)
@@ -208,22 +194,14 @@ module _ (script : List ℕ → Tree) (me run : ℕ) (acts : List Task) (Begun D
   -- the open attempt is among those of the book
   pub open-among : (as' : List Act) (t : Try) → open_of as' ≡ Some t → Has t (tries_of as') × (t.end ≡ None) × (newest as' ≡ Some t)
   open-among [] t e = absurd (cc e)
-  open-among (a ∷ done) t e = go a.tries e
+  open-among (a ∷ done) t e = (elim a.tries as (λ ts. open_front ts ≡ Some t → Has t (ts ++ tries_of done) × (t.end ≡ None) × (front ts ≡ Some t)) [ [] ↦ λ e. absurd (cc e) | x ∷ ts ↦ λ e. here x ts x.end refl e ]) e
     where
       here : (x : Try) (ts : List Try) (o : Option Outcome) → x.end ≡ o → if_open x o ≡ Some t → Has t ((x ∷ ts) ++ tries_of done) × (t.end ≡ None) × (front (x ∷ ts) ≡ Some t)
       here x ts None q e = let k : x ≡ t = cc e in (inl k, subst (λ (y : Try). y.end ≡ None) k q, e)
       here x ts (Some o) q e = absurd (cc e)
 
-      go : (ts : List Try) → open_front ts ≡ Some t → Has t (ts ++ tries_of done) × (t.end ≡ None) × (front ts ≡ Some t)
-      go [] e = absurd (cc e)
-      go (x ∷ ts) e = here x ts x.end refl e
-
   pub last-among : (as' : List Act) (t : Try) → front (tries_of as') ≡ Some t → Has t (tries_of as')
-  last-among as' t e = go (tries_of as') e
-    where
-      go : (ts : List Try) → front ts ≡ Some t → Has t ts
-      go [] e = absurd (cc e)
-      go (x ∷ ts) e = let k : x ≡ t = cc e in inl k
+  last-among as' t e = (elim (tries_of as') as (λ ts. front ts ≡ Some t → Has t ts) [ [] ↦ λ e. absurd (cc e) | x ∷ ts ↦ λ e. let k : x ≡ t = cc e in inl k ]) e
 
   open-sound : (h : Heard) (b : Book) (t : Try) → BookSound h b → open_try b ≡ Some t → StageSound (of_open script h t)
   open-sound h b t k e = first (is_asking (stop_of script t) && is_time h.ended (record { stamp = t.stamp; step = length t.answers + 1 })) refl
@@ -252,20 +230,12 @@ module _ (script : List ℕ → Tree) (me run : ℕ) (acts : List Task) (Begun D
       go : (n : Bool) → is_none t.end ≡ n → (c : Bool) → StageSound (if n || c then Idle else Closing t)
       go true q c = tt
       go false q true = tt
-      go false q false = (every-has HasStarted (tries_of b.acts) t k.started (last-among b.acts t e) (and-false (no_answer t) q), q)
-        where
-          and-false : (a : Bool) → is_none t.end ≡ false → (a && is_none t.end) ≡ false
-          and-false true q = q
-          and-false false q = refl
+      go false q false = (every-has HasStarted (tries_of b.acts) t k.started (last-among b.acts t e) ((elim (no_answer t) as (λ a. is_none t.end ≡ false → (a && is_none t.end) ≡ false) [ true ↦ λ q. q | false ↦ λ q. refl ]) q), q)
 
   pub stage-sound : (h : Heard) (b : Book) → BookSound h b → StageSound (stage script run b h)
-  stage-sound h b k = in-this (b.run == run)
+  stage-sound h b k = elim (b.run == run) as (λ c. StageSound (if c then stage_of script h (open_try b) (last_try b) else Idle)) [ true ↦ by-open (open_try b) (last_try b) refl refl | false ↦ tt ]
     where
       by-open : (o last : Option Try) → open_try b ≡ o → last_try b ≡ last → StageSound (stage_of script h o last)
       by-open (Some t) last e l = open-sound h b t k e
       by-open None None e l = tt
       by-open None (Some t) e l = last-sound h b t k l
-
-      in-this : (c : Bool) → StageSound (if c then stage_of script h (open_try b) (last_try b) else Idle)
-      in-this true = by-open (open_try b) (last_try b) refl refl
-      in-this false = tt

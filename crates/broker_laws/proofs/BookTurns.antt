@@ -1,10 +1,5 @@
 -- What a whole turn of a broker keeps, where no Ended comes for its current request; and what its messages then say.
-use Rattle.std.proofs.Common.{◌≡◌, ℕ, zero, suc, ◌==◌, nat_lt, Bool, true, false, ◌||◌, length, List, [], ◌∷◌, ◌++◌, refl, sym, ◌∙◌, ap, subst, Option, Some, None, if◌then◌else◌, inl, inr, arith}
-use Rattle.std.proofs.lemmas.Grind.{common_steps}
-use Rattle.std.proofs.lemmas.Bool.{false≢true}
-use Rattle.std.specs.List.{slice_get}
-use Rattle.broker_laws.proofs.Names.{Has, every-append, every-has, StampParts, same_stamp, same_time, same_stamp-is, Decision, NodeId, Effect, Outcome, Message, Out, Post, Got, Stored, Request, ToRead, ToWrite, Asks, Tree, Heard, Reply, Adds, Hears, Ignored, Task, Act, Book, Try, book, enter, last_try, open_try, time_of, tries_of, act_effect, another, is_none, next_clock, shown_to, stop_of, Stage, Idle, Refused, Opening, Asking, Finishing, Stopping, Closing, is_closed, is_finished, is_settled, stage, stage_of, standing, after_act, after_tries, by_clock, by_stage, due, owed, start, try_or_spent, Answered, Begun, Decided, News, Over_there, Refusal, decided_commit, decided_early, ends, news, row, when, is_stamp, Desk, Go, Hear, Take, desk_turn, fuel, hears, note, note_if, reply, say, send, settle_up, state, HasCome, older, newest, repository}
-use Rattle.pseudo_time.proofs.ListLemmas.{has-right}
+use Rattle.broker_laws.proofs.Names.{Has, every-append, every-has, StampParts, same_stamp, same_time, same_stamp-is, Decision, NodeId, Effect, Outcome, Message, Out, Post, Got, Stored, Request, ToRead, ToWrite, Asks, Tree, Heard, Reply, Adds, Hears, Ignored, Task, Act, Book, Try, book, enter, last_try, open_try, time_of, tries_of, act_effect, another, is_none, next_clock, shown_to, stop_of, Stage, Idle, Refused, Opening, Asking, Finishing, Stopping, Closing, is_closed, is_finished, is_settled, stage, stage_of, standing, after_act, after_tries, by_clock, by_stage, due, owed, start, try_or_spent, Answered, Begun, Decided, News, Over_there, Refusal, decided_commit, decided_early, ends, news, row, when, is_stamp, Desk, Go, Hear, Take, desk_turn, fuel, hears, note, note_if, reply, say, send, settle_up, state, HasCome, older, newest, repository, ◌≡◌, ℕ, zero, suc, ◌==◌, nat_lt, Bool, true, false, ◌||◌, length, List, [], ◌∷◌, ◌++◌, refl, sym, ◌∙◌, ap, subst, Option, Some, None, if◌then◌else◌, inl, inr, arith, common_steps, false≢true, slice_get, has-right}
 use Rattle.pseudo_time.specs.declared.decisions.Decision.TheVariants as decision
 use Rattle.effect_form.specs.declared.effects.Effect.TheVariants as effect
 use Rattle.effect_form.specs.declared.outcomes.Outcome.TheVariants as outcome
@@ -62,10 +57,7 @@ module _ (script : List ℕ → Tree) (me run : ℕ) (acts : List Task) (IsBegun
       trail = subst Trailed l k.trail
 
       among : Has t (tries_of b.acts)
-      among = subst (λ as'. Has t (tries_of as')) (sym l) (subst (λ xs. Has t (xs ++ tries_of done)) (sym q) (inl' refl))
-        where
-          inl' : t ≡ t → Has t ((t ∷ ts) ++ tries_of done)
-          inl' r = inl r
+      among = subst (λ as'. Has t (tries_of as')) (sym l) (subst (λ xs. Has t (xs ++ tries_of done)) (sym q) (inl refl))
 
       by-another : (c : Bool) → All a.tries → (if c then Some (try_or_spent me b a) else start (slice_get acts (length (a ∷ done)))) ≡ Some f → Fits b f
       by-another true all e = clock-allowed b a done (next_clock b.clock (shown_to b a)) f l (some-same (try_or_spent me b a) f e) n all spent
@@ -171,15 +163,11 @@ module _ (script : List ℕ → Tree) (me run : ℕ) (acts : List Task) (IsBegun
       when-sound h b (same_stamp t.stamp s) _ (λ e. early-sound h b (is_finished (stop_of script t)) t d n ok (subst IsBegun (sym (same_stamp-is t.stamp s e)) tells.1) (subst IsDecided (sym (same_stamp-is t.stamp s e)) tells.0))
   row-sound h b (Asking t (ToRead o)) (Answered x (Got v)) n ok of k tells = when-sound h b (same_time (time_of t) x) _ (λ e. (n, newest-begun b t ok.0 of))
   row-sound h b (Asking t (ToWrite o v)) (Answered x Stored) n ok of k tells = when-sound h b (same_time (time_of t) x) _ (λ e. (n, newest-begun b t ok.0 of))
-  row-sound h b (Asking t (ToRead o)) (Refusal x e true) n ok of k tells =
-      when-sound h b (same_time (time_of t) x) _ (λ q. (n, end-allowed b t (outcome.LaterRead o e) ok.0 of (λ s. absurd (false≢true s))))
-  row-sound h b (Asking t (ToWrite o v)) (Refusal x e true) n ok of k tells =
-      when-sound h b (same_time (time_of t) x) _ (λ q. (n, end-allowed b t (outcome.LaterRead o e) ok.0 of (λ s. absurd (false≢true s))))
-  row-sound h b (Asking t (ToWrite o v)) (Refusal x e false) n ok of k tells =
-      when-sound h b (same_time (time_of t) x) _ (λ q. (n, end-allowed b t (outcome.LaterVersion o e) ok.0 of (λ s. absurd (false≢true s))))
+  row-sound h b (Asking t (ToRead o)) (Refusal x e true) n ok of k tells = when-sound h b (same_time (time_of t) x) _ (λ q. (n, end-allowed b t (outcome.LaterRead o e) ok.0 of (λ s. absurd (false≢true s))))
+  row-sound h b (Asking t (ToWrite o v)) (Refusal x e true) n ok of k tells = when-sound h b (same_time (time_of t) x) _ (λ q. (n, end-allowed b t (outcome.LaterRead o e) ok.0 of (λ s. absurd (false≢true s))))
+  row-sound h b (Asking t (ToWrite o v)) (Refusal x e false) n ok of k tells = when-sound h b (same_time (time_of t) x) _ (λ q. (n, end-allowed b t (outcome.LaterVersion o e) ok.0 of (λ s. absurd (false≢true s))))
   row-sound h b (Asking t q) (Over_there x) n ok of k tells = when-sound h b (same_time (time_of t) x) _ (λ e. absurd (tells t q ok.0 ok.1 e))
-  row-sound h b (Finishing t) (Decided s d) n ok of k tells =
-      when-sound h b (same_stamp t.stamp s) _ (λ e. commit-sound h b t d n ok.0 of (subst IsDecided (sym (same_stamp-is t.stamp s e)) tells.0))
+  row-sound h b (Finishing t) (Decided s d) n ok of k tells = when-sound h b (same_stamp t.stamp s) _ (λ e. commit-sound h b t d n ok.0 of (subst IsDecided (sym (same_stamp-is t.stamp s e)) tells.0))
   row-sound h b (Refused t) m n ok of k tells = absurd of
   row-sound h b (Closing t) (Decided s d) n ok of k tells = when-sound h b (same_stamp t.stamp s) _ (λ e. closed-sound h b t.stamp (subst IsDecided (sym (same_stamp-is t.stamp s e)) tells.0) k)
   row-sound h b _ _ n ok of k tells = tt
@@ -196,11 +184,7 @@ module _ (script : List ℕ → Tree) (me run : ℕ) (acts : List Task) (IsBegun
   standing_of d = standing (stage script run (At d) d.heard)
 
   say-sound : (d : Desk) → DeskSound d → DeskSound (say script me run acts d)
-  say-sound d k = go (standing_of d)
-    where
-      go : (o : Option Out) → DeskSound (send o d)
-      go None = k
-      go (Some o) = k
+  say-sound d k = elim (standing_of d) as (λ o. DeskSound (send o d)) [ None ↦ k | Some o ↦ k ]
 
   same-run : (m n : ℕ) → (m == n) ≡ true → nat_lt m n ≡ false
   same-run m n e = grind (arith, common_steps)
@@ -248,14 +232,13 @@ module _ (script : List ℕ → Tree) (me run : ℕ) (acts : List Task) (IsBegun
   message-of x o e = ap (λ (z : Out). z.message) (some-same x o e)
 
   stand-sound : (b : Book) (st : Stage) (o : Out) → StageOk script me run acts b st → Of st → standing st ≡ Some o → OutSound b o.message
-  stand-sound b Idle o ok of e = absurd (cc e)
   stand-sound b (Refused t) o ok of e = absurd of
   stand-sound b (Opening t) o ok of e = subst (OutSound b) (message-of (record { to = repository t.stamp.home; message = message.Begin t.stamp t.task.timeout }) o e) tt
   stand-sound b (Asking t (ToRead a)) o ok of e = subst (OutSound b) (message-of (record { to = repository a.repository; message = message.Read (time_of t) a }) o e) of
   stand-sound b (Asking t (ToWrite a v)) o ok of e = subst (OutSound b) (message-of (record { to = repository a.repository; message = message.Write (time_of t) a v }) o e) of
   stand-sound b (Finishing t) o ok of e = subst (OutSound b) (message-of (record { to = repository t.stamp.home; message = message.Commit t.stamp }) o e) of
-  stand-sound b (Stopping t p) o ok of e = absurd (cc e)
   stand-sound b (Closing t) o ok of e = subst (OutSound b) (message-of (record { to = repository t.stamp.home; message = message.Withdraw t.stamp }) o e) (of.0, (t, ok, refl, of.1))
+  stand-sound b _ o ok of e = absurd (cc e)
 
   pub standing-sound : (d : Desk) (o : Out) → DeskSound d → standing_of d ≡ Some o → OutSound (At d) o.message
   standing-sound d o k e = stand-sound (At d) (stage script run (At d) d.heard) o (stage-ok script me run acts (At d) d.heard) (stage-sound script me run acts IsBegun IsDecided d.heard (At d) k) e
@@ -292,25 +275,17 @@ module _ (script : List ℕ → Tree) (me run : ℕ) (acts : List Task) (IsBegun
   say-stands : (d : Desk) (o : Out) → d.outs ≡ [] → Has o (say script me run acts d).outs → standing_of (say script me run acts d) ≡ Some o
   say-stands d o e h = go (standing_of d) refl h
     where
-      nothing : (os : List Out) → os ≡ [] → Has o os → ⊥
-      nothing [] q h = h
-      nothing (x ∷ os) q h = absurd (cc q)
-
       one : (os : List Out) (x : Out) → os ≡ [] → Has o (os ++ x ∷ []) → x ≡ o
       one [] x q (inl i) = i
       one [] x q (inr i) = absurd i
       one (y ∷ os) x q i = absurd (cc q)
 
       go : (s : Option Out) → standing_of d ≡ s → Has o (send s d).outs → standing_of (send s d) ≡ Some o
-      go None q h = absurd (nothing d.outs e h)
+      go None q h = absurd ((elim d.outs as (λ os. os ≡ [] → Has o os → ⊥) [ [] ↦ λ q h. h | x ∷ os ↦ λ q h. absurd (cc q) ]) e h)
       go (Some x) q h = q ∙ ap (λ z. Some z) (one d.outs x e h)
 
   reply-stands : (d : Desk) (r : Reply) (o : Out) → d.outs ≡ [] → Has o (reply script me run acts d r).outs → standing_of (reply script me run acts d r) ≡ Some o
-  reply-stands d Ignored o e h = absurd (none d.outs e h)
-    where
-      none : (os : List Out) → os ≡ [] → Has o os → ⊥
-      none [] q h = h
-      none (x ∷ os) q h = absurd (cc q)
+  reply-stands d Ignored o e h = absurd ((elim d.outs as (λ os. os ≡ [] → Has o os → ⊥) [ [] ↦ λ q h. h | x ∷ os ↦ λ q h. absurd (cc q) ]) e h)
   reply-stands d (Hears g) o e h = say-stands (settle_up script me run acts (fuel acts) (hears g d)) o (settle-outs (fuel acts) (hears g d) ∙ e) h
   reply-stands d (Adds f) o e h = say-stands (settle_up script me run acts (fuel acts) (note f d)) o (settle-outs (fuel acts) (note f d) ∙ e) h
 
@@ -322,11 +297,10 @@ module _ (script : List ℕ → Tree) (me run : ℕ) (acts : List Task) (IsBegun
 
   -- what stands is for a repository
   pub stands-to : (st : Stage) (o : Out) → standing st ≡ Some o → (r : ℕ) × (o.to ≡ repository r)
-  stands-to Idle o e = absurd (cc e)
   stands-to (Refused t) o e = (t.stamp.home, ap (λ (z : Out). z.to) (some-same o _ (sym e)))
   stands-to (Opening t) o e = (t.stamp.home, ap (λ (z : Out). z.to) (some-same o _ (sym e)))
   stands-to (Asking t (ToRead a)) o e = (a.repository, ap (λ (z : Out). z.to) (some-same o _ (sym e)))
   stands-to (Asking t (ToWrite a v)) o e = (a.repository, ap (λ (z : Out). z.to) (some-same o _ (sym e)))
   stands-to (Finishing t) o e = (t.stamp.home, ap (λ (z : Out). z.to) (some-same o _ (sym e)))
-  stands-to (Stopping t p) o e = absurd (cc e)
   stands-to (Closing t) o e = (t.stamp.home, ap (λ (z : Out). z.to) (some-same o _ (sym e)))
+  stands-to _ o e = absurd (cc e)

@@ -1,15 +1,8 @@
 -- where nothing is owed and nothing stands, the broker is done; and which try may be open
-use Rattle.std.proofs.Common.{◌≡◌, ℕ, zero, suc, ◌<◌, ◌≤◌, ◌==◌, nat_lt, Bool, true, false, ◌&&◌, ◌||◌, length, List, [], ◌∷◌, ◌++◌, refl, sym, subst, Option, Some, None, if◌then◌else◌, arith}
-use Rattle.std.proofs.lemmas.Bool.{eq-eqb}
-use Rattle.std.proofs.lemmas.Option.{slice_get_within}
-use Rattle.std.proofs.lemmas.Grind.{common_steps}
-use Rattle.std.specs.List.{slice_get}
-use Rattle.broker_laws.proofs.Names.{Task, Effect, Outcome, Post, Act, Book, Try, book, close, enter, front, on_act, open_of, open_try, time_of, tries_of, another, is_none, outcome_by, stop_of, after_act, after_tries, by_stage, due, owed, start, try_or_spent, Closing, Idle, Opening, Refused, Stage, Stopping, by_stop, is_asking, is_closed, no_answer, of_open, stage, stage_of, standing, is_stamp, is_time, Desk, state, all_effects, Heard, Started, FitsBook, IsTidy, may_start, IsRested, TurnHolds, Asks, Over, Stop, ToRead, ToWrite, Tree}
+use Rattle.broker_laws.proofs.Names.{Task, Effect, Outcome, Post, Act, Book, Try, book, close, enter, front, on_act, open_of, open_try, time_of, tries_of, another, is_none, outcome_by, stop_of, after_act, after_tries, by_stage, due, owed, start, try_or_spent, Closing, Idle, Opening, Refused, Stage, Stopping, by_stop, is_asking, is_closed, no_answer, of_open, stage, stage_of, standing, is_stamp, is_time, Desk, state, all_effects, Heard, Started, FitsBook, IsTidy, may_start, IsRested, TurnHolds, Asks, Over, Stop, ToRead, ToWrite, Tree, ◌≡◌, ℕ, zero, suc, ◌<◌, ◌≤◌, ◌==◌, nat_lt, Bool, true, false, ◌&&◌, ◌||◌, length, List, [], ◌∷◌, ◌++◌, refl, sym, subst, Option, Some, None, if◌then◌else◌, arith, eq-eqb, slice_get_within, common_steps, slice_get, has_outcome, all_over, done}
 use Rattle.effect_form.specs.declared.effects.Effect.TheVariants as effect
 use Rattle.effect_form.specs.declared.outcomes.Outcome.TheVariants as outcome
 use Rattle.value_form.specs.declared.endings.Ending.TheVariants as ending
-use Rattle.broker_core.specs.Fits.{has_outcome}
-use Rattle.broker_core.specs.Owed.{all_over, done}
 use Rattle.broker_laws.proofs.Kept.{kept, started}
 use Rattle.broker_laws.proofs.Moves.{grown}
 use Rattle.broker_laws.proofs.TestLemmas.{and-both}
@@ -60,8 +53,7 @@ module _ (script : List ℕ → Tree) (me : ℕ) where
     by-stop-busy h b t (Asks (ToRead o)) s w = cc
     by-stop-busy h b t (Asks (ToWrite o v)) s w = cc
     by-stop-busy h b t (Over ending.Finished) s w = cc
-    by-stop-busy h b t (Over (ending.Withdrawn l)) s w = cc
-    by-stop-busy h b t (Over (ending.Failed l k)) s w = cc
+    by-stop-busy h b t (Over _) s w = cc
 
     if-busy : (h : Heard) (b : Book) (c : Bool) (x y : Stage) →
         (standing x ≡ None → by_stage me acts h b x ≡ None → ⊥) → (standing y ≡ None → by_stage me acts h b y ≡ None → ⊥) →
@@ -82,11 +74,7 @@ module _ (script : List ℕ → Tree) (me : ℕ) where
     AllDone as' = ((length as' == length acts) ≡ true) × (all_over as' ≡ true)
 
     none-at : (n : ℕ) → start (slice_get acts n) ≡ None → length acts ≤ n
-    none-at n h = past (slice_get acts n) refl h
-      where
-        past : (o : Option Task) → slice_get acts n ≡ o → start o ≡ None → length acts ≤ n
-        past None e k = past-end acts n e
-        past (Some a) e k = cc
+    none-at n h = (elim (slice_get acts n) as (λ o. slice_get acts n ≡ o → start o ≡ None → length acts ≤ n) [ None ↦ λ e k. past-end acts n e | Some a ↦ λ e k. cc ]) refl h
 
     closed-ended : (o : Option Outcome) (x y : Bool) → (if is_none o then false else x) ≡ true → y ≡ false → (if is_none o then false else (if y then false else true)) ≡ true
     closed-ended None x y h k = h
@@ -132,8 +120,7 @@ module _ (script : List ℕ → Tree) (me : ℕ) where
         by_stage me acts h b (stage_of script h (open_of as') (front (tries_of as'))) ≡ None →
         due me acts h b as' ≡ None → AllDone as'
     unfolding AllDone
-    due-done h b [] l st bo s w d =
-        let n : length acts ≤ 0 = none-at 0 d in (eq-eqb 0 (length acts) (omega arith), refl)
+    due-done h b [] l st bo s w d = let n : length acts ≤ 0 = none-at 0 d in (eq-eqb 0 (length acts) (omega arith), refl)
     due-done h b (a ∷ rest) l st bo s w d = by a.spent refl d
       where
         closed : (t : Try) (us : List Try) → a.tries ≡ t ∷ us → is_closed h t ≡ true
@@ -148,10 +135,7 @@ module _ (script : List ℕ → Tree) (me : ℕ) where
         by None e d =
             let r = over-tries h b a rest a.tries e refl closed d in
             (length-same a rest st r.0, and-both r.1 bo)
-        by (Some c) e d = (
-          length-same a rest st (none-at (length (a ∷ rest)) d),
-          and-both (subst (λ o. (if is_none o then outcome_by a.task.tries a.tries else true) ≡ true) (sym e) refl) bo,
-        )
+        by (Some c) e d = (length-same a rest st (none-at (length (a ∷ rest)) d), and-both (subst (λ o. (if is_none o then outcome_by a.task.tries a.tries else true) ≡ true) (sym e) refl) bo)
 
     -- a stage at which nothing stands and nothing is owed
     due-of : (h : Heard) (b : Book) (st : Stage) → standing st ≡ None → by_stage me acts h b st ≡ None → due me acts h b b.acts ≡ None
@@ -162,8 +146,7 @@ module _ (script : List ℕ → Tree) (me : ℕ) where
     same-run : (m n : ℕ) → nat_lt m n ≡ false → nat_lt n m ≡ false → m ≡ n
     same-run m n h k = grind (arith, common_steps)
 
-    ran : (b : Book) (h : Heard) → owed script me run acts b h ≡ None →
-        (nat_lt b.run run ≡ false) × (by_stage me acts h b (stage script run b h) ≡ None)
+    ran : (b : Book) (h : Heard) → owed script me run acts b h ≡ None → (nat_lt b.run run ≡ false) × (by_stage me acts h b (stage script run b h) ≡ None)
     ran b h w = by (nat_lt b.run run) refl w
       where
         by : (c : Bool) → nat_lt b.run run ≡ c → (if c then Some (effect.Run run) else by_stage me acts h b (stage script run b h)) ≡ None →

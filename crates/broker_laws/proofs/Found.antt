@@ -1,12 +1,8 @@
 -- one request for each pseudotime; tries found by their stamp; tries and acts of the run and the plan
-use Rattle.std.proofs.Common.{◌≡◌, ℕ, zero, suc, Bool, true, false, length, List, [], ◌∷◌, ◌++◌, refl, sym, ◌∙◌, ap, subst, Option, Some, None, if◌then◌else◌, arith}
-use Rattle.std.specs.List.{slice_get}
-use Rattle.broker_laws.proofs.Names.{StampParts, TimeParts, Task, Effect, Outcome, Act, Book, Try, book, close, enter, find, gain, on_act, on_front, on_try, tries_of, Started, IsReady, IsTidy, Distinct, IsAskOf, same_stamp-is, same_stamp-self, Every, same_stamp, Answer, Asks, Got, Request, Stored, Tree, stop}
+use Rattle.broker_laws.proofs.Names.{StampParts, TimeParts, Task, Effect, Outcome, Act, Book, Try, book, close, enter, find, gain, on_act, on_front, on_try, tries_of, Started, IsReady, IsTidy, Distinct, IsAskOf, same_stamp-is, same_stamp-self, Every, same_stamp, Answer, Asks, Got, Request, Stored, Tree, stop, ◌≡◌, ℕ, zero, suc, Bool, true, false, length, List, [], ◌∷◌, ◌++◌, refl, sym, ◌∙◌, ap, subst, Option, Some, None, if◌then◌else◌, arith, slice_get, OfAct, IsPlanned}
 use Rattle.effect_form.specs.declared.effects.Effect.TheVariants as effect
 use Rattle.effect_form.specs.declared.outcomes.Outcome.TheVariants as outcome
 use Rattle.broker_laws.proofs.Kept.{started}
-use Rattle.broker_core.specs.Sound.{OfAct}
-use Rattle.broker_laws.specs.Posts.{IsPlanned}
 
 unfoldable tail : List Answer → List Answer
 tail [] = []
@@ -37,8 +33,7 @@ module _ (script : List ℕ → Tree) (me : ℕ) where
       let e : Some h.0 ≡ Some k.0 = sym h.1 ∙ k.1 in
       let t : h.0 ≡ k.0 = cc in
       let n : length h.2.0 ≡ length k.2.0 = (let a = h.2.3 in let b = k.2.3 in omega arith) in
-      let p : h.2.0 ≡ k.2.0 = same-front h.2.0 h.2.1 k.2.0 k.2.1 (sym h.2.2 ∙ ap (λ (y : Try). y.answers) t ∙ k.2.2) n in
-      asks-same h.0 k.0 h.2.0 k.2.0 q r t p h.2.4 k.2.4
+      asks-same h.0 k.0 h.2.0 k.2.0 q r t (same-front h.2.0 h.2.1 k.2.0 k.2.1 (sym h.2.2 ∙ ap (λ (y : Try). y.answers) t ∙ k.2.2) n) h.2.4 k.2.4
 
 -- a try in the book is found by its stamp, and what holds of each holds of the found one
 here : (c : Bool) (x : Try) (s : StampParts) (r : Option Try) (t : Try) (P : Try → Type 0) → same_stamp x.stamp s ≡ c →
@@ -48,19 +43,15 @@ here false x s r t P e h p k = k h
 
 pub each-found : (P : Try → Type 0) (s : StampParts) (ts : List Try) (t : Try) → find s ts ≡ Some t → Every P ts → P t × (t.stamp ≡ s)
 each-found P s [] t h all = cc
-each-found P s (x ∷ ts) t h all =
-    here (same_stamp x.stamp s) x s (find s ts) t P refl h all.0 (λ k. each-found P s ts t k all.1)
+each-found P s (x ∷ ts) t h all = here (same_stamp x.stamp s) x s (find s ts) t P refl h all.0 (λ k. each-found P s ts t k all.1)
 
-past : (c : Bool) (x t : Try) (ts : List Try) → same_stamp x.stamp t.stamp ≡ c → find x.stamp ts ≡ None → find t.stamp ts ≡ Some t →
-    (if c then Some x else find t.stamp ts) ≡ Some t
-past true x t ts e n h =
-    let no : None ≡ Some t = sym (subst (λ s. find s ts ≡ None) (same_stamp-is x.stamp t.stamp e) n) ∙ h in cc
+past : (c : Bool) (x t : Try) (ts : List Try) → same_stamp x.stamp t.stamp ≡ c → find x.stamp ts ≡ None → find t.stamp ts ≡ Some t → (if c then Some x else find t.stamp ts) ≡ Some t
+past true x t ts e n h = let no : None ≡ Some t = sym (subst (λ s. find s ts ≡ None) (same_stamp-is x.stamp t.stamp e) n) ∙ h in cc
 past false x t ts e n h = h
 
 pub found-in : (ts : List Try) (i : ℕ) (t : Try) → Distinct ts → slice_get ts i ≡ Some t → find t.stamp ts ≡ Some t
 found-in [] i t d h = cc
-found-in (x ∷ ts) zero t d h =
-    let e : x ≡ t = cc in subst (λ (y : Try). find y.stamp (x ∷ ts) ≡ Some y) e (rw (same_stamp-self x.stamp) refl)
+found-in (x ∷ ts) zero t d h = let e : x ≡ t = cc in subst (λ (y : Try). find y.stamp (x ∷ ts) ≡ Some y) e (rw (same_stamp-self x.stamp) refl)
 found-in (x ∷ ts) (suc i) t d h = past (same_stamp x.stamp t.stamp) x t ts refl d.0 (found-in ts i t d.1 h)
 
 -- acts and tries of the run, of any log
@@ -72,11 +63,7 @@ kin-on run g k [] h = h
 kin-on run g k (a ∷ as') h = (k a h.0, h.1)
 
 kin-front : (run : ℕ) (g : Try → Try) (a : Act) → ((t : Try) → (g t).task ≡ t.task) → ((t : Try) → (g t).run ≡ t.run) → Kin run a → Kin run (record a { tries = on_front g a.tries })
-kin-front run g a s r k = (k.0, fronts a.tries k.1)
-  where
-    fronts : (ts : List Try) → Every (λ t. (t.task ≡ a.task) × (t.run ≡ a.run)) ts → Every (λ t. (t.task ≡ a.task) × (t.run ≡ a.run)) (on_front g ts)
-    fronts [] h = h
-    fronts (t ∷ ts) h = ((s t ∙ h.0.0, r t ∙ h.0.1), h.1)
+kin-front run g a s r k = (k.0, (elim a.tries as (λ ts. Every (λ t. (t.task ≡ a.task) × (t.run ≡ a.run)) ts → Every (λ t. (t.task ≡ a.task) × (t.run ≡ a.run)) (on_front g ts)) [ [] ↦ λ h. h | t ∷ ts ↦ λ h. ((s t ∙ h.0.0, r t ∙ h.0.1), h.1) ]) k.1)
 
 kin-try : (run : ℕ) (g : Try → Try) (as' : List Act) → ((t : Try) → (g t).task ≡ t.task) → ((t : Try) → (g t).run ≡ t.run) → Every (Kin run) as' → Every (Kin run) (on_try g as')
 kin-try run g as' s r h = kin-on run (λ a. record a { tries = on_front g a.tries }) (λ a k. kin-front run g a s r k) as' h
@@ -102,8 +89,7 @@ kin (f ∷ log) = kin-enter f (book log) (kin log)
 planned-one : (acts : List Task) (run n : ℕ) (a : Act) (ts more : List Try) → a.run ≡ run → slice_get acts n ≡ Some a.task →
     Every (λ t. (t.task ≡ a.task) × (t.run ≡ a.run)) ts → Every (IsPlanned run acts) more → Every (IsPlanned run acts) (ts ++ more)
 planned-one acts run n a [] more r s h all = all
-planned-one acts run n a (t ∷ ts) more r s h all =
-    ((h.0.1 ∙ r, (n, s ∙ ap (λ x. Some x) (sym h.0.0))), planned-one acts run n a ts more r s h.1 all)
+planned-one acts run n a (t ∷ ts) more r s h all = ((h.0.1 ∙ r, (n, s ∙ ap (λ x. Some x) (sym h.0.0))), planned-one acts run n a ts more r s h.1 all)
 
 planned-all : (acts : List Task) (run : ℕ) (as' : List Act) → Started acts as' → Every (Kin run) as' → Every (IsPlanned run acts) (tries_of as')
 planned-all acts run [] s k = tt

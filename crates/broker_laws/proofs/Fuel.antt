@@ -1,9 +1,5 @@
 -- the fuel suffices: after a turn that settles up nothing is owed, over any log
-use Rattle.std.proofs.Common.{◌≡◌, ℕ, zero, suc, ◌+◌, ◌*◌, ◌-◌, ◌<◌, ◌≤◌, max, nat_lt, Bool, true, false, ◌&&◌, length, List, [], ◌∷◌, refl, sym, ap, subst, Option, Some, None, if◌then◌else◌, arith}
-use Rattle.std.proofs.lemmas.Option.{slice_get_within}
-use Rattle.std.proofs.lemmas.Grind.{common_steps}
-use Rattle.std.specs.List.{slice_get}
-use Rattle.broker_laws.proofs.Names.{Task, Effect, Outcome, Act, Book, Try, book, enter, finish, on_front, on_try, open_front, open_of, calls_again, is_none, next_clock, shown_to, after_act, after_tries, by_clock, by_stage, due, owed, start, Stage, Stopping, is_closed, stage, Desk, fuel, note, note_if, settle_up, state, Heard, IsRested, Tree}
+use Rattle.broker_laws.proofs.Names.{Task, Effect, Outcome, Act, Book, Try, book, enter, finish, on_front, on_try, open_front, open_of, calls_again, is_none, next_clock, shown_to, after_act, after_tries, by_clock, by_stage, due, owed, start, Stage, Stopping, is_closed, stage, Desk, fuel, note, note_if, settle_up, state, Heard, IsRested, Tree, ◌≡◌, ℕ, zero, suc, ◌+◌, ◌*◌, ◌-◌, ◌<◌, ◌≤◌, max, nat_lt, Bool, true, false, ◌&&◌, length, List, [], ◌∷◌, refl, sym, ap, subst, Option, Some, None, if◌then◌else◌, arith, slice_get_within, common_steps, slice_get}
 use Rattle.effect_form.specs.declared.effects.Effect.TheVariants as effect
 use Rattle.effect_form.specs.declared.outcomes.Outcome.TheVariants as outcome
 use Rattle.broker_laws.proofs.Desks.{OwedOk, StageOk, Stops, note-state, owed-ok, stage-ok}
@@ -21,11 +17,7 @@ head_left (a ∷ done) = left_of a.spent a.tries
 
 most : (spent : Option ℕ) (ts : List Try) → left_of spent ts ≤ 2
 most (Some c) [] = omega arith
-most (Some c) (t ∷ ts) = one (is_none t.end)
-  where
-    one : (c : Bool) → (if c then 1 else 0) ≤ 2
-    one true = omega arith
-    one false = omega arith
+most (Some c) (t ∷ ts) = elim (is_none t.end) as (λ c. (if c then 1 else 0) ≤ 2) [ true ↦ omega arith | false ↦ omega arith ]
 most None [] = omega arith
 most None (t ∷ ts) = one (is_none t.end) (calls_again t.end)
   where
@@ -54,25 +46,18 @@ module _ (script : List ℕ → Tree) (me run : ℕ) (acts : List Task) where
   if-falls b false x y h k = k refl
 
   end-none : (x : Try) (ts : List Try) (t : Try) → open_front (x ∷ ts) ≡ Some t → x.end ≡ None
-  end-none x ts t e = at x.end e
-    where
-      at : (o : Option Outcome) → Rattle.broker_core.specs.Book.if_open x o ≡ Some t → o ≡ None
-      at None e = refl
-      at (Some o) e = cc
+  end-none x ts t e = (elim x.end as (λ o. Rattle.broker_core.specs.Book.if_open x o ≡ Some t → o ≡ None) [ None ↦ λ e. refl | Some o ↦ λ e. cc ]) e
 
-  stop-left : (o : Outcome) → calls_again (Some o) ≡ false → (spent : Option ℕ) (ts : List Try) (t : Try) → open_front ts ≡ Some t →
-      left_of spent (on_front (finish o) ts) < left_of spent ts
+  stop-left : (o : Outcome) → calls_again (Some o) ≡ false → (spent : Option ℕ) (ts : List Try) (t : Try) → open_front ts ≡ Some t → left_of spent (on_front (finish o) ts) < left_of spent ts
   stop-left o c spent [] t e = cc
   stop-left o c (Some x) (y ∷ ts) t e = subst (λ z. 0 < (if is_none z then 1 else 0)) (sym (end-none y ts t e)) (omega arith)
   stop-left o c None (y ∷ ts) t e =
       subst (λ z. (if calls_again (Some o) then 2 else 0) < (if is_none z then 1 else (if calls_again z then 2 else 0))) (sym (end-none y ts t e))
       (rw c (omega arith))
 
-  stop-falls : (o : Outcome) → calls_again (Some o) ≡ false → (as' : List Act) (t : Try) → open_of as' ≡ Some t →
-      left_on (on_try (finish o) as') < left_on as'
+  stop-falls : (o : Outcome) → calls_again (Some o) ≡ false → (as' : List Act) (t : Try) → open_of as' ≡ Some t → left_on (on_try (finish o) as') < left_on as'
   stop-falls o c [] t e = cc
-  stop-falls o c (a ∷ done) t e =
-      let h : left_of a.spent (on_front (finish o) a.tries) < left_of a.spent a.tries = stop-left o c a.spent a.tries t e in omega (arith, h)
+  stop-falls o c (a ∷ done) t e = let h : left_of a.spent (on_front (finish o) a.tries) < left_of a.spent a.tries = stop-left o c a.spent a.tries t e in omega (arith, h)
 
   stops-fall : (b : Book) (t : Try) (o : Outcome) → open_of b.acts ≡ Some t → Stops script me run acts t o → Falls b (Some (effect.End t.task.index o))
   stops-fall b t outcome.Committed e h = absurd h
@@ -82,8 +67,7 @@ module _ (script : List ℕ → Tree) (me run : ℕ) (acts : List Task) where
 
   start-falls : (b : Book) (o : Option Task) → slice_get acts (length b.acts) ≡ o → Falls b (start o)
   start-falls b None e = tt
-  start-falls b (Some a) e =
-      let k : length b.acts < length acts = slice_get_within acts (length b.acts) a e in (refl, omega (arith, k))
+  start-falls b (Some a) e = let k : length b.acts < length acts = slice_get_within acts (length b.acts) a e in (refl, omega (arith, k))
 
   start-at : (b : Book) (as' : List Act) → b.acts ≡ as' → Falls b (start (slice_get acts (length as')))
   start-at b as' l = subst (λ xs. Falls b (start (slice_get acts (length xs)))) l (start-falls b (slice_get acts (length b.acts)) refl)
@@ -105,19 +89,13 @@ module _ (script : List ℕ → Tree) (me run : ℕ) (acts : List Task) where
         (rw two (spent-less ts none)))),
   )
     where
-      spent-less : (ts : List Try) → left_of (Some 0) ts ≡ 0 →
-          3 * (length acts - length (a ∷ done)) + left_of (Some (max b.clock (shown_to b a))) ts < 3 * (length acts - length (a ∷ done)) + 2
+      spent-less : (ts : List Try) → left_of (Some 0) ts ≡ 0 → 3 * (length acts - length (a ∷ done)) + left_of (Some (max b.clock (shown_to b a))) ts < 3 * (length acts - length (a ∷ done)) + 2
       spent-less [] z = omega arith
       spent-less (t ∷ ts) z = rw z (omega arith)
 
-  closed-two : (o : Option Outcome) (x y : Bool) → (if is_none o then false else x) ≡ true → (calls_again o && y) ≡ true →
-      ◌≡◌ {A = ℕ} (if is_none o then 1 else (if calls_again o then 2 else 0)) 2
+  closed-two : (o : Option Outcome) (x y : Bool) → (if is_none o then false else x) ≡ true → (calls_again o && y) ≡ true → ◌≡◌ {A = ℕ} (if is_none o then 1 else (if calls_again o then 2 else 0)) 2
   closed-two None x y h k = cc
-  closed-two (Some o) x y h k = two (calls_again (Some o)) k
-    where
-      two : (c : Bool) → (c && y) ≡ true → ◌≡◌ {A = ℕ} (if c then 2 else 0) 2
-      two true k = refl
-      two false k = cc
+  closed-two (Some o) x y h k = (elim (calls_again (Some o)) as (λ c. (c && y) ≡ true → ◌≡◌ {A = ℕ} (if c then 2 else 0) 2) [ true ↦ λ k. refl | false ↦ λ k. cc ]) k
 
   closed-none : (o : Option Outcome) (x : Bool) → (if is_none o then false else x) ≡ true → ◌≡◌ {A = ℕ} (if is_none o then 1 else 0) 0
   closed-none None x h = cc
@@ -133,8 +111,7 @@ module _ (script : List ℕ → Tree) (me run : ℕ) (acts : List Task) where
       (λ k. start-at b (a ∷ done) l))
       (λ c. tt)
 
-  after-act-falls : (h : Heard) (b : Book) (a : Act) (done : List Act) (o : Option ℕ) → b.acts ≡ a ∷ done → a.spent ≡ o →
-      Falls b (after_act me acts h b a o (length (a ∷ done)))
+  after-act-falls : (h : Heard) (b : Book) (a : Act) (done : List Act) (o : Option ℕ) → b.acts ≡ a ∷ done → a.spent ≡ o → Falls b (after_act me acts h b a o (length (a ∷ done)))
   after-act-falls h b a done None l e = after-tries-falls h b a done a.tries l e refl
   after-act-falls h b a done (Some c) l e = start-at b (a ∷ done) l
 
@@ -155,8 +132,7 @@ module _ (script : List ℕ → Tree) (me run : ℕ) (acts : List Task) where
   less-of b None e h = tt
   less-of b (Some f) e h =
       let e' : nat_lt (enter f b).run run ≡ false = subst (λ r. nat_lt r run ≡ false) (sym h.0) e in
-      let k = h.1 in
-      rw e' (rw e k)
+      rw e' (rw e h.1)
 
   falls : (b : Book) (h : Heard) → Less b (owed script me run acts b h)
   falls b h = cases (nat_lt b.run run) refl
@@ -168,13 +144,9 @@ module _ (script : List ℕ → Tree) (me run : ℕ) (acts : List Task) where
   left-most : (b : Book) → left b ≤ fuel acts
   left-most b = cases (nat_lt b.run run)
     where
-      heads : (as' : List Act) → left_on as' ≤ 3 * length acts + 3
-      heads [] = omega arith
-      heads (a ∷ done) = let k = most a.spent a.tries in omega (arith, k)
-
       cases : (c : Bool) → (if c then 3 * length acts + 1 else left_on b.acts) ≤ 3 * length acts + 3
       cases true = omega arith
-      cases false = heads b.acts
+      cases false = elim b.acts as (λ as'. left_on as' ≤ 3 * length acts + 3) [ [] ↦ omega arith | a ∷ done ↦ (let k = most a.spent a.tries in omega (arith, k)) ]
 
   -- nothing is owed
   none-left : (b : Book) (o : Option Effect) → Less b o → left b ≤ 0 → o ≡ None

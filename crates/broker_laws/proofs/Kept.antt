@@ -1,13 +1,8 @@
 -- on a tidy, ready log the part that counts is the whole log, and its acts are the plan's
-use Rattle.std.proofs.Common.{◌≡◌, ℕ, ◌+◌, ◌<◌, ◌==◌, nat_lt, Bool, true, false, ◌&&◌, length, List, [], ◌∷◌, refl, sym, ◌∙◌, ap, subst, Option, Some, None, if◌then◌else◌}
-use Rattle.std.proofs.lemmas.Bool.{eq-eqb, lt-ltb}
-use Rattle.std.specs.List.{slice_get}
-use Rattle.broker_laws.proofs.Names.{StampParts, Task, Effect, Outcome, Act, Book, Try, book, close, enter, on_act, open_try, add_if, another, calls_again, counts, first_some, fits, fits_end, fits_spent, fits_try, is_none, keep, may_follow, other_plan, rests, stop_of, unfit_act, task_with, is_task, Started, EndFits, FitsBook, IsTidy, MayTry, Tree}
+use Rattle.broker_laws.proofs.Names.{StampParts, Task, Effect, Outcome, Act, Book, Try, book, close, enter, on_act, open_try, add_if, another, calls_again, counts, first_some, fits, fits_end, fits_spent, fits_try, is_none, keep, may_follow, other_plan, rests, stop_of, unfit_act, task_with, is_task, Started, EndFits, FitsBook, IsTidy, MayTry, Tree, ◌≡◌, ℕ, ◌+◌, ◌<◌, ◌==◌, nat_lt, Bool, true, false, ◌&&◌, length, List, [], ◌∷◌, refl, sym, ◌∙◌, ap, subst, Option, Some, None, if◌then◌else◌, eq-eqb, lt-ltb, slice_get, fits_acked, fits_got, fits_outcome, reads_now, writes_now, OpenAt}
 use Rattle.effect_form.specs.declared.effects.Effect.TheVariants as effect
 use Rattle.effect_form.specs.declared.outcomes.Outcome.TheVariants as outcome
-use Rattle.broker_core.specs.Fits.{fits_acked, fits_got, fits_outcome, reads_now, writes_now}
 use Rattle.broker_laws.proofs.TestLemmas.{and-both, and-left, is_task-is}
-use Rattle.broker_laws.specs.Fits.{OpenAt}
 
 pub if-true : (e f : Bool) → f ≡ true → (if e then f else true) ≡ true
 if-true true f h = h
@@ -33,8 +28,7 @@ module _ (script : List ℕ → Tree) (me : ℕ) where
   follows most [] h = refl
   follows most (t ∷ ts) h = and-left (calls_again t.end) (nat_lt (length (t ∷ ts)) most) h
 
-  try-fits : (i : ℕ) (s : StampParts) (clock : ℕ) (acts : List Act) →
-      MayTry i acts (λ a. (s.broker ≡ me) × (s.home ≡ a.task.home) × (clock < s.clock)) → fits_try me i s clock acts ≡ true
+  try-fits : (i : ℕ) (s : StampParts) (clock : ℕ) (acts : List Act) → MayTry i acts (λ a. (s.broker ≡ me) × (s.home ≡ a.task.home) × (clock < s.clock)) → fits_try me i s clock acts ≡ true
   try-fits i s clock [] h = absurd h
   try-fits i s clock (a ∷ acts) h =
       and-both (eq-eqb i a.task.index h.0) (and-both (eq-eqb s.broker me h.3.0) (and-both (eq-eqb s.home a.task.home h.3.1)
@@ -63,10 +57,8 @@ module _ (script : List ℕ → Tree) (me : ℕ) where
     fit-counts b (effect.Run n) h p = lt-ltb b.run n h
     fit-counts b (effect.Act i x t k c y) h p = act-fits (b.run == run) (fits script me acts b (effect.Act i x t k c y)) i p
     fit-counts b (effect.Try i s) h p = if-true (b.run == run) _ (try-fits i s b.clock b.acts h)
-    fit-counts b (effect.Got k v) h p =
-        if-true (b.run == run) _ (got-fits k (open_try b) h.0 h.1 h.2.0 (subst (λ s. reads_now s ≡ true) (sym h.2.1.1) refl))
-    fit-counts b (effect.Acked k) h p =
-        if-true (b.run == run) _ (acked-fits k (open_try b) h.0 h.1 h.2.0 (subst (λ s. writes_now s ≡ true) (sym h.2.1.2) refl))
+    fit-counts b (effect.Got k v) h p = if-true (b.run == run) _ (got-fits k (open_try b) h.0 h.1 h.2.0 (subst (λ s. reads_now s ≡ true) (sym h.2.1.1) refl))
+    fit-counts b (effect.Acked k) h p = if-true (b.run == run) _ (acked-fits k (open_try b) h.0 h.1 h.2.0 (subst (λ s. writes_now s ≡ true) (sym h.2.1.2) refl))
     fit-counts b (effect.End i o) h p = if-true (b.run == run) _ (outcome-fits i o b h)
     fit-counts b f h p = absurd h
 
@@ -98,8 +90,7 @@ module _ (script : List ℕ → Tree) (me : ℕ) where
     run-close outcome.Committed b = refl
     run-close o b = refl
 
-    started-enter : (b : Book) (f : Effect) → (b.run ≡ run → Started acts b.acts) → unfit_act script me run acts b f ≡ None →
-        (enter f b).run ≡ run → Started acts (enter f b).acts
+    started-enter : (b : Book) (f : Effect) → (b.run ≡ run → Started acts b.acts) → unfit_act script me run acts b f ≡ None → (enter f b).run ≡ run → Started acts (enter f b).acts
     started-enter b (effect.Run n) h u r = tt
     started-enter b (effect.Act i x t k c y) h u r = (
       h r,
@@ -113,11 +104,9 @@ module _ (script : List ℕ → Tree) (me : ℕ) where
     started-enter b (effect.End i o) h u r = started-close o b (h (sym (run-close o b) ∙ r))
     started-enter b f h u r = h r
 
-    pub started : (log : List Effect) → IsTidy script me log → other_plan script me run acts log ≡ None →
-        (book log).run ≡ run → Started acts (book log).acts
+    pub started : (log : List Effect) → IsTidy script me log → other_plan script me run acts log ≡ None → (book log).run ≡ run → Started acts (book log).acts
     unfolding book other_plan
     started [] t p r = tt
     started (f ∷ log) t p r =
         let n = first-none (other_plan script me run acts log) (unfit_act script me run acts (book (keep script me run acts log)) f) p in
-        let k : keep script me run acts log ≡ log = kept log t.0 n.0 in
-        started-enter (book log) f (λ e. started log t.0 n.0 e) (subst (λ x. unfit_act script me run acts (book x) f ≡ None) k n.1) r
+        started-enter (book log) f (λ e. started log t.0 n.0 e) (subst (λ x. unfit_act script me run acts (book x) f ≡ None) (kept log t.0 n.0) n.1) r

@@ -1,8 +1,5 @@
 -- of every log: the last try of the run, where it has no End, is the open try of the last act
-use Rattle.std.proofs.Common.{◌≡◌, ℕ, ◌==◌, nat_lt, Bool, true, false, length, List, [], ◌∷◌, ◌++◌, refl, sym, ◌∙◌, subst, Option, Some, None, if◌then◌else◌}
-use Rattle.std.proofs.lemmas.Bool.{eq-eqb}
-use Rattle.std.specs.List.{slice_get}
-use Rattle.broker_laws.proofs.Names.{StampParts, Task, Effect, Outcome, Act, Book, Try, book, close, enter, finish, front, gain, if_open, last_try, on_act, on_front, on_try, open_front, open_of, open_try, tries_of, add_if, calls_again, counts, fits, fits_end, fits_spent, fits_try, has_ended, is_none, keep, may_follow, rests, task_with, is_task, Answer, Got, Stored, Tree}
+use Rattle.broker_laws.proofs.Names.{StampParts, Task, Effect, Outcome, Act, Book, Try, book, close, enter, finish, front, gain, if_open, last_try, on_act, on_front, on_try, open_front, open_of, open_try, tries_of, add_if, calls_again, counts, fits, fits_end, fits_spent, fits_try, has_ended, is_none, keep, may_follow, rests, task_with, is_task, Answer, Got, Stored, Tree, ◌≡◌, ℕ, ◌==◌, nat_lt, Bool, true, false, length, List, [], ◌∷◌, ◌++◌, refl, sym, ◌∙◌, subst, Option, Some, None, if◌then◌else◌, eq-eqb, slice_get}
 use Rattle.effect_form.specs.declared.effects.Effect.TheVariants as effect
 use Rattle.effect_form.specs.declared.outcomes.Outcome.TheVariants as outcome
 use Rattle.broker_laws.proofs.TestLemmas.{and-left, and-right}
@@ -32,8 +29,7 @@ unfolding ended_or_none
 calm-act a [] n r h = (refl, λ c e. let k : None ≡ Some c = sym n ∙ e in cc)
 calm-act a (x ∷ done) n r h = (calm-front x.spent x.tries (tries_of done) r h.1 h.0, λ c e. let k : None ≡ Some c = sym n ∙ e in cc)
 
-calm-try : (i me : ℕ) (s : StampParts) (clock : ℕ) (t : Act → Try) (as' : List Act) → fits_try me i s clock as' ≡ true → Calm as' →
-    Calm (on_act (λ a. record a { tries = t a ∷ a.tries }) as')
+calm-try : (i me : ℕ) (s : StampParts) (clock : ℕ) (t : Act → Try) (as' : List Act) → fits_try me i s clock as' ≡ true → Calm as' → Calm (on_act (λ a. record a { tries = t a ∷ a.tries }) as')
 calm-try i me s clock t [] f h = h
 calm-try i me s clock t (a ∷ done) f h = (
   h.0,
@@ -44,23 +40,15 @@ calm-try i me s clock t (a ∷ done) f h = (
 
 calm-gain : (x : Answer) (as' : List Act) → Calm as' → Calm (on_try (gain x) as')
 calm-gain x [] h = h
-calm-gain x (a ∷ done) h = (h.0, λ c e. same a.tries (h.1 c e))
-  where
-    same : (ts : List Try) → may_follow ts ≡ true → may_follow (on_front (gain x) ts) ≡ true
-    same [] k = k
-    same (t ∷ ts) k = k
+calm-gain x (a ∷ done) h = (h.0, λ c e. (elim a.tries as (λ ts. may_follow ts ≡ true → may_follow (on_front (gain x) ts) ≡ true) [ [] ↦ λ k. k | t ∷ ts ↦ λ k. k ]) (h.1 c e))
 
 calm-end : (o : Outcome) (i : ℕ) (as' : List Act) → fits_end i (open_of as') ≡ true → Calm as' → Calm (on_try (finish o) as')
 calm-end o i [] f h = h
-calm-end o i (a ∷ done) f h = (h.0, λ c e. absurd (clash a.tries f (h.1 c e)))
+calm-end o i (a ∷ done) f h = (h.0, λ c e. absurd ((elim a.tries as (λ ts. fits_end i (open_front ts) ≡ true → may_follow ts ≡ true → ⊥) [ [] ↦ λ f k. cc | t ∷ ts ↦ λ f k. none-open t t.end f k ]) f (h.1 c e)))
   where
     none-open : (t : Try) (x : Option Outcome) → fits_end i (if_open t x) ≡ true → calls_again x ≡ true → ⊥
     none-open t None f k = cc
     none-open t (Some p) f k = cc
-
-    clash : (ts : List Try) → fits_end i (open_front ts) ≡ true → may_follow ts ≡ true → ⊥
-    clash [] f k = cc
-    clash (t ∷ ts) f k = none-open t t.end f k
 
 calm-spent : (n i : ℕ) (as' : List Act) → fits_spent i as' ≡ true → Calm as' → Calm (on_act (λ a. record a { spent = Some n }) as')
 calm-spent n i [] f h = h

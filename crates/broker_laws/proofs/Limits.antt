@@ -1,12 +1,8 @@
 -- an act has no more tries than it may have, and it is spent only where no greater clock is left
-use Rattle.std.proofs.Common.{◌≡◌, ℕ, ◌+◌, ◌<◌, ◌≤◌, max, nat_lt, Bool, true, false, length, List, [], ◌∷◌, ◌++◌, refl, sym, subst, Some, None, if◌then◌else◌, arith}
-use Rattle.std.proofs.lemmas.Bool.{ltb-true}
-use Rattle.std.proofs.lemmas.Grind.{common_steps}
-use Rattle.broker_laws.proofs.Names.{Effect, Outcome, Act, Book, Try, book, close, enter, gain, on_act, on_front, on_try, another, calls_again, next_clock, shown_to, EndFits, FitsBook, IsTidy, MayTry, Every, Got, Stored, Tree}
+use Rattle.broker_laws.proofs.Names.{Effect, Outcome, Act, Book, Try, book, close, enter, gain, on_act, on_front, on_try, another, calls_again, next_clock, shown_to, EndFits, FitsBook, IsTidy, MayTry, Every, Got, Stored, Tree, ◌≡◌, ℕ, ◌+◌, ◌<◌, ◌≤◌, max, nat_lt, Bool, true, false, length, List, [], ◌∷◌, ◌++◌, refl, sym, subst, Some, None, if◌then◌else◌, arith, ltb-true, common_steps, IsWithinLimits}
 use Rattle.effect_form.specs.declared.effects.Effect.TheVariants as effect
 use Rattle.effect_form.specs.declared.outcomes.Outcome.TheVariants as outcome
 use Rattle.broker_laws.proofs.TestLemmas.{and-right}
-use Rattle.broker_laws.specs.Posts.{IsWithinLimits}
 
 no-clock : (last shown c : ℕ) → next_clock last shown ≡ None → c ≡ max last shown → 1099511627775 ≤ c
 no-clock last shown c h e = by (nat_lt (max last shown) 1099511627775) refl h
@@ -26,8 +22,7 @@ front-length g (t ∷ ts) = refl
 module _ (script : List ℕ → Tree) (me : ℕ) where
   within-on : (g : Try → Try) (acts past : List Act) → Every IsWithinLimits (acts ++ past) → Every IsWithinLimits (on_try g acts ++ past)
   within-on g [] past h = h
-  within-on g (a ∷ acts) past h =
-      ((h.0.0, subst (λ n. n ≤ max 1 a.task.tries) (sym (front-length g a.tries)) h.0.1), h.1)
+  within-on g (a ∷ acts) past h = ((h.0.0, subst (λ n. n ≤ max 1 a.task.tries) (sym (front-length g a.tries)) h.0.1), h.1)
 
   within-try : (i : ℕ) (t : Act → Try) (acts past : List Act) (P : Act → Type 0) → MayTry i acts P → Every IsWithinLimits (acts ++ past) →
       Every IsWithinLimits (on_act (λ a. record a { tries = t a ∷ a.tries }) acts ++ past)
@@ -37,8 +32,7 @@ module _ (script : List ℕ → Tree) (me : ℕ) where
   within-spent : (i c : ℕ) (b : Book) (acts past : List Act) → MayTry i acts (λ a. (next_clock b.clock (shown_to b a) ≡ None) × (c ≡ max b.clock (shown_to b a))) →
       Every IsWithinLimits (acts ++ past) → Every IsWithinLimits (on_act (λ a. record a { spent = Some c }) acts ++ past)
   within-spent i c b [] past f h = h
-  within-spent i c b (a ∷ acts) past f h =
-      ((λ n e. let k : c ≡ n = cc in subst (λ z. 1099511627775 ≤ z) k (no-clock b.clock (shown_to b a) c f.3.0 f.3.1), h.0.1), h.1)
+  within-spent i c b (a ∷ acts) past f h = ((λ n e. let k : c ≡ n = cc in subst (λ z. 1099511627775 ≤ z) k (no-clock b.clock (shown_to b a) c f.3.0 f.3.1), h.0.1), h.1)
 
   within-close : (i : ℕ) (o : Outcome) (b : Book) → EndFits script i o b → Every IsWithinLimits (b.acts ++ b.past) → Every IsWithinLimits ((close o b).acts ++ (close o b).past)
   within-close i (outcome.Spent c) b f h = within-spent i c b b.acts b.past f h

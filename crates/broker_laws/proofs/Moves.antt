@@ -1,12 +1,10 @@
 -- how one fitting effect moves the tries of the book, and what it leaves true
-use Rattle.std.proofs.Common.{◌≡◌, ℕ, ◌<◌, ◌≤◌, max, Bool, true, false, List, [], ◌∷◌, ◌++◌, refl, sym, ◌∙◌, ap, subst, Option, Some, None, ◌⊎◌, inl, inr, arith, append_assoc, append-nil, if◌then◌else◌}
-use Rattle.broker_laws.proofs.Names.{StampParts, TimeParts, Effect, Outcome, Message, NodeId, Act, Book, Try, book, close, enter, find, finish, gain, if_open, new_try, on_front, on_try, open_front, open_of, tries, tries_of, stop_of, EndFits, EndsBy, FitsBook, FitsLog, IsAsked, IsTidy, MayTry, Clocks, Distinct, IsAskOf, IsBelow, IsKnown, IsLater, MayCommit, PostHolds, same_stamp-is, Every, same_stamp, Answer, Asks, Got, Over, Request, Stored, Tree, stop, Grew}
+use Rattle.broker_laws.proofs.Names.{StampParts, TimeParts, Effect, Outcome, Message, NodeId, Act, Book, Try, book, close, enter, find, finish, gain, if_open, new_try, on_front, on_try, open_front, open_of, tries, tries_of, stop_of, EndFits, EndsBy, FitsBook, FitsLog, IsAsked, IsTidy, MayTry, Clocks, Distinct, IsAskOf, IsBelow, IsKnown, IsLater, MayCommit, PostHolds, same_stamp-is, Every, same_stamp, Answer, Asks, Got, Over, Request, Stored, Tree, stop, Grew, ◌≡◌, ℕ, ◌<◌, ◌≤◌, max, Bool, true, false, List, [], ◌∷◌, ◌++◌, refl, sym, ◌∙◌, ap, subst, Option, Some, None, ◌⊎◌, inl, inr, arith, append_assoc, append-nil, if◌then◌else◌, IsCommitOf}
 use Rattle.effect_form.specs.declared.effects.Effect.TheVariants as effect
 use Rattle.effect_form.specs.declared.outcomes.Outcome.TheVariants as outcome
 use Rattle.message_form.specs.declared.messages.Message.TheVariants as message
 use Rattle.value_form.specs.declared.endings.Ending.TheVariants as ending
 use Rattle.broker_laws.proofs.TestLemmas.{same_stamp-below}
-use Rattle.broker_laws.specs.Posts.{IsCommitOf}
 
 -- the open try is the first of all
 
@@ -14,8 +12,7 @@ pub if-open : (x : Try) (o : Option Outcome) (t : Try) → if_open x o ≡ Some 
 if-open x None t e = (cc, refl)
 if-open x (Some o) t e = cc
 
-at-front : (g : Try → Try) (ts more : List Try) (t : Try) → open_front ts ≡ Some t →
-    (rest : List Try) × (ts ++ more ≡ t ∷ rest) × (on_front g ts ++ more ≡ g t ∷ rest) × (t.end ≡ None)
+at-front : (g : Try → Try) (ts more : List Try) (t : Try) → open_front ts ≡ Some t → (rest : List Try) × (ts ++ more ≡ t ∷ rest) × (on_front g ts ++ more ≡ g t ∷ rest) × (t.end ≡ None)
 at-front g [] more t e = cc
 at-front g (x ∷ ts) more t e =
     let h = if-open x x.end t e in
@@ -29,9 +26,7 @@ at-open g (a ∷ acts) past t e = at-front g a.tries (tries_of (acts ++ past)) t
 -- a new stamp is in no try
 pub is-new : (me clock : ℕ) (s : StampParts) (ts : List Try) → clock < s.clock → Every (IsBelow me clock) ts → find s ts ≡ None
 is-new me clock s [] h all = refl
-is-new me clock s (t ∷ ts) h all =
-    let n : same_stamp t.stamp s ≡ false = same_stamp-below t.stamp s (let b = all.0.0 in omega arith) in
-    rw n (is-new me clock s ts h all.1)
+is-new me clock s (t ∷ ts) h all = rw (same_stamp-below t.stamp s (let b = all.0.0 in omega arith)) (is-new me clock s ts h all.1)
 
 -- one effect: the tries stay; there is a new one; the first gains an answer; the first gets its End
 pub data Moved (script : List ℕ → Tree) : List Try → List Try → Type 0 where
@@ -41,15 +36,13 @@ pub data Moved (script : List ℕ → Tree) : List Try → List Try → Type 0 w
   ended : {ts : List Try} (t : Try) (o : Outcome) → t.end ≡ None → EndsBy script t o → Moved script (t ∷ ts) (finish o t ∷ ts)
 
 module _ (script : List ℕ → Tree) (me : ℕ) where
-  moved-gain : (a : Answer) (acts past : List Act) (t : Try) → open_of acts ≡ Some t → IsAsked script t a →
-      Moved script (tries_of (acts ++ past)) (tries_of (on_try (gain a) acts ++ past))
+  moved-gain : (a : Answer) (acts past : List Act) (t : Try) → open_of acts ≡ Some t → IsAsked script t a → Moved script (tries_of (acts ++ past)) (tries_of (on_try (gain a) acts ++ past))
   moved-gain a acts past t e h =
       let w = at-open (gain a) acts past t e in
       subst (λ xs. Moved script xs (tries_of (on_try (gain a) acts ++ past))) (sym w.1)
       (subst (λ ys. Moved script (t ∷ w.0) ys) (sym w.2) (gained t a w.3 h))
 
-  moved-end : (o : Outcome) (acts past : List Act) (t : Try) → open_of acts ≡ Some t → EndsBy script t o →
-      Moved script (tries_of (acts ++ past)) (tries_of (on_try (finish o) acts ++ past))
+  moved-end : (o : Outcome) (acts past : List Act) (t : Try) → open_of acts ≡ Some t → EndsBy script t o → Moved script (tries_of (acts ++ past)) (tries_of (on_try (finish o) acts ++ past))
   moved-end o acts past t e h =
       let w = at-open (finish o) acts past t e in
       subst (λ xs. Moved script xs (tries_of (on_try (finish o) acts ++ past))) (sym w.1)
@@ -140,10 +133,8 @@ module _ (script : List ℕ → Tree) (me : ℕ) where
   found g true n r t h = let e : n ≡ t = cc in inr (e, ap (λ x. Some (g x)) e)
   found g false n r t h = inl h
 
-  other : (c : Bool) (s : StampParts) (n : Try) (ts : List Try) (t : Try) → same_stamp n.stamp s ≡ c → find n.stamp ts ≡ None → find s ts ≡ Some t →
-      (if c then Some n else find s ts) ≡ Some t
-  other true s n ts t e h k =
-      let no : None ≡ Some t = sym (subst (λ z. find z ts ≡ None) (same_stamp-is n.stamp s e) h) ∙ k in cc
+  other : (c : Bool) (s : StampParts) (n : Try) (ts : List Try) (t : Try) → same_stamp n.stamp s ≡ c → find n.stamp ts ≡ None → find s ts ≡ Some t → (if c then Some n else find s ts) ≡ Some t
+  other true s n ts t e h k = let no : None ≡ Some t = sym (subst (λ z. find z ts ≡ None) (same_stamp-is n.stamp s e) h) ∙ k in cc
   other false s n ts t e h k = k
 
   pub later-refl : (t : Try) → IsLater t t
@@ -159,15 +150,9 @@ module _ (script : List ℕ → Tree) (me : ℕ) where
   later same s t h = (t, h, later-refl t)
   later {ts} (tried n new a e) s t h = (t, other (same_stamp n.stamp s) s n ts t refl new h, later-refl t)
   later (gained {ts} n a e w) s t h =
-      elim (found (gain a) (same_stamp n.stamp s) n (find s ts) t h) [
-        | inl k ↦ (t, k, later-refl t)
-        | inr k ↦ (gain a t, k.1, later-gain t a)
-      ]
+      elim (found (gain a) (same_stamp n.stamp s) n (find s ts) t h) [ inl k ↦ (t, k, later-refl t) | inr k ↦ (gain a t, k.1, later-gain t a) ]
   later (ended {ts} n o e w) s t h =
-      elim (found (finish o) (same_stamp n.stamp s) n (find s ts) t h) [
-        | inl k ↦ (t, k, later-refl t)
-        | inr k ↦ (finish o t, k.1, later-end t o (subst (λ (y : Try). y.end ≡ None) k.0 e))
-      ]
+      elim (found (finish o) (same_stamp n.stamp s) n (find s ts) t h) [ inl k ↦ (t, k, later-refl t) | inr k ↦ (finish o t, k.1, later-end t o (subst (λ (y : Try). y.end ≡ None) k.0 e)) ]
 
   pub later-kept : (log : List Effect) (f : Effect) (s : StampParts) (t : Try) → IsTidy script me log → FitsBook script me (book log) f →
       find s (tries (book log)) ≡ Some t → (u : Try) × (find s (tries (book (f ∷ log))) ≡ Some u) × IsLater t u
@@ -181,49 +166,35 @@ module _ (script : List ℕ → Tree) (me : ℕ) where
       let w = l.2.answers in (
         l.0,
         l.1,
-        (
-          h.2.0,
-          h.2.1 ++ w.0,
-          w.1 ∙ ap (λ xs. xs ++ w.0) h.2.2 ∙ append_assoc h.2.0 h.2.1 w.0,
-          h.2.3,
-          subst (λ y. stop (script y.script) h.2.0 ≡ Asks q) (sym l.2.task) h.2.4,
-        ),
+        (h.2.0, h.2.1 ++ w.0, w.1 ∙ ap (λ xs. xs ++ w.0) h.2.2 ∙ append_assoc h.2.0 h.2.1 w.0, h.2.3, subst (λ y. stop (script y.script) h.2.0 ≡ Asks q) (sym l.2.task) h.2.4),
       )
 
   known-kept : {ts us : List Try} → Moved script ts us → (s : StampParts) (to : NodeId) → IsKnown me ts s to → IsKnown me us s to
   known-kept m s to h = let l = later m s h.2.0 h.2.1 in (h.0, h.1, (l.0, l.1))
 
   finished : (n t : Try) (q : Request) → n ≡ t → stop_of script n ≡ Asks q → stop_of script t ≡ Over ending.Finished → ⊥
-  finished n t q e a o =
-      let b : Asks q ≡ Over ending.Finished = sym a ∙ ap (λ y. stop_of script y) e ∙ o in cc
+  finished n t q e a o = let b : Asks q ≡ Over ending.Finished = sym a ∙ ap (λ y. stop_of script y) e ∙ o in cc
 
   gain-finished : (n t : Try) (a : Answer) → n ≡ t → IsAsked script n a → stop_of script t ≡ Over ending.Finished → ⊥
   gain-finished n t (Got v) e h o = finished n t _ e h.1 o
   gain-finished n t Stored e h o = finished n t _ e h.2 o
 
   quiet : (n t : Try) (o : Outcome) → n ≡ t → EndsBy script n o → stop_of script t ≡ Over ending.Finished → MayCommit (Some o)
-  quiet n t outcome.Committed e h f = tt
   quiet n t (outcome.Withdrawn l) e h f = let b : Over (ending.Withdrawn l) ≡ Over ending.Finished = sym h ∙ ap (λ y. stop_of script y) e ∙ f in cc
   quiet n t (outcome.Failed l k) e h f = let b : Over (ending.Failed l k) ≡ Over ending.Finished = sym h ∙ ap (λ y. stop_of script y) e ∙ f in cc
   quiet n t (outcome.LaterRead o x) e (inl h) f = finished n t _ e h f
   quiet n t (outcome.LaterRead o x) e (inr h) f = finished n t _ e h.1 f
   quiet n t (outcome.LaterVersion o x) e h f = finished n t _ e h.1 f
-  quiet n t (outcome.Expired d m) e h f = tt
   quiet n t (outcome.Spent c) e h f = h
+  quiet n t _ e h f = tt
 
   commit-kept : {ts us : List Try} → Moved script ts us → (s : StampParts) → IsCommitOf script ts s → IsCommitOf script us s
   commit-kept same s h = h
   commit-kept {ts} (tried n new a e) s h = (h.0, other (same_stamp n.stamp s) s n ts h.0 refl new h.1, h.2, h.3)
   commit-kept (gained {ts} n a e w) s h =
-      elim (found (gain a) (same_stamp n.stamp s) n (find s ts) h.0 h.1) [
-        | inl k ↦ (h.0, k, h.2, h.3)
-        | inr k ↦ absurd (gain-finished n h.0 a k.0 w h.3)
-      ]
+      elim (found (gain a) (same_stamp n.stamp s) n (find s ts) h.0 h.1) [ inl k ↦ (h.0, k, h.2, h.3) | inr k ↦ absurd (gain-finished n h.0 a k.0 w h.3) ]
   commit-kept (ended {ts} n o e w) s h =
-      elim (found (finish o) (same_stamp n.stamp s) n (find s ts) h.0 h.1) [
-        | inl k ↦ (h.0, k, h.2, h.3)
-        | inr k ↦ (finish o h.0, k.1, quiet n h.0 o k.0 w h.3, h.3)
-      ]
+      elim (found (finish o) (same_stamp n.stamp s) n (find s ts) h.0 h.1) [ inl k ↦ (h.0, k, h.2, h.3) | inr k ↦ (finish o h.0, k.1, quiet n h.0 o k.0 w h.3, h.3) ]
 
   pub post-moved : {ts us : List Try} → Moved script ts us → (to : NodeId) (m : Message) → PostHolds script me ts to m → PostHolds script me us to m
   post-moved w to (message.Begin s d) h = known-kept w s to h
@@ -247,8 +218,7 @@ module _ (script : List ℕ → Tree) (me : ℕ) where
   pub post-grown : (log added : List Effect) (to : NodeId) (m : Message) → IsTidy script me log → Grew (FitsLog script me) log added →
       PostHolds script me (tries (book log)) to m → PostHolds script me (tries (book (added ++ log))) to m
   post-grown log [] to m t g h = h
-  post-grown log (f ∷ added) to m t g h =
-      post-kept (added ++ log) f to m (grown log added t g.0) g.1 (post-grown log added to m t g.0 h)
+  post-grown log (f ∷ added) to m t g h = post-kept (added ++ log) f to m (grown log added t g.0) g.1 (post-grown log added to m t g.0 h)
 
   -- a crash keeps the older part
   pub cut : (log late added : List Effect) → Grew (FitsLog script me) log (late ++ added) → Grew (FitsLog script me) log added

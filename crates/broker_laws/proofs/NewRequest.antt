@@ -1,6 +1,5 @@
 -- after a message that is heard, the request that stands is a new one
-use Rattle.std.proofs.Common.{◌≡◌, ℕ, zero, suc, ◌+◌, ◌<◌, ◌≤◌, ◌==◌, Bool, true, false, ◌&&◌, ◌||◌, length, List, [], ◌∷◌, ◌++◌, refl, sym, ◌∙◌, ap, subst, Option, Some, None, ◌⊎◌, inl, inr, if◌then◌else◌, arith, length-append}
-use Rattle.broker_laws.proofs.Names.{StampParts, TimeParts, Task, Decision, Effect, Outcome, Message, NodeId, Out, Post, Act, Book, Try, book, close, enter, finish, front, gain, if_open, last_try, new_try, on_act, on_front, on_try, open_front, open_of, open_try, time_of, tries_of, is_none, keep, stop_of, Answered, Begun, Decided, News, Over_there, Refusal, decided_commit, decided_early, news, row, when, Asking, Closing, Finishing, Idle, Opening, Refused, Stage, Stopping, by_stop, is_asking, is_closed, is_finished, is_settled, no_answer, stage, stage_of, standing, broker, repository, is_stamp, is_time, Desk, Take, desk_turn, fuel, hears, note, note_if, reply, say, send, settle_up, state, all_effects, Heard, Reply, Adds, Hears, Ignored, EndFits, FitsBook, IsTidy, MayTry, Clocks, IsBelow, TurnHolds, same_stamp-self, Every, same_stamp, same_time, Answer, Asks, Got, Over, Stop, Stored, ToRead, ToWrite, Tree}
+use Rattle.broker_laws.proofs.Names.{StampParts, TimeParts, Task, Decision, Effect, Outcome, Message, NodeId, Out, Post, Act, Book, Try, book, close, enter, finish, front, gain, if_open, last_try, new_try, on_act, on_front, on_try, open_front, open_of, open_try, time_of, tries_of, is_none, stop_of, Answered, Begun, Decided, News, Over_there, Refusal, decided_commit, decided_early, news, row, when, Asking, Closing, Finishing, Idle, Opening, Refused, Stage, by_stop, is_asking, is_closed, is_finished, is_settled, no_answer, stage, stage_of, standing, broker, repository, is_stamp, is_time, Desk, Take, desk_turn, fuel, hears, note, note_if, reply, say, send, settle_up, state, all_effects, Heard, Reply, Adds, Hears, Ignored, EndFits, FitsBook, IsTidy, MayTry, Clocks, IsBelow, TurnHolds, same_stamp-self, Every, same_stamp, same_time, Answer, Asks, Got, Over, Stop, Stored, ToRead, ToWrite, Tree, ◌≡◌, ℕ, zero, suc, ◌+◌, ◌<◌, ◌≤◌, ◌==◌, Bool, true, false, ◌&&◌, ◌||◌, length, List, [], ◌∷◌, ◌++◌, refl, sym, ◌∙◌, ap, subst, Option, Some, None, ◌⊎◌, inl, inr, if◌then◌else◌, arith, length-append}
 use Rattle.pseudo_time.specs.declared.decisions.Decision.TheVariants as decision
 use Rattle.effect_form.specs.declared.effects.Effect.TheVariants as effect
 use Rattle.effect_form.specs.declared.outcomes.Outcome.TheVariants as outcome
@@ -14,33 +13,23 @@ use Rattle.broker_laws.proofs.TestLemmas.{and-right, same_time-self}
 -- the open try after one effect
 open-gain : (x : Answer) (t : Try) (acts : List Act) → open_of (on_try (gain x) acts) ≡ Some t → (u : Try) × (open_of acts ≡ Some u) × (gain x u ≡ t)
 open-gain x t [] e = cc
-open-gain x t (a ∷ done) e = fronts a.tries e
+open-gain x t (a ∷ done) e = (elim a.tries as (λ ts. open_front (on_front (gain x) ts) ≡ Some t → (u : Try) × (open_front ts ≡ Some u) × (gain x u ≡ t)) [ [] ↦ λ e. cc | y ∷ ts ↦ λ e. ends-so y y.end e ]) e
   where
     ends-so : (y : Try) (o : Option Outcome) → if_open (gain x y) o ≡ Some t → (u : Try) × (if_open y o ≡ Some u) × (gain x u ≡ t)
     ends-so y None e = (y, refl, cc)
     ends-so y (Some o) e = cc
 
-    fronts : (ts : List Try) → open_front (on_front (gain x) ts) ≡ Some t → (u : Try) × (open_front ts ≡ Some u) × (gain x u ≡ t)
-    fronts [] e = cc
-    fronts (y ∷ ts) e = ends-so y y.end e
-
 open-finish : (o : Outcome) (t : Try) (acts : List Act) → open_of (on_try (finish o) acts) ≡ Some t → ⊥
 open-finish o t [] e = cc
-open-finish o t (a ∷ done) e = fronts a.tries e
-  where
-    fronts : (ts : List Try) → open_front (on_front (finish o) ts) ≡ Some t → ⊥
-    fronts [] e = cc
-    fronts (y ∷ ts) e = cc
+open-finish o t (a ∷ done) e = (elim a.tries as (λ ts. open_front (on_front (finish o) ts) ≡ Some t → ⊥) [ [] ↦ λ e. cc | y ∷ ts ↦ λ e. cc ]) e
 
-open-last : (g : Try → Try) (acts : List Act) (t : Try) → open_of acts ≡ Some t →
-    (front (tries_of acts) ≡ Some t) × (front (tries_of (on_try g acts)) ≡ Some (g t)) × (t.end ≡ None)
+open-last : (g : Try → Try) (acts : List Act) (t : Try) → open_of acts ≡ Some t → (front (tries_of acts) ≡ Some t) × (front (tries_of (on_try g acts)) ≡ Some (g t)) × (t.end ≡ None)
 open-last g [] t e = cc
 open-last g (a ∷ done) t e = fronts a.tries (tries_of done) e
   where
     fronts : (ts more : List Try) → open_front ts ≡ Some t → (front (ts ++ more) ≡ Some t) × (front (on_front g ts ++ more) ≡ Some (g t)) × (t.end ≡ None)
     fronts [] more e = cc
-    fronts (y ∷ ts) more e =
-        let h = if-open y y.end t e in (ap (λ z. Some z) h.0, ap (λ z. Some (g z)) h.0, subst (λ (z : Try). z.end ≡ None) h.0 h.1)
+    fronts (y ∷ ts) more e = let h = if-open y y.end t e in (ap (λ z. Some z) h.0, ap (λ z. Some (g z)) h.0, subst (λ (z : Try). z.end ≡ None) h.0 h.1)
 
 module _ (script : List ℕ → Tree) (me : ℕ) where
   -- the clock is at s or past it, and an open try of stamp s has so many answers that R holds
@@ -65,11 +54,7 @@ module _ (script : List ℕ → Tree) (me : ℕ) where
       subst (λ (z : Try). R (length z.answers)) u.2 (subst (λ n. R n) (sym (length-append u.0.answers (x ∷ []))) (mono (length u.0.answers) r))
 
   past-close : (R : ℕ → Type 0) (s : StampParts) (i : ℕ) (o : Outcome) (b : Book) → Past R s b → Past R s (close o b)
-  past-close R s i (outcome.Spent c) b p = (p.0, λ t e k. p.1 t (same b.acts ∙ e) k)
-    where
-      same : (acts : List Act) → open_of acts ≡ open_of (on_act (λ a. record a { spent = Some c }) acts)
-      same [] = refl
-      same (a ∷ done) = refl
+  past-close R s i (outcome.Spent c) b p = (p.0, λ t e k. p.1 t ((elim b.acts as (λ acts. open_of acts ≡ open_of (on_act (λ a. record a { spent = Some c }) acts)) [ [] ↦ refl | a ∷ done ↦ refl ]) ∙ e) k)
   past-close R s i o b p = (p.0, λ t e k. absurd (open-finish _ t b.acts e))
 
   past-kept : (R : ℕ → Type 0) → ((n : ℕ) → R n → R (n + 1)) → (s : StampParts) (b : Book) (f : Effect) → FitsBook script me b f → Past R s b → Past R s (enter f b)
@@ -105,11 +90,7 @@ module _ (script : List ℕ → Tree) (me : ℕ) where
       absurd (omega arith)
 
   sure-close : (s : StampParts) (i : ℕ) (o : Outcome) (b : Book) → EndFits script i o b → Sure s b → Sure s (close o b)
-  sure-close s i (outcome.Spent c) b f p = (p.0, λ t e k. p.1 t (same b.acts ∙ e) k)
-    where
-      same : (acts : List Act) → front (tries_of acts) ≡ front (tries_of (on_act (λ a. record a { spent = Some c }) acts))
-      same [] = refl
-      same (a ∷ done) = refl
+  sure-close s i (outcome.Spent c) b f p = (p.0, λ t e k. p.1 t ((elim b.acts as (λ acts. front (tries_of acts) ≡ front (tries_of (on_act (λ a. record a { spent = Some c }) acts))) [ [] ↦ refl | a ∷ done ↦ refl ]) ∙ e) k)
   sure-close s i o b f p = (p.0, sure-open s (finish o) b f.0 f.1 refl p)
 
   sure-kept : (s : StampParts) (b : Book) (f : Effect) → FitsBook script me b f → Sure s b → Sure s (enter f b)
@@ -124,13 +105,10 @@ module _ (script : List ℕ → Tree) (me : ℕ) where
   module _ (run : ℕ) (acts : List Task) where
     -- what a stage says of what was heard
     abbrev Says : Book → Heard → Stage → Type 0
-    Says b h Idle = Unit {0}
-    Says b h (Refused t) = Unit {0}
     Says b h (Opening t) = is_stamp h.begun t.stamp ≡ false
     Says b h (Asking t q) = is_time h.ended (time_of t) ≡ false
-    Says b h (Finishing t) = Unit {0}
-    Says b h (Stopping t o) = Unit {0}
     Says b h (Closing t) = (open_try b ≡ None) × (is_stamp h.closed t.stamp ≡ false) × (is_settled t.end ≡ false)
+    Says b h _ = Unit {0}
 
     if-says : (b : Book) (h : Heard) (c : Bool) (x y : Stage) → (c ≡ true → Says b h x) → (c ≡ false → Says b h y) → Says b h (if c then x else y)
     if-says b h true x y p q = p refl
@@ -143,8 +121,7 @@ module _ (script : List ℕ → Tree) (me : ℕ) where
     by-stop-says : (b : Book) (h : Heard) (t : Try) (s : Stop) → (is_asking s && is_time h.ended (time_of t)) ≡ false → Says b h (by_stop t s)
     by-stop-says b h t (Asks q) e = e
     by-stop-says b h t (Over ending.Finished) e = tt
-    by-stop-says b h t (Over (ending.Withdrawn l)) e = tt
-    by-stop-says b h t (Over (ending.Failed l k)) e = tt
+    by-stop-says b h t (Over _) e = tt
 
     two-false : (n s c : Bool) → (n || (if n then false else (s || c))) ≡ false → (s ≡ false) × (c ≡ false)
     two-false true s c e = cc
@@ -181,41 +158,37 @@ module _ (script : List ℕ → Tree) (me : ℕ) where
     StageOf m st = ⊥
 
     stage-of : (st : Stage) (o : Out) → standing st ≡ Some o → StageOf o.message st
-    stage-of Idle o e = cc
     stage-of (Refused t) o e = let q : record { to = repository t.stamp.home; message = message.Withdraw t.stamp } ≡ o = cc e in subst (λ (z : Out). StageOf z.message (Refused t)) q refl
     stage-of (Opening t) o e = let q : record { to = repository t.stamp.home; message = message.Begin t.stamp t.task.timeout } ≡ o = cc e in subst (λ (z : Out). StageOf z.message (Opening t)) q refl
     stage-of (Asking t (ToRead p)) o e = let q : record { to = repository p.repository; message = message.Read (time_of t) p } ≡ o = cc e in subst (λ (z : Out). StageOf z.message (Asking t (ToRead p))) q refl
     stage-of (Asking t (ToWrite p w)) o e = let q : record { to = repository p.repository; message = message.Write (time_of t) p w } ≡ o = cc e in subst (λ (z : Out). StageOf z.message (Asking t (ToWrite p w))) q refl
     stage-of (Finishing t) o e = let q : record { to = repository t.stamp.home; message = message.Commit t.stamp } ≡ o = cc e in subst (λ (z : Out). StageOf z.message (Finishing t)) q refl
-    stage-of (Stopping t p) o e = cc
     stage-of (Closing t) o e = let q : record { to = repository t.stamp.home; message = message.Withdraw t.stamp } ≡ o = cc e in subst (λ (z : Out). StageOf z.message (Closing t)) q refl
+    stage-of _ o e = cc
 
     -- what blocks the old request
     Never : ℕ → Type 0
     Never n = ⊥
 
     abbrev Blocked : Stage → Heard → Book → Type 0
-    Blocked Idle h b = Unit {0}
     Blocked (Refused t) h b = Past Never t.stamp b × Sure t.stamp b
     Blocked (Opening t) h b = (h.begun ≡ Some t.stamp) ⊎ Past Never t.stamp b
     Blocked (Asking t q) h b = (h.ended ≡ Some (time_of t)) ⊎ Past (λ n. length t.answers + 1 ≤ n) t.stamp b
     Blocked (Finishing t) h b = Past Never t.stamp b
-    Blocked (Stopping t o) h b = Unit {0}
     Blocked (Closing t) h b = (h.closed ≡ Some t.stamp) × Past Never t.stamp b
+    Blocked _ h b = Unit {0}
 
     never-more : (n : ℕ) → Never n → Never (n + 1)
     unfolding Never
     never-more n h = h
 
     blocked-kept : (st : Stage) (h : Heard) (b : Book) (f : Effect) → FitsBook script me b f → Blocked st h b → Blocked st h (enter f b)
-    blocked-kept Idle h b f w k = tt
     blocked-kept (Refused t) h b f w k = (past-kept Never never-more t.stamp b f w k.0, sure-kept t.stamp b f w k.1)
     blocked-kept (Opening t) h b f w k = elim k [ inl e ↦ inl e | inr p ↦ inr (past-kept Never never-more t.stamp b f w p) ]
-    blocked-kept (Asking t q) h b f w k =
-        elim k [ inl e ↦ inl e | inr p ↦ inr (past-kept (λ n. length t.answers + 1 ≤ n) (λ n r. omega arith) t.stamp b f w p) ]
+    blocked-kept (Asking t q) h b f w k = elim k [ inl e ↦ inl e | inr p ↦ inr (past-kept (λ n. length t.answers + 1 ≤ n) (λ n r. omega arith) t.stamp b f w p) ]
     blocked-kept (Finishing t) h b f w k = past-kept Never never-more t.stamp b f w k
-    blocked-kept (Stopping t o) h b f w k = tt
     blocked-kept (Closing t) h b f w k = (k.0, past-kept Never never-more t.stamp b f w k.1)
+    blocked-kept _ h b f w k = tt
 
     stamp-clash : (o : Option StampParts) (s x : StampParts) → o ≡ Some s → x ≡ s → is_stamp o x ≡ false → ⊥
     stamp-clash o s x e k n =
@@ -253,23 +226,18 @@ module _ (script : List ℕ → Tree) (me : ℕ) where
         (h.closed ≡ Some t.stamp) ⊎ Sure t.stamp b → StageOf (message.Withdraw t.stamp) st → ⊥
     no-withdraw b h t (Refused u) ok sa p k e = open-clash b t u ok e p
     no-withdraw b h t (Closing u) ok sa p k e =
-        elim k [
-          | inl w ↦ stamp-clash h.closed t.stamp u.stamp w e sa.1
-          | inr r ↦ let c : true ≡ false = sym (r.1 u ok e) ∙ sa.2 in cc
-        ]
+        elim k [ inl w ↦ stamp-clash h.closed t.stamp u.stamp w e sa.1 | inr r ↦ let c : true ≡ false = sym (r.1 u ok e) ∙ sa.2 in cc ]
     no-withdraw b h t x ok sa p k e = e
 
     -- a blocked request doesn't stand
-    blocked-new : (st : Stage) (h : Heard) (b : Book) (new : Stage) → StageOk script me run acts b new → Says b h new → Blocked st h b →
-        (o : Out) → standing st ≡ Some o → standing new ≡ Some o → ⊥
-    blocked-new Idle h b new ok sa k o e w = cc
-    blocked-new (Stopping t x) h b new ok sa k o e w = cc
+    blocked-new : (st : Stage) (h : Heard) (b : Book) (new : Stage) → StageOk script me run acts b new → Says b h new → Blocked st h b → (o : Out) → standing st ≡ Some o → standing new ≡ Some o → ⊥
     blocked-new (Opening t) h b new ok sa k o e w = no-begin b h t new ok sa k t.task.timeout (stage-of new _ (w ∙ sym e))
     blocked-new (Asking t (ToRead x)) h b new ok sa k o e w = no-ask b h t new ok sa k (stage-of new _ (w ∙ sym e))
     blocked-new (Asking t (ToWrite x v)) h b new ok sa k o e w = no-ask b h t new ok sa k (stage-of new _ (w ∙ sym e))
     blocked-new (Finishing t) h b new ok sa k o e w = no-commit b t new ok k (stage-of new _ (w ∙ sym e))
     blocked-new (Refused t) h b new ok sa k o e w = no-withdraw b h t new ok sa k.0 (inr k.1) (stage-of new _ (w ∙ sym e))
     blocked-new (Closing t) h b new ok sa k o e w = no-withdraw b h t new ok sa k.1 (inl k.0) (stage-of new _ (w ∙ sym e))
+    blocked-new _ h b new ok sa k o e w = cc
 
     -- a message that is heard blocks the old request
     open-clock : (b : Book) (t : Try) → Clocks me b → open_try b ≡ Some t → t.stamp.clock ≤ b.clock
@@ -297,8 +265,7 @@ module _ (script : List ℕ → Tree) (me : ℕ) where
     sure-expired : (d m : ℕ) (b : Book) (t : Try) → open_try b ≡ Some t →
         (u : Try) → front (tries_of (on_try (finish (outcome.Expired d m)) b.acts)) ≡ Some u → u.stamp ≡ t.stamp → is_settled u.end ≡ true
     sure-expired d m b t e u l k =
-        let w = open-last (finish (outcome.Expired d m)) b.acts t e in
-        let n : Some (finish (outcome.Expired d m) t) ≡ Some u = sym w.1 ∙ l in
+        let n : Some (finish (outcome.Expired d m) t) ≡ Some u = sym (open-last (finish (outcome.Expired d m)) b.acts t e).1 ∙ l in
         let n' : finish (outcome.Expired d m) t ≡ u = cc in
         subst (λ (z : Try). is_settled z.end ≡ true) n' refl
 
@@ -317,10 +284,8 @@ module _ (script : List ℕ → Tree) (me : ℕ) where
     early-blocks h b done t (decision.Expired x m) c e = inr (open-clock b t c e, gone Never (outcome.Expired x m) t.stamp b)
 
     refused-blocks : (h : Heard) (b : Book) (t : Try) (d : Decision) → Clocks me b → open_try b ≡ Some t → RowBlocks (Refused t) h b (decided_early false t d)
-    refused-blocks h b t decision.Committed c e = tt
-    refused-blocks h b t decision.Withdrawn c e = tt
-    refused-blocks h b t (decision.Expired x m) c e =
-        ((open-clock b t c e, gone Never (outcome.Expired x m) t.stamp b), (open-clock b t c e, sure-expired x m b t e))
+    refused-blocks h b t (decision.Expired x m) c e = ((open-clock b t c e, gone Never (outcome.Expired x m) t.stamp b), (open-clock b t c e, sure-expired x m b t e))
+    refused-blocks h b t _ c e = tt
 
     commit-blocks : (h : Heard) (b : Book) (t : Try) (d : Decision) → Clocks me b → open_try b ≡ Some t → RowBlocks (Finishing t) h b (decided_commit t d)
     commit-blocks h b t decision.Committed c e = (open-clock b t c e, gone Never outcome.Committed t.stamp b)
@@ -330,10 +295,8 @@ module _ (script : List ℕ → Tree) (me : ℕ) where
     row-blocks : (b : Book) (h : Heard) (st : Stage) (n : News) → StageOk script me run acts b st → Says b h st → Clocks me b → RowBlocks st h b (row script st h n)
     row-blocks b h (Opening t) (Begun s) ok sa c = when-blocks (Opening t) h b (same_stamp t.stamp s) _ (inl refl)
     row-blocks b h (Opening t) (Decided s d) ok sa c = when-blocks (Opening t) h b (same_stamp t.stamp s) _ (early-blocks h b (is_finished (stop_of script t)) t d c ok)
-    row-blocks b h (Asking t (ToRead o)) (Answered x (Got v)) ok sa c =
-        when-blocks (Asking t (ToRead o)) h b (same_time (time_of t) x) _ (inr (open-clock b t c ok.0, gained (Got v) b t ok.0))
-    row-blocks b h (Asking t (ToWrite o v)) (Answered x Stored) ok sa c =
-        when-blocks (Asking t (ToWrite o v)) h b (same_time (time_of t) x) _ (inr (open-clock b t c ok.0, gained Stored b t ok.0))
+    row-blocks b h (Asking t (ToRead o)) (Answered x (Got v)) ok sa c = when-blocks (Asking t (ToRead o)) h b (same_time (time_of t) x) _ (inr (open-clock b t c ok.0, gained (Got v) b t ok.0))
+    row-blocks b h (Asking t (ToWrite o v)) (Answered x Stored) ok sa c = when-blocks (Asking t (ToWrite o v)) h b (same_time (time_of t) x) _ (inr (open-clock b t c ok.0, gained Stored b t ok.0))
     row-blocks b h (Asking t (ToRead o)) (Refusal x e true) ok sa c =
         when-blocks (Asking t (ToRead o)) h b (same_time (time_of t) x) _
         (inr (open-clock b t c ok.0, gone (λ n. length t.answers + 1 ≤ n) (outcome.LaterRead o e) t.stamp b))
@@ -365,14 +328,12 @@ module _ (script : List ℕ → Tree) (me : ℕ) where
     blocked-if : (st : Stage) (next : Desk → Desk) → ((d : Desk) → BlockedAt st d → BlockedAt st (next d)) → (d : Desk) (o : Option Effect) →
         OwedOk script me run acts [] (state script me run acts d) o → BlockedAt st d → BlockedAt st (note_if next o d)
     blocked-if st next step d None g k = k
-    blocked-if st next step d (Some f) g k =
-        step (note f d) (noted st [] d f g (blocked-kept st d.heard (state script me run acts d) f g.fits k))
+    blocked-if st next step d (Some f) g k = step (note f d) (noted st [] d f g (blocked-kept st d.heard (state script me run acts d) f g.fits k))
 
     settle-blocked : (st : Stage) (n : ℕ) (d : Desk) → BlockedAt st d → BlockedAt st (settle_up script me run acts n d)
     unfolding settle_up
     settle-blocked st zero d k = k
-    settle-blocked st (suc n) d k =
-        blocked-if st (settle_up script me run acts n) (λ x y. settle-blocked st n x y) d _ (owed-ok script me run acts [] (state script me run acts d) d.heard) k
+    settle-blocked st (suc n) d k = blocked-if st (settle_up script me run acts n) (λ x y. settle-blocked st n x y) d _ (owed-ok script me run acts [] (state script me run acts d) d.heard) k
 
     send-blocked : (st : Stage) (d : Desk) (o : Option Out) → BlockedAt st d → BlockedAt st (send o d)
     send-blocked st d None k = k
@@ -399,8 +360,7 @@ module _ (script : List ℕ → Tree) (me : ℕ) where
     new-request ever d from m k n o e w =
         let b : Book = state script me run acts d in
         let tidy : IsTidy script me (all_effects d) = grown script me d.past d.added k.desk.tidy k.desk.grew in
-        let eq : keep script me run acts (all_effects d) ≡ all_effects d = kept script me run acts (all_effects d) tidy k.ready.same_plan in
-        let c : Clocks me b = subst (λ l. Clocks me (book l)) (sym eq) (clocks script me (all_effects d) tidy) in
+        let c : Clocks me b = subst (λ l. Clocks me (book l)) (sym (kept script me run acts (all_effects d) tidy k.ready.same_plan)) (clocks script me (all_effects d) tidy) in
         let st : Stage = stage script run b d.heard in
         let x : Desk = desk_turn script me run acts d (Take from m) in
         let g : ReplyOk script me run acts (alone from m) b (row script st d.heard (news m)) =

@@ -1,7 +1,5 @@
 -- A broker asks nobody for a decision.
-use Rattle.std.proofs.Common.{ℕ, zero, suc, true, List, [], ◌∷◌, Option, Some, None}
-use Rattle.broker_laws.proofs.Names.{Every, every-append, Effect, Out, ToRead, ToWrite, Tree, Reply, Ignored, Hears, Adds, Task, owed, row, news, Stage, Idle, Refused, Opening, Asking, Finishing, Stopping, Closing, stage, standing, Desk, Input, Go, Hear, Take, fuel, hears, note, note_if, send, state, settle_up, say, reply, desk_turn}
-use Rattle.broker_laws.specs.Works.{AsksNobody}
+use Rattle.broker_laws.proofs.Names.{Every, every-append, Effect, Out, ToRead, ToWrite, Tree, Reply, Ignored, Hears, Adds, Task, owed, row, news, Stage, Asking, stage, standing, Desk, Input, Go, Hear, Take, fuel, hears, note, note_if, send, state, settle_up, say, reply, desk_turn, ℕ, zero, suc, true, List, [], ◌∷◌, Option, Some, None, AsksNobody}
 
 abbrev AskNobody : List Out → Type 0
 AskNobody outs = Every (λ o. AsksNobody o.message) outs
@@ -11,14 +9,9 @@ MayStand None = Unit {0}
 MayStand (Some o) = AsksNobody o.message
 
 standing-nobody : (st : Stage) → MayStand (standing st)
-standing-nobody Idle = tt
-standing-nobody (Refused t) = tt
-standing-nobody (Opening t) = tt
 standing-nobody (Asking t (ToRead o)) = tt
 standing-nobody (Asking t (ToWrite o v)) = tt
-standing-nobody (Finishing t) = tt
-standing-nobody (Stopping t o) = tt
-standing-nobody (Closing t) = tt
+standing-nobody _ = tt
 
 send-nobody : (o : Option Out) (d : Desk) → MayStand o → AskNobody d.outs → AskNobody (send o d).outs
 send-nobody None d k h = h

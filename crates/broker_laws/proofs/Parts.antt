@@ -1,13 +1,10 @@
 -- a turn depends on the whole log and on what was heard; what it gives is added
-use Rattle.std.proofs.Common.{◌≡◌, ℕ, zero, suc, true, List, [], ◌∷◌, ◌++◌, refl, sym, ◌∙◌, ap, subst, Option, Some, None, append_assoc, append-nil}
-use Rattle.broker_laws.proofs.Names.{Task, Effect, Out, book, keep, owed, news, row, stage, standing, Desk, Go, Hear, Input, Take, desk_turn, fuel, hears, note, note_if, reply, say, send, settle_up, state, all_effects, Heard, Reply, Adds, Hears, Ignored, Tree}
-use Rattle.broker_laws.specs.Works.{afresh, joined}
+use Rattle.broker_laws.proofs.Names.{Task, Effect, Out, book, keep, owed, news, row, stage, standing, Desk, Go, Hear, Input, Take, desk_turn, fuel, hears, note, note_if, reply, say, send, settle_up, state, all_effects, Heard, Reply, Adds, Hears, Ignored, Tree, ◌≡◌, ℕ, zero, suc, true, List, [], ◌∷◌, ◌++◌, refl, sym, ◌∙◌, ap, subst, Option, Some, None, append_assoc, append-nil, afresh, joined}
 
 module _ (script : List ℕ → Tree) (me run : ℕ) (acts : List Task) where
   -- x began at the whole log of d
   same-state : (d x : Desk) → x.past ≡ all_effects d → state script me run acts (joined d x) ≡ state script me run acts x
-  same-state d x b =
-      ap (λ l. book (keep script me run acts l)) (append_assoc x.added d.added d.past ∙ ap (λ l. x.added ++ l) (sym b))
+  same-state d x b = ap (λ l. book (keep script me run acts l)) (append_assoc x.added d.added d.past ∙ ap (λ l. x.added ++ l) (sym b))
 
   settle-past : (n : ℕ) (x : Desk) → (settle_up script me run acts n x).past ≡ x.past
   unfolding settle_up
@@ -34,8 +31,7 @@ module _ (script : List ℕ → Tree) (me run : ℕ) (acts : List Task) where
 
   send-joined : (d x : Desk) (o : Option Out) → send o (joined d x) ≡ joined d (send o x)
   send-joined d x None = refl
-  send-joined d x (Some o) =
-      ap (λ os. record { past = d.past; added = x.added ++ d.added; outs = os; heard = x.heard }) (append_assoc d.outs x.outs (o ∷ []))
+  send-joined d x (Some o) = ap (λ os. record { past = d.past; added = x.added ++ d.added; outs = os; heard = x.heard }) (append_assoc d.outs x.outs (o ∷ []))
 
   say-joined : (d x : Desk) → x.past ≡ all_effects d → say script me run acts (joined d x) ≡ joined d (say script me run acts x)
   say-joined d x b =
@@ -57,15 +53,12 @@ module _ (script : List ℕ → Tree) (me run : ℕ) (acts : List Task) where
 
   reply-joined : (d : Desk) (r : Reply) → reply script me run acts d r ≡ joined d (reply script me run acts (afresh d) r)
   reply-joined d Ignored = same-outs d d.heard
-  reply-joined d (Hears h) =
-      ap (λ y. say script me run acts (settle_up script me run acts (fuel acts) y)) (same-outs d h) ∙ both-joined d (hears h (afresh d)) refl
-  reply-joined d (Adds f) =
-      ap (λ y. say script me run acts (settle_up script me run acts (fuel acts) y)) (added-outs d f) ∙ both-joined d (note f (afresh d)) refl
+  reply-joined d (Hears h) = ap (λ y. say script me run acts (settle_up script me run acts (fuel acts) y)) (same-outs d h) ∙ both-joined d (hears h (afresh d)) refl
+  reply-joined d (Adds f) = ap (λ y. say script me run acts (settle_up script me run acts (fuel acts) y)) (added-outs d f) ∙ both-joined d (note f (afresh d)) refl
 
   pub parts : (d : Desk) (i : Input) → desk_turn script me run acts d i ≡ joined d (desk_turn script me run acts (afresh d) i)
   parts d Go =
       let h : Heard = record d.heard { gone = true } in
       ap (λ y. say script me run acts (settle_up script me run acts (fuel acts) y)) (same-outs d h) ∙ both-joined d (hears h (afresh d)) refl
   parts d (Hear m) = ap (λ y. say script me run acts y) (same-outs d d.heard) ∙ say-joined d (afresh d) refl
-  parts d (Take from m) =
-      reply-joined d (row script (stage script run (state script me run acts d) d.heard) d.heard (news m))
+  parts d (Take from m) = reply-joined d (row script (stage script run (state script me run acts d) d.heard) d.heard (news m))

@@ -1,10 +1,7 @@
 -- a log is ready exactly where opening it gives no fault
-use Rattle.std.proofs.Common.{◌≡◌, ℕ, ◌==◌, nat_lt, Bool, true, false, ◌&&◌, List, [], ◌∷◌, refl, sym, subst, Option, Some, None, if◌then◌else◌, arith}
-use Rattle.std.proofs.lemmas.Grind.{common_steps}
-use Rattle.broker_laws.proofs.Names.{Task, Effect, Outcome, Book, book, close, enter, add_if, counts, first_some, fits, keep, other_plan, unfit_act, IsReady, Tree}
+use Rattle.broker_laws.proofs.Names.{Task, Effect, Outcome, Book, book, close, enter, add_if, counts, first_some, fits, keep, other_plan, unfit_act, IsReady, Tree, ◌≡◌, ℕ, ◌==◌, nat_lt, Bool, true, false, ◌&&◌, List, [], ◌∷◌, refl, sym, subst, Option, Some, None, if◌then◌else◌, arith, common_steps, plan_fault, resume_fault}
 use Rattle.effect_form.specs.declared.effects.Effect.TheVariants as effect
 use Rattle.effect_form.specs.declared.outcomes.Outcome.TheVariants as outcome
-use Rattle.broker_core.specs.Fits.{plan_fault, resume_fault}
 use Rattle.broker_core.specs.declared.resume_faults.ResumeFault.{ResumeFault}
 use Rattle.broker_core.specs.declared.resume_faults.ResumeFault.TheVariants as fault
 
@@ -13,28 +10,23 @@ module _ (script : List ℕ → Tree) (me run : ℕ) (acts : List Task) where
   run-close outcome.Committed b = refl
   run-close o b = refl
 
-  same-below : (b c : Book) → c.run ≡ b.run → nat_lt c.run run ≡ true → nat_lt b.run run ≡ true
-  same-below b c e h = subst (λ n. nat_lt n run ≡ true) e h
-
   was-below : (b : Book) (f : Effect) → counts script me run acts b f ≡ true → nat_lt (enter f b).run run ≡ true → nat_lt b.run run ≡ true
   was-below b (effect.Run n) c h = grind (arith, common_steps)
   was-below b (effect.Act i x t k y z) c h = h
   was-below b (effect.Try i s) c h = h
   was-below b (effect.Got k v) c h = h
   was-below b (effect.Acked k) c h = h
-  was-below b (effect.End i o) c h = same-below b (close o b) (run-close o b) h
+  was-below b (effect.End i o) c h = subst (λ n. nat_lt n run ≡ true) (run-close o b) h
   was-below b f c h = h
 
   not-this : (b : Book) → nat_lt b.run run ≡ true → (b.run == run) ≡ false
   not-this b h = grind (arith, common_steps)
 
   no-unfit : (b : Book) (f : Effect) → nat_lt b.run run ≡ true → unfit_act script me run acts b f ≡ None
-  no-unfit b (effect.Act i x t k y z) h =
-      subst (λ c. (if c && (if fits script me acts b (effect.Act i x t k y z) then false else true) then Some i else None) ≡ None) (sym (not-this b h)) refl
+  no-unfit b (effect.Act i x t k y z) h = subst (λ c. (if c && (if fits script me acts b (effect.Act i x t k y z) then false else true) then Some i else None) ≡ None) (sym (not-this b h)) refl
   no-unfit b f h = refl
 
-  was-add : (c : Bool) (f : Effect) (kept : List Effect) → counts script me run acts (book kept) f ≡ c →
-      nat_lt (book (add_if c f kept)).run run ≡ true → nat_lt (book kept).run run ≡ true
+  was-add : (c : Bool) (f : Effect) (kept : List Effect) → counts script me run acts (book kept) f ≡ c → nat_lt (book (add_if c f kept)).run run ≡ true → nat_lt (book kept).run run ≡ true
   unfolding book
   was-add true f kept e h = was-below (book kept) f e h
   was-add false f kept e h = h

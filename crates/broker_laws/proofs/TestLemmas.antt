@@ -1,9 +1,5 @@
 -- What the tests of equality say.
-use Rattle.std.proofs.Common.{◌≡◌, ℕ, ◌<◌, ◌==◌, Bool, true, false, ◌&&◌, List, [], ◌∷◌, refl, ap, Option, Some, None, arith}
-use Rattle.std.proofs.lemmas.Bool.{eqb-true, eq-eqb}
-use Rattle.broker_laws.proofs.Names.{StampParts, same_stamp, same_time, TimeParts, same_stamp-is, Task, is_task}
-use Rattle.pseudo_time.proofs.OrderLemmas.{same_time-of}
-use Rattle.broker_core.specs.Tests.{same_bytes, same_task}
+use Rattle.broker_laws.proofs.Names.{StampParts, same_stamp, same_time, TimeParts, same_stamp-is, Task, is_task, ◌≡◌, ℕ, ◌<◌, ◌==◌, Bool, true, false, ◌&&◌, List, [], ◌∷◌, refl, ap, Option, Some, None, arith, eqb-true, eq-eqb, same_time-of, same_bytes, same_task}
 
 pub and-left : (a b : Bool) → (a && b) ≡ true → a ≡ true
 and-left true b h = refl

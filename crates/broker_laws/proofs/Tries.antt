@@ -1,11 +1,9 @@
 -- what holds of every try of a log with a past: its answers were asked for, they and its End came in messages
-use Rattle.std.proofs.Common.{◌≡◌, ℕ, ◌+◌, length, List, [], ◌∷◌, ◌++◌, refl, sym, ◌∙◌, ap, subst, Option, Some, None, ◌⊎◌, inl, inr}
-use Rattle.broker_laws.proofs.Names.{StampParts, Effect, Outcome, Post, Act, Book, Try, book, close, enter, finish, gain, new_try, on_try, open_of, open_try, tries, tries_of, EndFits, EndsBy, FitsBook, IsAsked, IsTidy, MayTry, AnswerCame, EndCame, RestsOn, HaveCauses, OfOpen, at, Every, Answer, Got, Stored, Tree, stop}
+use Rattle.broker_laws.proofs.Names.{StampParts, Effect, Outcome, Post, Act, Book, Try, book, close, enter, finish, gain, new_try, on_try, open_of, open_try, tries, tries_of, EndFits, EndsBy, FitsBook, IsAsked, IsTidy, MayTry, AnswerCame, EndCame, RestsOn, HaveCauses, OfOpen, at, Every, Answer, Got, Stored, Tree, stop, ◌≡◌, ℕ, ◌+◌, length, List, [], ◌∷◌, ◌++◌, refl, sym, ◌∙◌, ap, subst, Option, Some, None, ◌⊎◌, inl, inr, AreKinds, IsFitting, IsPlayed, IsProven}
 use Rattle.effect_form.specs.declared.effects.Effect.TheVariants as effect
 use Rattle.effect_form.specs.declared.outcomes.Outcome.TheVariants as outcome
 use Rattle.broker_laws.proofs.Moves.Moved.{same, tried, gained, ended}
 use Rattle.broker_laws.proofs.Moves.{Moved, at-open, clocks, moved}
-use Rattle.broker_laws.specs.Posts.{AreKinds, IsFitting, IsPlayed, IsProven}
 
 pub no-split : (pre post : List Answer) (a : Answer) → [] ≡ pre ++ (a ∷ post) → ⊥
 no-split [] post a e = cc e
@@ -20,18 +18,14 @@ head_or d [] = d
 head_or d (a ∷ xs) = a
 
 -- an answer of a longer list is the new one, or an old one
-pub last-split : (xs : List Answer) (a : Answer) (pre post : List Answer) (b : Answer) → xs ++ (a ∷ []) ≡ pre ++ (b ∷ post) →
-    ((xs ≡ pre) × (a ≡ b)) ⊎ ((more : List Answer) × (xs ≡ pre ++ (b ∷ more)))
+pub last-split : (xs : List Answer) (a : Answer) (pre post : List Answer) (b : Answer) → xs ++ (a ∷ []) ≡ pre ++ (b ∷ post) → ((xs ≡ pre) × (a ≡ b)) ⊎ ((more : List Answer) × (xs ≡ pre ++ (b ∷ more)))
 unfolding tail head_or
 last-split [] a [] post b e = inl (refl, ap (λ xs. head_or a xs) e)
 last-split [] a (y ∷ pre) post b e = absurd (no-split pre post b (ap (λ xs. tail xs) e))
 last-split (x ∷ xs) a [] post b e = inr (xs, ap (λ y. y ∷ xs) (ap (λ zs. head_or a zs) e))
 last-split (x ∷ xs) a (y ∷ pre) post b e =
     let h : x ≡ y = ap (λ zs. head_or a zs) e in
-    elim (last-split xs a pre post b (ap (λ zs. tail zs) e)) [
-      | inl k ↦ inl (ap (λ z. z ∷ xs) h ∙ ap (λ zs. y ∷ zs) k.0, k.1)
-      | inr k ↦ inr (k.0, ap (λ z. z ∷ xs) h ∙ ap (λ zs. y ∷ zs) k.1)
-    ]
+    elim (last-split xs a pre post b (ap (λ zs. tail zs) e)) [ inl k ↦ inl (ap (λ z. z ∷ xs) h ∙ ap (λ zs. y ∷ zs) k.0, k.1) | inr k ↦ inr (k.0, ap (λ z. z ∷ xs) h ∙ ap (λ zs. y ∷ zs) k.1) ]
 
 some-of : {o p : Outcome} → Some o ≡ Some p → o ≡ p
 some-of e = cc
@@ -51,10 +45,7 @@ module _ (script : List ℕ → Tree) (me : ℕ) where
   fitting t Stored h = subst (λ s. IsFitting s Stored) (sym h.2) tt
 
   played-new : (t : Try) → t.answers ≡ [] → t.end ≡ None → IsPlayed script t
-  played-new t a e = record {
-    asked = λ pre post x k. absurd (no-split pre post x (sym a ∙ k));
-    ends = λ o k. let no : None ≡ Some o = sym e ∙ k in cc;
-  }
+  played-new t a e = record { asked = λ pre post x k. absurd (no-split pre post x (sym a ∙ k)); ends = λ o k. let no : None ≡ Some o = sym e ∙ k in cc }
 
   kinds-gain : (t : Try) (a : Answer) → IsAsked script t a → AreKinds (script t.task.script) t.answers → AreKinds (script t.task.script) (t.answers ++ (a ∷ []))
   kinds-gain t a h p pre post x k =
@@ -64,27 +55,20 @@ module _ (script : List ℕ → Tree) (me : ℕ) where
       ]
 
   played-gain : (t : Try) (a : Answer) → t.end ≡ None → IsAsked script t a → IsPlayed script t → IsPlayed script (gain a t)
-  played-gain t a e h p = record {
-    asked = kinds-gain t a h p.asked;
-    ends = λ o k. let no : None ≡ Some o = sym e ∙ k in cc;
-  }
+  played-gain t a e h p = record { asked = kinds-gain t a h p.asked; ends = λ o k. let no : None ≡ Some o = sym e ∙ k in cc }
 
   ends-same : (t : Try) (o p : Outcome) → EndsBy script t o → EndsBy script (finish p t) o
   ends-same t outcome.Committed p h = h
   ends-same t o p h = h
 
   played-end : (t : Try) (o : Outcome) → t.end ≡ None → EndsBy script t o → IsPlayed script t → IsPlayed script (finish o t)
-  played-end t o e h p = record {
-    asked = p.asked;
-    ends = λ x k. ends-same t x o (subst (λ y. EndsBy script t y) (some-of k) h);
-  }
+  played-end t o e h p = record { asked = p.asked; ends = λ x k. ends-same t x o (subst (λ y. EndsBy script t y) (some-of k) h) }
 
   -- answers were asked and ended tries
   pub played : (log : List Effect) → IsTidy script me log → Every (IsPlayed script) (tries (book log))
   unfolding book
   played [] h = tt
-  played (f ∷ log) h =
-      each-moved (IsPlayed script) played-new played-gain played-end (moved script me (book log) f (clocks script me log h.0) h.1) (played log h.0)
+  played (f ∷ log) h = each-moved (IsPlayed script) played-new played-gain played-end (moved script me (book log) f (clocks script me log h.0) h.1) (played log h.0)
 
   -- answers have evidence
   each-open : (P : Try → Type 0) (g : Try → Try) (acts past : List Act) (t : Try) → open_of acts ≡ Some t → (t.end ≡ None → P t → P (g t)) →
@@ -99,13 +83,9 @@ module _ (script : List ℕ → Tree) (me : ℕ) where
     of-open P o t e h = let k : OfOpen (Some t) P = subst (λ x. OfOpen x P) e h in k
 
     proven-new : (t : Try) → t.answers ≡ [] → t.end ≡ None → IsProven me ever t
-    proven-new t a e = record {
-      answers = λ pre post x k. absurd (no-split pre post x (sym a ∙ k));
-      ends = λ o k. let no : None ≡ Some o = sym e ∙ k in cc;
-    }
+    proven-new t a e = record { answers = λ pre post x k. absurd (no-split pre post x (sym a ∙ k)); ends = λ o k. let no : None ≡ Some o = sym e ∙ k in cc }
 
-    proven-gain : (t : Try) (a : Answer) (k : ℕ) → k ≡ length t.answers + 1 → AnswerCame me ever (at t.stamp k) a → t.end ≡ None →
-        IsProven me ever t → IsProven me ever (gain a t)
+    proven-gain : (t : Try) (a : Answer) (k : ℕ) → k ≡ length t.answers + 1 → AnswerCame me ever (at t.stamp k) a → t.end ≡ None → IsProven me ever t → IsProven me ever (gain a t)
     proven-gain t a k n h e p = record { answers = all; ends = λ o x. let no : None ≡ Some o = sym e ∙ x in cc }
       where
         all : (pre post : List Answer) (b : Answer) → t.answers ++ (a ∷ []) ≡ pre ++ (b ∷ post) → AnswerCame me ever (at t.stamp (length pre + 1)) b
@@ -122,10 +102,7 @@ module _ (script : List ℕ → Tree) (me : ℕ) where
     came-same t o p h = h
 
     proven-end : (t : Try) (o : Outcome) → EndCame me ever t o → IsProven me ever t → IsProven me ever (finish o t)
-    proven-end t o h p = record {
-      answers = p.answers;
-      ends = λ x k. came-same t x o (subst (λ y. EndCame me ever t y) (some-of k) h);
-    }
+    proven-end t o h p = record { answers = p.answers; ends = λ x k. came-same t x o (subst (λ y. EndCame me ever t y) (some-of k) h) }
 
     proven-try : (i : ℕ) (s : StampParts) (b : Book) (acts past : List Act) (P : Act → Type 0) → MayTry i acts P →
         Every (IsProven me ever) (tries_of (acts ++ past)) →
@@ -135,34 +112,23 @@ module _ (script : List ℕ → Tree) (me : ℕ) where
 
     proven-close : (i : ℕ) (o : Outcome) (b : Book) → EndFits script i o b → OfOpen (open_try b) (λ t. EndCame me ever t o) →
         Every (IsProven me ever) (tries b) → Every (IsProven me ever) (tries (close o b))
-    proven-close i outcome.Committed b h v all =
-        each-open _ (finish outcome.Committed) b.acts b.past h.0 h.1 (λ e p. proven-end h.0 outcome.Committed (of-open _ (open_try b) h.0 h.1 v) p) all
-    proven-close i (outcome.Withdrawn l) b h v all =
-        each-open _ (finish (outcome.Withdrawn l)) b.acts b.past h.0 h.1 (λ e p. proven-end h.0 (outcome.Withdrawn l) tt p) all
-    proven-close i (outcome.Failed l k) b h v all =
-        each-open _ (finish (outcome.Failed l k)) b.acts b.past h.0 h.1 (λ e p. proven-end h.0 (outcome.Failed l k) tt p) all
-    proven-close i (outcome.LaterRead o x) b h v all =
-        each-open _ (finish (outcome.LaterRead o x)) b.acts b.past h.0 h.1 (λ e p. proven-end h.0 (outcome.LaterRead o x) (of-open _ (open_try b) h.0 h.1 v) p) all
-    proven-close i (outcome.LaterVersion o x) b h v all =
-        each-open _ (finish (outcome.LaterVersion o x)) b.acts b.past h.0 h.1 (λ e p. proven-end h.0 (outcome.LaterVersion o x) (of-open _ (open_try b) h.0 h.1 v) p) all
-    proven-close i (outcome.Expired d m) b h v all =
-        each-open _ (finish (outcome.Expired d m)) b.acts b.past h.0 h.1 (λ e p. proven-end h.0 (outcome.Expired d m) (of-open _ (open_try b) h.0 h.1 v) p) all
+    proven-close i outcome.Committed b h v all = each-open _ (finish outcome.Committed) b.acts b.past h.0 h.1 (λ e p. proven-end h.0 outcome.Committed (of-open _ (open_try b) h.0 h.1 v) p) all
+    proven-close i (outcome.Withdrawn l) b h v all = each-open _ (finish (outcome.Withdrawn l)) b.acts b.past h.0 h.1 (λ e p. proven-end h.0 (outcome.Withdrawn l) tt p) all
+    proven-close i (outcome.Failed l k) b h v all = each-open _ (finish (outcome.Failed l k)) b.acts b.past h.0 h.1 (λ e p. proven-end h.0 (outcome.Failed l k) tt p) all
     proven-close i (outcome.Spent c) b h v all = spent b.acts b.past all
       where
         spent : (acts past : List Act) → Every (IsProven me ever) (tries_of (acts ++ past)) →
             Every (IsProven me ever) (tries_of ((close (outcome.Spent c) (record b { acts = acts; past = past })).acts ++ past))
         spent [] past all = all
         spent (a ∷ acts) past all = all
+    proven-close i f b h v all = each-open _ (finish f) b.acts b.past h.0 h.1 (λ e p. proven-end h.0 f (of-open _ (open_try b) h.0 h.1 v) p) all
 
-    proven-kept : (b : Book) (f : Effect) → FitsBook script me b f → RestsOn me ever b f →
-        Every (IsProven me ever) (tries b) → Every (IsProven me ever) (tries (enter f b))
+    proven-kept : (b : Book) (f : Effect) → FitsBook script me b f → RestsOn me ever b f → Every (IsProven me ever) (tries b) → Every (IsProven me ever) (tries (enter f b))
     proven-kept b (effect.Run n) h v all = all
     proven-kept b (effect.Act i x t k y z) h v all = all
     proven-kept b (effect.Try i s) h v all = proven-try i s b b.acts b.past _ h all
-    proven-kept b (effect.Got k w) h v all =
-        each-open _ (gain (Got w)) b.acts b.past h.0 h.1 (λ e p. proven-gain h.0 (Got w) k h.2.0 (of-open _ (open_try b) h.0 h.1 v) e p) all
-    proven-kept b (effect.Acked k) h v all =
-        each-open _ (gain Stored) b.acts b.past h.0 h.1 (λ e p. proven-gain h.0 Stored k h.2.0 (of-open _ (open_try b) h.0 h.1 v) e p) all
+    proven-kept b (effect.Got k w) h v all = each-open _ (gain (Got w)) b.acts b.past h.0 h.1 (λ e p. proven-gain h.0 (Got w) k h.2.0 (of-open _ (open_try b) h.0 h.1 v) e p) all
+    proven-kept b (effect.Acked k) h v all = each-open _ (gain Stored) b.acts b.past h.0 h.1 (λ e p. proven-gain h.0 Stored k h.2.0 (of-open _ (open_try b) h.0 h.1 v) e p) all
     proven-kept b (effect.End i o) h v all = proven-close i o b h v all
     proven-kept b f h v all = absurd h
 

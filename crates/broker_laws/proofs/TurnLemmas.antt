@@ -1,16 +1,12 @@
 -- gates, crashes, more messages, and turns over any log
-use Rattle.std.proofs.Common.{inl, ◌≡◌, ℕ, zero, suc, ◌-◌, ◌≤◌, nat_lt, true, false, length, take, drop, List, [], ◌∷◌, ◌++◌, refl, sym, ◌∙◌, ap, subst, Option, Some, None, arith, append_assoc}
 use Rattle.std.proofs.lemmas.List.{take-append-drop}
-use Rattle.std.proofs.lemmas.Grind.{common_steps}
-use Rattle.broker_laws.proofs.Names.{Task, Effect, Outcome, Message, NodeId, Out, Post, Book, Try, book, close, enter, open_try, keep, other_plan, unfit_act, news, nothing_heard, stage, broker, Desk, Go, Hear, Input, Take, desk_turn, fuel, hears, note, note_if, reply, say, send, settle_up, state, all_effects, Heard, Reply, Adds, Hears, Ignored, FitsBook, FitsLog, IsReady, IsTidy, AnswerCame, EndCame, RestsOn, HasCome, HaveCauses, OfOpen, IsRested, TurnHolds, Answer, Got, Stored, Tree, Grew}
+use Rattle.broker_laws.proofs.Names.{Task, Effect, Outcome, Message, NodeId, Out, Post, Book, Try, book, close, enter, open_try, keep, other_plan, unfit_act, news, nothing_heard, stage, broker, Desk, Go, Hear, Input, Take, desk_turn, fuel, hears, note, note_if, reply, say, send, settle_up, state, all_effects, Heard, Reply, Adds, Hears, Ignored, FitsBook, FitsLog, IsReady, IsTidy, AnswerCame, EndCame, RestsOn, HasCome, HaveCauses, OfOpen, IsRested, TurnHolds, Answer, Got, Stored, Tree, Grew, inl, ◌≡◌, ℕ, zero, suc, ◌-◌, ◌≤◌, nat_lt, true, false, length, take, drop, List, [], ◌∷◌, ◌++◌, refl, sym, ◌∙◌, ap, subst, Option, Some, None, arith, append_assoc, common_steps, Added, crash, gate, has-left}
 use Rattle.effect_form.specs.declared.effects.Effect.TheVariants as effect
 use Rattle.effect_form.specs.declared.outcomes.Outcome.TheVariants as outcome
 use Rattle.broker_laws.proofs.Desks.{OwedOk, ReplyOk, news-came, note-state, owed-ok, row-ok, stage-ok}
 use Rattle.broker_laws.proofs.Fuel.{all-settled}
 use Rattle.broker_laws.proofs.Kept.{first-none, kept}
 use Rattle.broker_laws.proofs.Moves.{cut, grown}
-use Rattle.broker_laws.specs.Works.{Added, crash, gate}
-use Rattle.pseudo_time.proofs.ListLemmas.{has-left}
 
 module _ (script : List ℕ → Tree) (me : ℕ) where
   -- a ready log was ready before
@@ -37,11 +33,9 @@ module _ (script : List ℕ → Tree) (me : ℕ) where
     unfolding book other_plan
     ready-before log f t r =
         let n = first-none script me run acts (other_plan script me run acts log) (unfit_act script me run acts (book (keep script me run acts log)) f) r.same_plan in
-        let k : keep script me run acts log ≡ log = kept script me run acts log t.0 n.0 in
-        let k' : keep script me run acts (f ∷ log) ≡ f ∷ log = kept script me run acts (f ∷ log) t r.same_plan in
-        let e : nat_lt run (enter f (book log)).run ≡ false = subst (λ l. nat_lt run (book l).run ≡ false) k' r.not_old in
+        let e : nat_lt run (enter f (book log)).run ≡ false = subst (λ l. nat_lt run (book l).run ≡ false) (kept script me run acts (f ∷ log) t r.same_plan) r.not_old in
         record {
-          not_old = subst (λ l. nat_lt run (book l).run ≡ false) (sym k) (not-over run (book log).run (enter f (book log)).run (runs-rise (book log) f t.1) e);
+          not_old = subst (λ l. nat_lt run (book l).run ≡ false) (sym (kept script me run acts log t.0 n.0)) (not-over run (book log).run (enter f (book log)).run (runs-rise (book log) f t.1) e);
           same_plan = n.0;
         }
 
@@ -66,10 +60,7 @@ module _ (script : List ℕ → Tree) (me : ℕ) where
 
     -- gate and crash
     pub gate-ok : (ever : List Post) (d : Desk) → TurnHolds script me run acts ever d → TurnHolds script me run acts ever (gate d)
-    gate-ok ever d k = record {
-      desk = record { tidy = grown script me d.past d.added k.desk.tidy k.desk.grew; grew = tt; causes = k.desk.causes; outs = tt };
-      ready = k.ready;
-    }
+    gate-ok ever d k = record { desk = record { tidy = grown script me d.past d.added k.desk.tidy k.desk.grew; grew = tt; causes = k.desk.causes; outs = tt }; ready = k.ready }
 
     pub crash-ok : (ever : List Post) (kept : ℕ) (d : Desk) → TurnHolds script me run acts ever d → TurnHolds script me run acts ever (crash kept d)
     crash-ok ever kept d k =
@@ -112,8 +103,7 @@ module _ (script : List ℕ → Tree) (me : ℕ) where
     settle-added : (n : ℕ) (d : Desk) → Added script me run acts d (settle_up script me run acts n d)
     unfolding settle_up
     settle-added zero d = added-refl d
-    settle-added (suc n) d =
-        added-if (settle_up script me run acts n) (λ x. settle-added n x) d _ (owed-ok script me run acts [] (state script me run acts d) d.heard)
+    settle-added (suc n) d = added-if (settle_up script me run acts n) (λ x. settle-added n x) d _ (owed-ok script me run acts [] (state script me run acts d) d.heard)
 
     send-added : (d x : Desk) (o : Option Out) → Added script me run acts d x → Added script me run acts d (send o x)
     send-added d x None h = h
@@ -156,8 +146,7 @@ module _ (script : List ℕ → Tree) (me : ℕ) where
 
     reply-rests : (d : Desk) (r : Reply) → IsRested script me run acts d → IsRested script me run acts (reply script me run acts d r)
     reply-rests d Ignored h = h
-    reply-rests d (Hears x) h = say-rested _
-    reply-rests d (Adds f) h = say-rested _
+    reply-rests d _ h = say-rested _
 
     -- once rested, every turn leaves it rested
     pub turn-rests : (d : Desk) (i : Input) → IsRested script me run acts d → IsRested script me run acts (desk_turn script me run acts d i)

@@ -1,8 +1,6 @@
 -- A new try and a request come only after what they wait for came.
-use Rattle.std.proofs.Common.{◌≡◌, ℕ, List, [], Some, inl, inr, refl}
-use Rattle.broker_laws.proofs.Names.{Message, Post, Out, Tree, Task, Book, book, keep, news, nothing_heard, stage, standing, Desk, Input, Go, Hear, Take, state, desk_turn, HasCome, MayInput}
+use Rattle.broker_laws.proofs.Names.{Message, Post, Out, Tree, Task, Book, book, keep, news, nothing_heard, stage, standing, Desk, Input, Go, Hear, Take, state, desk_turn, HasCome, MayInput, ◌≡◌, ℕ, List, [], Some, inl, inr, refl, BegunCame, DecidedCame, Waits, OutSound, IsNoEnded, IsCalm}
 use Rattle.message_form.specs.declared.messages.Message.TheVariants as message
-use Rattle.broker_laws.specs.Waits.{BegunCame, DecidedCame, Waits, OutSound, IsNoEnded, IsCalm}
 use Rattle.broker_laws.proofs.BookTurns.{Tells, take-sound, go-sound, hear-sound, standing-sound}
 
 module _ (script : List ℕ → Tree) (me run : ℕ) (acts : List Task) (ever : List Post) where
@@ -15,8 +13,7 @@ module _ (script : List ℕ → Tree) (me run : ℕ) (acts : List Task) (ever : 
   pub turn-waits : (d : Desk) (i : Input) → MayInput me ever i → IsCalm i → Waits script me run acts ever d → Waits script me run acts ever (desk_turn script me run acts d i)
   turn-waits d Go may calm w = go-sound script me run acts (BegunCame me ever) (DecidedCame me ever) d w
   turn-waits d (Hear m) may calm w = hear-sound script me run acts (BegunCame me ever) (DecidedCame me ever) d m w
-  turn-waits d (Take from m) may calm w =
-      take-sound script me run acts (BegunCame me ever) (DecidedCame me ever) ever d from m (from, may) (tells (state script me run acts d) m (from, may) calm) w
+  turn-waits d (Take from m) may calm w = take-sound script me run acts (BegunCame me ever) (DecidedCame me ever) ever d from m (from, may) (tells (state script me run acts d) m (from, may) calm) w
 
   pub standing-waits : (d : Desk) (o : Out) → Waits script me run acts ever d → standing (stage script run (state script me run acts d) d.heard) ≡ Some o →
       OutSound run (BegunCame me ever) (DecidedCame me ever) (state script me run acts d) o.message
