@@ -10,7 +10,7 @@ use Rattle.serial_model.specs.Questions.{Tree}
 use Rattle.plan_form.specs.declared.plans.Plan.{Plan}
 use Rattle.plan_form.specs.PlanTexts.{IsOfLanguage}
 use Rattle.world_core.specs.declared.entries.Entry.{Entry}
-use Rattle.world_core.specs.declared.entries.Entry.TheVariants.{Take, Go, Learn, Hear, Gate, Crash, Down, Tick}
+use Rattle.world_core.specs.declared.entries.Entry.TheVariants.{Down}
 use Rattle.world_core.specs.declared.traces.Trace.{Trace}
 use Rattle.world_core.specs.Walks.{Base, Life, World, opened_log, is_down, names, start_world, step, walk_from, walk}
 use Rattle.world_core.specs.Legal.{Legal, base_of, in_plan}
@@ -39,14 +39,8 @@ same-by true l = refl
 same-by false l = refl
 
 down-step : (b : Base) (w : World) (e : Entry) (n : NodeId) → is_down e ≡ true → (step b w e).life n ≡ w.life n
-down-step b w (Take node number) n h = absurd (cc h)
-down-step b w (Go node) n h = absurd (cc h)
-down-step b w (Learn node stamp committed) n h = absurd (cc h)
-down-step b w (Hear node) n h = absurd (cc h)
-down-step b w (Gate node) n h = absurd (cc h)
-down-step b w (Crash node kept) n h = absurd (cc h)
 down-step b w (Down node cause) n h = same-by (names n (Down node cause) && (w.flags n).known) (w.life n)
-down-step b w (Tick moment) n h = absurd (cc h)
+down-step b w _ n h = absurd (cc h)
 
 downs-walk : (b : Base) (w : World) (es : List Entry) (n : NodeId) → AreDowns es → (walk_from b w es).life n ≡ w.life n
 unfolding walk_from
@@ -110,22 +104,14 @@ module _ (read : Plan → List ℕ → Tree) (plan : Plan) (t : Trace) (front : 
   abbrev call-of : EndsThere (read plan) plan t front → Call
   call-of e = record { plan = plan; asked = e.asked; trace = e.trace; kept = kept-of }
 
-  left-of : (e : EndsThere (read plan) plan t front) (n : NodeId) → in_plan plan n ≡ true → after n ≡ log_left read (call-of e) n
-  left-of e n within = kept-is n (in_plan plan n) refl within ∙ sym (ap (λ (l : Life). l.gated ++ take (kept-of n) l.fresh) (e.lives n))
-
   -- it is a run over what the calls before it left
-  is-call : (e : EndsThere (read plan) plan t front) (cs : List Earlier) → OpenedWith t.opened logs → ((n : NodeId) → logs n ≡ logs_left read cs n)
-      → IsCall read (logs_left read cs) (call-of e)
-  is-call e cs agrees had = record {
-    agrees = λ n log at. agrees n log (subst (λ o. opened_log o n ≡ Some log) e.opened at) ∙ had n;
-    legal = e.legal;
-    opened = λ n within was. e.all n was;
-  }
+  is-call : (e : EndsThere (read plan) plan t front) (cs : List Earlier) → OpenedWith t.opened logs → ((n : NodeId) → logs n ≡ logs_left read cs n) → IsCall read (logs_left read cs) (call-of e)
+  is-call e cs agrees had = record { agrees = λ n log at. agrees n log (subst (λ o. opened_log o n ≡ Some log) e.opened at) ∙ had n; legal = e.legal; opened = λ n within was. e.all n was }
 
   -- and leaves these logs
   leaves : (e : EndsThere (read plan) plan t front) (cs : List Earlier) → ((n : NodeId) → logs n ≡ logs_left read cs n) → (n : NodeId) (d : Bool) → in_plan plan n ≡ d
       → after n ≡ (if d then log_left read (call-of e) n else logs_left read cs n)
-  leaves e cs had n true h = left-of e n h
+  leaves e cs had n true h = kept-is n (in_plan plan n) refl h ∙ sym (ap (λ (l : Life). l.gated ++ take (kept-of n) l.fresh) (e.lives n))
   leaves e cs had n false h = left.others n h ∙ had n
 
 pub came-there : (read : Plan → List ℕ → Tree) (plan : Plan) (asked : List Asked) (t : Trace) (front rest : List Entry) (logs after : NodeId → List Effect)
