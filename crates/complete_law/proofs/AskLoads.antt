@@ -24,11 +24,7 @@ total-mono f g (s ∷ ss) h = let k = total-mono f g ss h in let j = h s in omeg
 
 apart : (f g : StampParts → ℕ) (w : StampParts) (ss : List StampParts) → ((s : StampParts) → same_stamp w s ≡ false → f s ≤ g s) → (Has w ss → ⊥) → total f ss ≤ total g ss
 apart f g w [] h n = omega arith
-apart f g w (x ∷ ss) h n = let k = apart f g w ss h (λ i. n (inr i)) in let j = go (same_stamp w x) refl in omega (arith, k, j)
-  where
-    go : (c : Bool) → same_stamp w x ≡ c → f x ≤ g x
-    go true e = absurd (n (inl (sym (same_stamp-is w x e))))
-    go false e = h x e
+apart f g w (x ∷ ss) h n = let k = apart f g w ss h (λ i. n (inr i)) in let j = (elim (same_stamp w x) as (λ c. same_stamp w x ≡ c → f x ≤ g x) [ true ↦ λ e. absurd (n (inl (sym (same_stamp-is w x e)))) | false ↦ λ e. h x e ]) refl in omega (arith, k, j)
 
 -- one stamp may be more by q
 total-more : (f g : StampParts → ℕ) (q : ℕ) (w : StampParts) (ss : List StampParts) → Single ss → ((s : StampParts) → same_stamp w s ≡ false → f s ≤ g s) → f w ≤ g w + q → total f ss ≤ total g ss + q
@@ -209,11 +205,7 @@ module _ (q : ℕ) where
 
     removed-fewer : (test : TimeParts → Bool) (held : List (TimeParts × HeldRead)) → Fewer (remove_entry test held) held
     removed-fewer test [] = ((λ s i. i), inl refl)
-    removed-fewer test (e ∷ es) = go (test e.0) (removed-fewer test es)
-      where
-        go : (c : Bool) → Fewer (remove_entry test es) es → Fewer (cond c es (e ∷ remove_entry test es)) (e ∷ es)
-        go true f = tail-fewer e es
-        go false f = cons-fewer e (remove_entry test es) es f
+    removed-fewer test (e ∷ es) = (elim (test e.0) as (λ c. Fewer (remove_entry test es) es → Fewer (cond c es (e ∷ remove_entry test es)) (e ∷ es)) [ true ↦ λ f. tail-fewer e es | false ↦ λ f. cons-fewer e (remove_entry test es) es f ]) (removed-fewer test es)
 
     fewer-free : (log : List Effect) (mid held : List (TimeParts × HeldRead)) → Fewer mid held → free log mid + times k mid ≤ free log held + times k held
     fewer-free log mid held (l, inl p) = subst (λ z. free log z + times k z ≤ free log held + times k held) (sym p) (omega arith)

@@ -1,10 +1,10 @@
 -- An entry at which a broker takes a turn keeps what always holds.
-use Rattle.complete_law.proofs.Names.{Has, every-map, has-right, has-either, StampParts, TimeParts, Decision, NodeId, Effect, Outcome, Message, Out, Grew, Post, post, Tree, HeldRead, Asker, waits_for, Heard, Ignored, Act, Book, Try, book, find, last_try, tries, tries_of, is_none, row, news, stage, standing, repository, broker, Task, Desk, desk_at, desk_turn, state, FitsLog, IsTidy, IsRested, grown, same_stamp-self, Base, Life, Sending, World, sent_by, all_effects, Waits, standing_at, read_to, older, BookSound, HasSettled, Trail, DeskSound, ask_of, tell_of, ◌≡◌, ◌≢◌, ◌⊎◌, ℕ, ◌==◌, true, false, List, [], ◌∷◌, ◌++◌, map, reverse, refl, sym, ◌∙◌, ap, subst, Option, Some, None, inl, inr, true≢false, IsLater, last-first, later-kept, HasStarted, OutSound, standing-sound, stands-to}
+use Rattle.complete_law.proofs.Names.{Has, every-map, has-right, has-either, StampParts, TimeParts, Decision, NodeId, Effect, Message, Out, Grew, Post, post, Tree, HeldRead, Asker, waits_for, Heard, Ignored, Act, Book, Try, book, find, last_try, tries, tries_of, is_none, row, news, stage, standing, repository, broker, Task, Desk, desk_at, state, FitsLog, IsTidy, IsRested, grown, same_stamp-self, Base, Life, Sending, World, sent_by, all_effects, Waits, standing_at, read_to, older, BookSound, HasSettled, Trail, DeskSound, ask_of, tell_of, ◌≡◌, ◌≢◌, ◌⊎◌, ℕ, ◌==◌, true, false, List, [], ◌∷◌, ◌++◌, map, reverse, refl, sym, ◌∙◌, ap, subst, Some, None, inl, inr, true≢false, IsLater, last-first, later-kept, HasStarted, OutSound, standing-sound, stands-to}
 use Rattle.pseudo_time.specs.declared.nodes.NodeKind.TheVariants as kind
 use Rattle.effect_form.specs.declared.effects.Effect.TheVariants as effect
 use Rattle.message_form.specs.declared.messages.Message.TheVariants as message
 use Rattle.broker_core.specs.Turns as desks
-use Rattle.complete_law.proofs.Places.{log_of, held_of, IsBegun, IsDecided, Flying, AskedFor, tasks_of, desk_of, standing_in, Placed, SaidOf, CalmWorld}
+use Rattle.complete_law.proofs.Places.{log_of, held_of, IsBegun, IsDecided, Flying, AskedFor, tasks_of, desk_of, standing_in, Placed, SaidOf, Ended, said-on, CalmWorld}
 use Rattle.complete_law.proofs.Frames.{OneTurn, life-with, turn-flies}
 
 -- what is sound stays sound as more has begun and is decided
@@ -123,9 +123,6 @@ module _ (b : Base) (w w' : World) (n : ℕ) (d : Desk) (from0 : NodeId) (m0 : M
   sent-same : sent_by w' ≡ sent_by w
   sent-same = ap (map (λ (s : Sending). s.post)) mv.sendings
 
-  abbrev Ended : StampParts → List Effect → Type 0
-  Ended s l = (t : Try) × (find s (tries (book l)) ≡ Some t) × (is_none t.end ≡ false)
-
   module _ (base-is : d.past ≡ log_of w (broker n)) (tidy : IsTidy b.script n d.past) (grew : Grew (FitsLog b.script n) d.past d.added) (sound : DeskSound b.script n b.run (tasks_of b n) (IsBegun w) (IsDecided w) d)
       (counts : state b.script n b.run (tasks_of b n) d ≡ book (desks.all_effects d)) where
     ended-more : (s : StampParts) (i : ℕ) → Ended s (log_of w (broker i)) → Ended s (log_of w' (broker i))
@@ -134,11 +131,7 @@ module _ (b : Base) (w w' : World) (n : ℕ) (d : Desk) (from0 : NodeId) (m0 : M
         (λ i o e. e)
 
     said-more : (i : ℕ) (m : Message) → SaidOf b w i m → SaidOf b w' i m
-    said-more i (message.Read x o) k = begun-more x.stamp k
-    said-more i (message.Write x o v) k = begun-more x.stamp k
-    said-more i (message.Commit s) k = begun-more s k
-    said-more i (message.Withdraw s) k = (begun-more s k.0, ended-more s i k.1)
-    said-more i _ k = tt
+    said-more i m k = said-on b w w' i begun-more (λ s. ended-more s i) m k
 
     -- what stands after the turn says what is so
     new-said : (m : Message) → OutSound b.script n b.run (tasks_of b n) (IsBegun w) (IsDecided w) (state b.script n b.run (tasks_of b n) d) m → SaidOf b w' n m

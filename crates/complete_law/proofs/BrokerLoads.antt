@@ -1,5 +1,5 @@
 -- What a broker has sent and owes is paid by its attempts, and those have no more than the plan allows.
-use Rattle.complete_law.proofs.Names.{Every, Effect, Outcome, Answer, Stop, Asks, Over, Tree, Heard, Act, Book, Try, book, tries_of, keep, stop_of, broker, Desk, desk_at, desk_turn, state, ToRead, ToWrite, EndsBy, IsPlayed, Entry, Going, Taking, Base, Life, World, opened_life, sent_by, start_world, step, after_input, Rule, MayGo, MayTake, AskAtMost, CalmPlace, CalmRun, IsUnstopped, log_at, world_at, ◌≡◌, ℕ, ◌+◌, ◌*◌, ◌≤◌, max, Bool, true, false, length, List, [], ◌∷◌, ◌++◌, reverse, refl, sym, ◌∙◌, ap, Option, Some, None, inl, inr, if◌then◌else◌, arith, true≢false}
+use Rattle.complete_law.proofs.Names.{Every, Effect, Outcome, Answer, Stop, Asks, Over, Tree, Heard, Act, Book, Try, book, tries_of, keep, stop_of, broker, desk_at, state, ToRead, ToWrite, EndsBy, IsPlayed, Entry, Going, Taking, Base, Life, World, sent_by, start_world, step, after_input, Rule, MayGo, MayTake, AskAtMost, CalmPlace, CalmRun, IsUnstopped, log_at, world_at, ◌≡◌, ℕ, ◌+◌, ◌*◌, ◌≤◌, Bool, true, false, length, List, [], ◌∷◌, ◌++◌, reverse, refl, sym, ◌∙◌, ap, Option, Some, None, inl, inr, if◌then◌else◌, arith, true≢false}
 use Rattle.effect_form.specs.declared.outcomes.Outcome.TheVariants as outcome
 use Rattle.broker_core.specs.Turns as desks
 use Rattle.world_core.specs.Walks as walks
@@ -11,7 +11,6 @@ use Rattle.complete_law.proofs.Frames.{desk-after, goes, life-with, takes, turne
 use Rattle.complete_law.proofs.Loads.{Fed, Kept, by-entry, issued, load, load-append, sent-load}
 use Rattle.complete_law.proofs.Places.{CalmWorld, IsBegun, IsDecided, desk_of, log_of, tasks_of}
 use Rattle.complete_law.proofs.Shares.{acts-share, asking-one, mul-mono, mul-plus, tries-allowed, tries-given}
-use Rattle.complete_law.proofs.Sizes.{spent-one}
 use Rattle.complete_law.proofs.Steps as steps
 use Rattle.complete_law.proofs.Steps.{Facts-at}
 

@@ -1,5 +1,5 @@
 -- The entries at which a broker takes a turn: it takes a message, or it goes.
-use Rattle.complete_law.proofs.Names.{Has, has-left, NodeId, NodeKind, Message, Out, Grew, Fate, Reply, Ignored, book, row, news, stage, broker, Desk, desk_at, desk_turn, reply, state, FitsLog, IsReady, IsTidy, TurnHolds, kept, grown, turn-added, Base, Flags, Life, World, sent_by, step, went, all_effects, MayTake, MayGo, Refines, logs_at, soft_of, node_turns, node_facts, NodeOk, around, happened, node-laws, facts-of, DeskSound, Tells, standing_at, ◌≡◌, ◌≢◌, ◌⊎◌, ℕ, ◌==◌, true, ◌&&◌, List, [], ◌∷◌, ◌++◌, reverse, refl, sym, ◌∙◌, ap, subst, Some, if◌then◌else◌, inl, inr, reverse-append, HaveCauses, desk-ok, turn-rests, go-rests, take-sound, go-sound, heard-says, go-says, take-stands, go-stands}
+use Rattle.complete_law.proofs.Names.{Has, has-left, NodeId, NodeKind, Message, Out, Grew, Fate, Reply, Ignored, book, row, news, stage, broker, Desk, reply, state, FitsLog, IsReady, IsTidy, TurnHolds, kept, grown, turn-added, Base, Flags, Life, World, sent_by, step, went, all_effects, MayTake, MayGo, Refines, logs_at, soft_of, node_turns, node_facts, NodeOk, around, happened, node-laws, facts-of, DeskSound, Tells, standing_at, ◌≡◌, ◌⊎◌, ℕ, true, List, [], ◌++◌, reverse, refl, sym, ◌∙◌, ap, subst, Some, if◌then◌else◌, inl, inr, reverse-append, HaveCauses, desk-ok, turn-rests, go-rests, take-sound, go-sound, heard-says, go-says, take-stands, go-stands}
 use Rattle.pseudo_time.specs.declared.nodes.NodeKind.TheVariants as kind
 use Rattle.message_form.specs.declared.messages.Message.TheVariants as message
 use Rattle.broker_core.specs.Turns as desks

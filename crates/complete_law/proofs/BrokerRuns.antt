@@ -1,5 +1,5 @@
 -- The only Run in a calm broker's log is that of its run. So its log has no more effects than its acts and their attempts may have.
-use Rattle.complete_law.proofs.Names.{Every, Decision, Effect, same_stamp, same_time, Got, Stored, ToRead, ToWrite, Tree, Heard, Reply, Adds, Hears, Ignored, Act, Book, Try, time_of, another, next_clock, shown_to, stop_of, after_act, after_tries, by_clock, by_stage, due, owed, start, try_or_spent, ends, News, Begun, Answered, Refusal, Over_there, Decided, row, news, when, decided_commit, decided_early, Stage, Refused, Opening, Asking, Finishing, Stopping, Closing, is_closed, is_finished, stage, standing, broker, Task, Desk, desk_at, desk_turn, fuel, hears, note_if, reply, say, settle_up, state, Out, Entry, gives, Learning, Base, Life, Sending, World, gated_life, lives_on, names, numbered, opened_life, start_world, step, after_input, took, all_effects, CalmPlace, IsUnstopped, world_at, ◌≡◌, ℕ, zero, suc, nat_lt, Bool, true, false, ◌&&◌, length, List, [], ◌∷◌, ◌++◌, reverse, refl, sym, ap, subst, Option, Some, None, if◌then◌else◌, append-nil, slice_get, Hearing}
+use Rattle.complete_law.proofs.Names.{Every, Decision, Effect, same_stamp, same_time, Got, Stored, ToRead, ToWrite, Tree, Heard, Reply, Adds, Hears, Ignored, Act, Book, Try, time_of, another, next_clock, shown_to, stop_of, after_act, after_tries, by_clock, by_stage, due, owed, start, try_or_spent, ends, News, Begun, Answered, Refusal, Over_there, Decided, row, news, when, decided_commit, decided_early, Stage, Refused, Opening, Asking, Finishing, Stopping, Closing, is_closed, is_finished, stage, standing, broker, Task, Desk, desk_turn, fuel, hears, note_if, reply, say, settle_up, state, Entry, gives, Learning, Base, Life, Sending, World, gated_life, lives_on, names, numbered, start_world, step, after_input, took, all_effects, CalmPlace, IsUnstopped, world_at, ◌≡◌, ℕ, zero, suc, nat_lt, Bool, true, false, ◌&&◌, length, List, [], ◌∷◌, ◌++◌, reverse, refl, sym, ap, subst, Option, Some, None, if◌then◌else◌, append-nil, slice_get, Hearing}
 use Rattle.pseudo_time.specs.declared.decisions.Decision.TheVariants as decision
 use Rattle.effect_form.specs.declared.effects.Effect.TheVariants as effect
 use Rattle.effect_form.specs.declared.outcomes.Outcome.TheVariants as outcome

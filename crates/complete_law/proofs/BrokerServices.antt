@@ -1,6 +1,6 @@
 -- A request that stands and is taken by its repository is answered, and heeded, or held.
 use Rattle.std.proofs.lemmas.Option.{same_Some}
-use Rattle.complete_law.proofs.Names.{Has, has-right, StampParts, TimeParts, same_stamp-self, Decision, NodeId, ObjectId, Message, Out, Grew, ToRead, ToWrite, HeldRead, Hand, record_of, accepts, on_message, hand_at, tidy-through, Heard, Ignored, Book, Try, book, find, open_try, time_of, tries, keep, news, row, Stage, Idle, Refused, Opening, Asking, Finishing, Stopping, Closing, is_finished, nothing_heard, stage, standing, repository, broker, state, FitsLog, IsTidy, Clocks, IsBelow, PostHolds, TurnHolds, StageOk, open-first, stage-ok, each-found, kept, clocks, Base, Life, World, sent_by, all_effects, Refines, logs_at, soft_of, node_turns, node_facts, NodeOk, around, happened, node-laws, facts-of, read_to, standing_at, has-record, StageSound, stage-sound, Keeps, Serves, each-has, ◌≡◌, ℕ, ◌==◌, Bool, true, false, [], ◌∷◌, ◌++◌, reverse, refl, sym, ◌∙◌, ap, subst, Some, None, if◌then◌else◌, inl, inr, reverse-append, decided-stands, PostOk, standing-ok, on-message-serves}
+use Rattle.complete_law.proofs.Names.{Has, has-right, StampParts, TimeParts, same_stamp-self, Decision, NodeId, ObjectId, Message, Out, Grew, ToRead, ToWrite, HeldRead, Hand, record_of, accepts, on_message, hand_at, tidy-through, Heard, Ignored, Book, Try, book, find, open_try, time_of, tries, keep, news, row, Stage, Idle, Refused, Opening, Asking, Finishing, Closing, is_finished, nothing_heard, stage, standing, repository, broker, state, FitsLog, IsTidy, Clocks, IsBelow, PostHolds, TurnHolds, StageOk, open-first, stage-ok, each-found, kept, clocks, Base, Life, World, sent_by, all_effects, Refines, logs_at, soft_of, node_turns, node_facts, NodeOk, around, happened, node-laws, facts-of, read_to, standing_at, has-record, StageSound, stage-sound, Keeps, Serves, each-has, ◌≡◌, ℕ, ◌==◌, Bool, true, false, [], ◌∷◌, ◌++◌, reverse, refl, sym, ◌∙◌, ap, subst, Some, None, if◌then◌else◌, inl, inr, reverse-append, decided-stands, PostOk, standing-ok, on-message-serves}
 use Rattle.commit_record.specs.declared.states.RecordState.TheVariants as records
 use Rattle.effect_form.specs.declared.effects.Effect.TheVariants as effect
 use Rattle.message_form.specs.declared.messages.Message.TheVariants as message

@@ -1,5 +1,5 @@
 -- What a broker's messages cost, by its book: each attempt pays u to begin, v for each request, and z to end. What it has sent is never more than its attempts have paid.
-use Rattle.complete_law.proofs.Names.{StampParts, TimeParts, same_stamp, same_time, same_stamp-self, Decision, Effect, Outcome, Message, Out, Answer, Got, Stored, Request, ToRead, ToWrite, Stop, Asks, Over, Tree, Heard, Reply, Adds, Hears, Ignored, Act, Book, Try, enter, finish, front, gain, last_try, new_try, on_act, on_front, on_try, open_front, open_of, open_try, time_of, tries_of, is_none, next_clock, shown_to, another, stop_of, after_act, after_tries, by_clock, by_stage, due, owed, start, try_or_spent, ends, News, Begun, Answered, Refusal, Over_there, Decided, row, news, when, decided_commit, decided_early, Stage, Idle, Refused, Opening, Asking, Finishing, Stopping, Closing, by_last, by_stop, is_asking, is_closed, is_finished, no_answer, of_open, stage, stage_of, standing, Task, is_stamp, is_time, Desk, desk_at, desk_turn, fuel, hears, note_if, reply, say, settle_up, state, StageOk, stage-ok, if-open, Post, NodeId, BookSound, StageSound, stage-sound, Tells, ◌≡◌, ℕ, zero, suc, ◌+◌, ◌≤◌, ◌==◌, max, nat_lt, Bool, true, false, ◌&&◌, ◌||◌, length, List, [], ◌∷◌, ◌++◌, refl, sym, ◌∙◌, ap, subst, Option, Some, None, if◌then◌else◌, arith, slice_get, common_steps, false≢true, Ending, if_open, Good, OwedOk, Stops, owed-ok, HasCome, ReplyOk, news-came, row-ok, enter-sound, ReplySound, owed-allowed, reply-sounds, settle-outs, state-note}
+use Rattle.complete_law.proofs.Names.{StampParts, TimeParts, same_stamp, same_time, same_stamp-self, Decision, Effect, Outcome, Message, Out, Answer, Got, Stored, Request, ToRead, ToWrite, Stop, Asks, Over, Tree, Heard, Reply, Adds, Hears, Ignored, Act, Book, Try, enter, finish, front, gain, last_try, new_try, on_act, on_front, on_try, open_front, open_of, open_try, time_of, tries_of, is_none, next_clock, shown_to, another, stop_of, after_act, after_tries, by_clock, by_stage, due, owed, start, try_or_spent, ends, News, Begun, Answered, Refusal, Over_there, Decided, row, news, when, decided_commit, decided_early, Stage, Idle, Refused, Opening, Asking, Finishing, Stopping, Closing, by_last, by_stop, is_asking, is_closed, is_finished, no_answer, of_open, stage, stage_of, standing, Task, is_stamp, is_time, Desk, desk_turn, fuel, hears, note_if, reply, say, settle_up, state, StageOk, stage-ok, if-open, Post, NodeId, BookSound, StageSound, stage-sound, Tells, ◌≡◌, ℕ, zero, suc, ◌+◌, ◌≤◌, ◌==◌, max, nat_lt, Bool, true, false, ◌&&◌, ◌||◌, length, List, [], ◌∷◌, ◌++◌, refl, sym, ◌∙◌, ap, subst, Option, Some, None, if◌then◌else◌, arith, slice_get, common_steps, false≢true, Ending, if_open, Good, OwedOk, Stops, owed-ok, HasCome, ReplyOk, news-came, row-ok, enter-sound, ReplySound, owed-allowed, reply-sounds, settle-outs, state-note}
 use Rattle.pseudo_time.specs.declared.decisions.Decision.TheVariants as decision
 use Rattle.value_form.specs.declared.endings.Ending.TheVariants as ending
 use Rattle.effect_form.specs.declared.effects.Effect.TheVariants as effect

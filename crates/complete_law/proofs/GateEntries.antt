@@ -1,5 +1,5 @@
 -- A gate moves what is open: messages that were owed were sent, and all else stands as it stood.
-use Rattle.complete_law.proofs.Names.{Has, StampParts, same_stamp, same_stamp-self, NodeId, Effect, Message, Out, Tree, or_else, settle_of, known, marks, Ignored, Heard, time_of, news, row, Stage, Idle, Refused, Opening, Asking, Finishing, Stopping, Closing, standing, repository, ToRead, ToWrite, decide-settles, settled-log, leaves, numbered, ◌≡◌, ◌⊎◌, ℕ, zero, suc, Bool, true, false, ◌||◌, not, List, [], ◌∷◌, ◌++◌, reverse, refl, sym, ◌∙◌, subst, Option, Some, None, slice_get, if◌then◌else◌, inl, inr, false≢true, has-reverse, knows, Nothing_new, has-at, Known, knows-has}
+use Rattle.complete_law.proofs.Names.{Has, StampParts, same_stamp, same_stamp-self, NodeId, Effect, Message, Out, Tree, or_else, settle_of, known, marks, Ignored, Heard, time_of, news, row, Stage, Refused, Opening, Asking, Finishing, Closing, standing, repository, ToRead, ToWrite, decide-settles, settled-log, leaves, numbered, ◌≡◌, ℕ, zero, suc, Bool, true, false, not, List, [], ◌∷◌, ◌++◌, reverse, refl, sym, ◌∙◌, subst, Option, Some, None, slice_get, if◌then◌else◌, inl, inr, false≢true, has-reverse, knows, Nothing_new, has-at, Known, knows-has}
 use Rattle.effect_form.specs.declared.effects.Effect.TheVariants as effect
 use Rattle.message_form.specs.declared.messages.Message.TheVariants as message
 

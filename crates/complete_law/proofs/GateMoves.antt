@@ -1,13 +1,12 @@
 -- The entry Gate keeps what always holds.
-use Rattle.complete_law.proofs.Names.{Has, has-either, has-right, StampParts, TimeParts, Decision, NodeId, Effect, Message, Out, Post, post, posts, same_node, same_node-refl, HeldRead, Asker, known, waits_for, Heard, Try, book, find, tries, is_none, Ignored, row, news, stage, repository, broker, desk_at, state, IsRested, leaves, Base, Flags, Life, Sending, World, flagged, gated_life, leaving, lives_on, numbered, sent_by, step, all_effects, MayGate, times_taken, Refines, node_turns, node_facts, sent-gate, Waits, read_to, standing_at, DeskSound, filter-has, ask_of, tell_of, map-has, ◌≡◌, ◌⊎◌, ℕ, suc, ◌≤◌, ◌==◌, Bool, true, false, ◌&&◌, List, [], map, reverse, refl, sym, ◌∙◌, ap, subst, Some, None, if◌then◌else◌, inl, inr, append-nil, arith, reverse-append, filter, step-known, unknown-stays, has-filter, has-map}
+use Rattle.complete_law.proofs.Names.{Has, has-either, has-right, StampParts, TimeParts, Decision, NodeId, Effect, Message, Out, Post, post, posts, same_node, same_node-refl, HeldRead, Asker, known, waits_for, Heard, Ignored, row, news, stage, repository, broker, desk_at, state, IsRested, leaves, Base, Flags, Life, Sending, World, flagged, gated_life, leaving, lives_on, numbered, sent_by, step, all_effects, MayGate, times_taken, Refines, node_turns, node_facts, sent-gate, Waits, read_to, standing_at, DeskSound, filter-has, ask_of, tell_of, map-has, ◌≡◌, ◌⊎◌, ℕ, suc, ◌≤◌, ◌==◌, Bool, true, false, ◌&&◌, List, [], map, reverse, refl, sym, ◌∙◌, ap, subst, Some, None, if◌then◌else◌, inl, inr, append-nil, arith, reverse-append, filter, step-known, unknown-stays, has-filter, has-map}
 use Rattle.effect_form.specs.declared.effects.Effect.TheVariants as effect
-use Rattle.message_form.specs.declared.messages.Message.TheVariants as message
 use Rattle.world_core.specs.declared.entries.Entry.TheVariants as entry
 use Rattle.complete_law.proofs.BrokerEntries.{sound-more}
 use Rattle.complete_law.proofs.Frames.{not-same, parted}
 use Rattle.complete_law.proofs.GateEntries.{answer-leaves, ask-leaves, at-end, numbered-before, numbered-kept, request-leaves}
 use Rattle.complete_law.proofs.Idles.{waits-has}
-use Rattle.complete_law.proofs.Places.{log_of, gated_of, held_of, IsBegun, IsDecided, Flying, AskedFor, tasks_of, desk_of, standing_in, Placed, SaidOf, CalmWorld, all-off, both-on}
+use Rattle.complete_law.proofs.Places.{log_of, gated_of, held_of, IsBegun, IsDecided, Flying, AskedFor, tasks_of, desk_of, standing_in, Placed, SaidOf, Ended, said-on, CalmWorld, all-off, both-on}
 
 module _ (b : Base) (w : World) (calm : CalmWorld b w) (f : Refines (node_turns b.script) (node_facts b.script) b (λ n. []) (λ n. []) [] (λ t. ⊥) w) (n : NodeId) (may : MayGate w n) where
   abbrev w' : World
@@ -81,15 +80,8 @@ module _ (b : Base) (w : World) (calm : CalmWorld b w) (f : Refines (node_turns 
   was-gone : (m : NodeId) → (w'.flags m).gone ≡ true → (w.flags m).gone ≡ true
   was-gone m g = sym (gone-same m (same_node n m && (w.flags m).known)) ∙ g
 
-  abbrev Ended : StampParts → List Effect → Type 0
-  Ended s l = (t : Try) × (find s (tries (book l)) ≡ Some t) × (is_none t.end ≡ false)
-
   said-more : (i : ℕ) (m : Message) → SaidOf b w i m → SaidOf b w' i m
-  said-more i (message.Read x o) k = begun-more x.stamp k
-  said-more i (message.Write x o v) k = begun-more x.stamp k
-  said-more i (message.Commit s) k = begun-more s k
-  said-more i (message.Withdraw s) k = (begun-more s k.0, subst (Ended s) (sym (log-same (broker i))) k.1)
-  said-more i _ k = tt
+  said-more i m k = said-on b w w' i begun-more (λ s. subst (Ended s) (sym (log-same (broker i)))) m k
 
   said : (i : ℕ) (o : Out) → Has o (w'.life (broker i)).outs ⊎ Has (post (broker i) o) (sent_by w') → SaidOf b w' i o.message
   said i o (inl h) = said-more i o.message (calm.said i o (inl (outs-less (broker i) o h)))

@@ -21,11 +21,7 @@ module _ (wt : Message → ℕ) where
 
   load-filter : (test : Out → Bool) (xs : List Out) → load (filter test xs) ≤ load xs
   load-filter test [] = omega arith
-  load-filter test (x ∷ xs) = go (test x) (load-filter test xs)
-    where
-      go : (c : Bool) → load (filter test xs) ≤ load xs → load (if c then x ∷ filter test xs else filter test xs) ≤ wt x.message + load xs
-      go true k = omega (arith, k)
-      go false k = omega (arith, k)
+  load-filter test (x ∷ xs) = (elim (test x) as (λ c. load (filter test xs) ≤ load xs → load (if c then x ∷ filter test xs else filter test xs) ≤ wt x.message + load xs) [ true ↦ λ k. omega (arith, k) | false ↦ λ k. omega (arith, k) ]) (load-filter test xs)
 
   abbrev pub sent-load : NodeId → List Sending → ℕ
   sent-load n [] = 0
@@ -37,11 +33,7 @@ module _ (wt : Message → ℕ) where
 
   mapped-load : (n m : NodeId) (ticks : ℕ) (os : List Out) → sent-load n (map (λ (p : Post). record { post = p; ticks = ticks }) (posts m os)) ≡ if-from (same_node m n) (load os)
   mapped-load n m ticks [] = elim (same_node m n) as (λ c. 0 ≡ if-from c 0) [ true ↦ refl | false ↦ refl ]
-  mapped-load n m ticks (o ∷ os) = let k = mapped-load n m ticks os in let j = go (same_node m n) in omega (arith, k, j)
-    where
-      go : (c : Bool) → if-from c (wt o.message) + if-from c (load os) ≡ if-from c (wt o.message + load os)
-      go true = omega arith
-      go false = omega arith
+  mapped-load n m ticks (o ∷ os) = let k = mapped-load n m ticks os in let j = (elim (same_node m n) as (λ c. if-from c (wt o.message) + if-from c (load os) ≡ if-from c (wt o.message + load os)) [ true ↦ omega arith | false ↦ omega arith ]) in omega (arith, k, j)
 
   -- what a gate sends
   leaving-load : (w : World) (n m : NodeId) → sent-load n (map (λ (p : Post). record { post = p; ticks = w.ticks }) (leaving w m)) ≤ if-from (same_node m n) (load (w.life m).outs)

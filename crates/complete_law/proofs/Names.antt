@@ -104,11 +104,11 @@ pub use Rattle.value_form.specs.declared.acts.ActSpec.{ActSpec}
 pub use Rattle.value_form.specs.declared.endings.Ending.{Ending}
 pub use Rattle.value_form.specs.declared.objects.ObjectId.{ObjectId}
 pub use Rattle.value_form.specs.declared.values.Value.{Value}
-pub use Rattle.world_core.specs.Legal.{IsIdle, JustNodes, MayGate, MayGo, MayHear, MayLearn, MayTake, Rule, base_of, fates_of, in_plan, times_taken}
+pub use Rattle.world_core.specs.Legal.{JustNodes, MayGate, MayGo, MayHear, MayLearn, MayTake, Rule, base_of, fates_of, times_taken}
 unfoldable pub use Rattle.world_core.specs.Legal.{Meets}
 pub use Rattle.world_core.specs.Nodes.{acts_of, leaves}
 unfoldable pub use Rattle.world_core.specs.Nodes.{gives}
 pub use Rattle.world_core.specs.Nodes.Input.{Going, Hearing, Learning, Taking}
-pub use Rattle.world_core.specs.Walks.{Base, Flags, Life, Sending, World, after_input, all_effects, flagged, gated_life, learned, leaving, lives_on, names, numbered, opened_life, opened_log, sendings_after, sent_by, start_world, step, taken_after, took, went}
+pub use Rattle.world_core.specs.Walks.{Base, Flags, Life, Sending, World, after_input, all_effects, flagged, gated_life, learned, leaving, lives_on, names, numbered, opened_life, opened_log, sent_by, start_world, step, took, went}
 unfoldable pub use Rattle.world_core.specs.Walks.{walk_from}
 pub use Rattle.world_core.specs.declared.entries.Entry.{Entry}

@@ -1,5 +1,5 @@
 -- With one broker no write is refused, at any calm place.
-use Rattle.complete_law.proofs.Names.{Every, Has, has-right, StampParts, TimeParts, lt, NodeId, NodeKind, broker, repository, same_node, ObjectId, Value, Effect, Outcome, Message, same_node-refl, Out, Grew, Post, WasSent, post, Answer, Asks, Got, Over, Request, Stored, ToRead, ToWrite, stop, WriteStep, floor_of, stands_written, write_step, and-left, and-right, eq-from, Hand, accepts, is_broker_of, on_learn, on_message, hand_at, known, marks, tidy-through, broker-is, Book, Try, book, find, tries, tries_of, state, EndsBy, FitsLog, IsTidy, EndCame, IsAskOf, IsPlayed, IsProven, PostHolds, TurnHolds, each-found, one-request, kept, post-grown, played, proven, Entry, Base, Life, Sending, World, sent_by, start_world, step, Rule, base_of, LogFacts, Refines, logs_at, soft_of, kind_post, node_facts, node_turns, NodeOk, around, happened, each-has, node-laws, facts-of, CalmPlace, IsUnstopped, IsRefusal, book_at, log_at, sent_at, world_at, found-in, ◌≡◌, ◌≢◌, ◌⊎◌, ℕ, ◌+◌, ◌≤◌, ◌==◌, nat_le, Bool, true, false, ◌&&◌, length, List, [], ◌∷◌, ◌++◌, map, reverse, refl, sym, ◌∙◌, ap, subst, Option, Some, None, if◌then◌else◌, inl, inr, append-nil, arith, common_steps, false≢true, true≢false, reverse-append, lt-asymmetric, lt-irreflexive, Ending, put-logged, grown-floor, grown-floors, IsFitting, at, WasRefused}
+use Rattle.complete_law.proofs.Names.{Every, Has, has-right, StampParts, TimeParts, lt, NodeId, NodeKind, broker, repository, same_node, ObjectId, Value, Effect, Outcome, Message, same_node-refl, Out, Grew, Post, WasSent, post, Answer, Asks, Got, Over, Request, Stored, ToRead, ToWrite, stop, WriteStep, floor_of, stands_written, write_step, and-left, and-right, eq-from, Hand, accepts, is_broker_of, on_learn, on_message, hand_at, known, marks, tidy-through, broker-is, Book, Try, book, find, tries, tries_of, state, EndsBy, FitsLog, IsTidy, EndCame, IsAskOf, IsPlayed, IsProven, PostHolds, TurnHolds, each-found, one-request, kept, post-grown, played, proven, Entry, Base, Life, Sending, World, sent_by, start_world, step, Rule, base_of, LogFacts, Refines, logs_at, soft_of, kind_post, node_facts, node_turns, NodeOk, around, happened, each-has, node-laws, facts-of, CalmPlace, IsUnstopped, IsRefusal, book_at, log_at, sent_at, world_at, found-in, ◌≡◌, ◌≢◌, ◌⊎◌, ℕ, ◌+◌, ◌==◌, nat_le, Bool, true, false, ◌&&◌, length, List, [], ◌∷◌, ◌++◌, map, reverse, refl, sym, ◌∙◌, ap, subst, Option, Some, None, if◌then◌else◌, inl, inr, append-nil, arith, common_steps, false≢true, true≢false, reverse-append, lt-asymmetric, lt-irreflexive, Ending, put-logged, grown-floor, grown-floors, IsFitting, at, WasRefused}
 use Rattle.pseudo_time.specs.declared.decisions.Decision.TheVariants as decision
 use Rattle.pseudo_time.specs.declared.nodes.NodeKind.TheVariants as kind
 use Rattle.effect_form.specs.declared.effects.Effect.TheVariants as effect
@@ -10,7 +10,6 @@ use Rattle.object_history.specs.declared.marks.Mark.TheVariants as mark
 use Rattle.object_history.proofs.AnswerLemmas.{later-read, later-version}
 use Rattle.repository_laws.specs.Facts as repositories
 use Rattle.broker_laws.specs.Waits.{Trail}
-use Rattle.world_core.specs.declared.entries.Entry.TheVariants as entry
 use Rattle.serial_law.proofs.OldChains.{grown-alone, grown-more}
 use Rattle.complete_law.proofs.BrokerMoves.{node-there, turn-there}
 use Rattle.complete_law.proofs.Frames.{came-sent}

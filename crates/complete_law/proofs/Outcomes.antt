@@ -127,8 +127,4 @@ module _ (p : CalmPlace) where
   unknown-book n off = ap (λ (l : Life). (book (keep base.script n base.run (tasks_of base n) (reverse (walks.all_effects l)))).acts) ((calm-there p).outside (broker n) off)
 
   pub outcomes : AllDone p → (n : ℕ) → Every HasOutcome (book_at p n).acts
-  outcomes all n = go (w.flags (broker n)).known refl
-    where
-      go : (c : Bool) → (w.flags (broker n)).known ≡ c → Every HasOutcome (book_at p n).acts
-      go true e = known-outcomes n e all
-      go false e = subst (λ as'. Every HasOutcome as') (sym (unknown-book n e)) tt
+  outcomes all n = (elim (w.flags (broker n)).known as (λ c. (w.flags (broker n)).known ≡ c → Every HasOutcome (book_at p n).acts) [ true ↦ λ e. known-outcomes n e all | false ↦ λ e. subst (λ as'. Every HasOutcome as') (sym (unknown-book n e)) tt ]) refl

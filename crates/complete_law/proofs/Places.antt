@@ -42,6 +42,10 @@ AskedFor w r s =
     Flying w (repository r) (ask_of s) ⊎ (Has (record { repository = r; stamp = s }) (w.life (repository s.home)).mind.hands.askers
     ⊎ ((c : Bool) × Flying w (repository s.home) (tell_of (record { repository = r; stamp = s }) c)))
 
+-- the attempt of this stamp that the log has, has ended
+abbrev pub Ended : StampParts → List Effect → Type 0
+Ended s l = (t : Try) × (find s (tries (book l)) ≡ Some t) × (is_none t.end ≡ false)
+
 module _ (b : Base) where
   abbrev pub tasks_of : ℕ → List Task
   tasks_of n = tasks (acts_of n b.acts)
@@ -67,8 +71,16 @@ module _ (b : Base) where
   SaidOf w n (message.Read x o) = IsBegun w x.stamp
   SaidOf w n (message.Write x o v) = IsBegun w x.stamp
   SaidOf w n (message.Commit s) = IsBegun w s
-  SaidOf w n (message.Withdraw s) = IsBegun w s × ((t : Try) × (find s (tries (book (log_of w (broker n)))) ≡ Some t) × (is_none t.end ≡ false))
+  SaidOf w n (message.Withdraw s) = IsBegun w s × Ended s (log_of w (broker n))
   SaidOf w n m = Unit {0}
+
+  -- what was said stays so, where what has begun and what has ended stays so
+  pub said-on : (w w' : World) (n : ℕ) → ((s : StampParts) → IsBegun w s → IsBegun w' s) → ((s : StampParts) → Ended s (log_of w (broker n)) → Ended s (log_of w' (broker n))) → (m : Message) → SaidOf w n m → SaidOf w' n m
+  said-on w w' n f g (message.Read x o) k = f x.stamp k
+  said-on w w' n f g (message.Write x o v) k = f x.stamp k
+  said-on w w' n f g (message.Commit s) k = f s k
+  said-on w w' n f g (message.Withdraw s) k = (f s k.0, g s k.1)
+  said-on w w' n f g _ k = tt
 
   pub record CalmWorld (w : World) : Type 0 where
     -- of all nodes

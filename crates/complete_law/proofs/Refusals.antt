@@ -1,13 +1,12 @@
 -- A turn of a repository refuses nothing but the write that it takes, and this one only where its log says so.
 use Rattle.std.specs.Cmp.{signed_Decides}
 use Rattle.std.specs.Cmp.Lexicographic.{bytes_decides}
-use Rattle.complete_law.proofs.Names.{Every, Has, every-append, every-map, StampParts, TimeParts, lt, same_time, same_time-of, NodeId, ObjectId, Value, Effect, Message, Out, WriteStep, read_step, stands_written, write_step, floor_of, is_settled, Hand, note, send, accepts, on_learn, on_message, on_write, write_as, hand_at, known, marks, HeldRead, every-of, IsRefusal, ◌≡◌, Bool, true, false, ◌&&◌, ℕ, List, [], ◌∷◌, refl, sym, ◌∙◌, ap, subst, Option, Some, None, if◌then◌else◌, inl, inr, true≢false, or_left, or_right, has_put, alive, is_alive, same_object-of, and-both, Mind}
+use Rattle.complete_law.proofs.Names.{Every, Has, every-append, every-map, StampParts, TimeParts, lt, same_time, same_time-of, NodeId, ObjectId, Value, Effect, Message, Out, WriteStep, stands_written, write_step, floor_of, is_settled, Hand, note, send, accepts, on_learn, on_message, on_write, write_as, hand_at, known, marks, HeldRead, every-of, IsRefusal, ◌≡◌, Bool, true, false, ◌&&◌, ℕ, List, [], ◌∷◌, refl, sym, ◌∙◌, ap, subst, Option, Some, None, if◌then◌else◌, inl, inr, true≢false, or_left, or_right, has_put, alive, is_alive, same_object-of, and-both, Mind}
 use Rattle.value_form.specs.declared.values.Value.TheVariants.{Nothing, Number, Text}
 use Rattle.effect_form.specs.declared.effects.Effect.TheVariants as effect
 use Rattle.message_form.specs.declared.messages.Message.TheVariants as message
 use Rattle.object_history.specs.declared.marks.Mark.{Mark}
 use Rattle.object_history.specs.declared.marks.Mark.TheVariants as mark
-use Rattle.object_history.specs.declared.steps.ReadStep.TheVariants as read
 use Rattle.object_history.specs.declared.steps.WriteStep.TheVariants as write
 use Rattle.object_history.specs.Objects.{same_object, same_value}
 use Rattle.world_core.proofs.Refusals.{Ok, OfRequest, OnFloor, Says, on-learn, on-message, refused-under}

@@ -1,5 +1,5 @@
 -- An entry at which a repository takes a turn keeps what always holds, where the message that it took is served.
-use Rattle.complete_law.proofs.Names.{Has, every-has, has-right, StampParts, TimeParts, Decision, NodeId, ObjectId, Effect, Message, Out, Post, post, ToRead, ToWrite, HeldRead, Asker, Hand, now, waits_for, hand_at, on_learn, on_message, gives, after_input, Taking, Learning, Heard, Ignored, Try, book, find, time_of, tries, is_none, row, news, Stage, Idle, Refused, Opening, Asking, Finishing, Stopping, Closing, stage, standing, repository, broker, desk_at, state, IsRested, Base, Life, Sending, World, sent_by, all_effects, Waits, standing_at, read_to, Askers, DeskSound, Answers, Keeps, Serves, ask_of, tell_of, ◌≡◌, ◌≢◌, ◌⊎◌, ℕ, ◌≤◌, ◌==◌, Bool, true, false, List, ◌++◌, map, reverse, refl, sym, ◌∙◌, ap, subst, Some, inl, inr, append_assoc, reverse-append, reverse-reverse, mind_of}
+use Rattle.complete_law.proofs.Names.{Has, every-has, has-right, StampParts, TimeParts, Decision, NodeId, ObjectId, Effect, Message, Out, Post, post, ToRead, ToWrite, HeldRead, Asker, Hand, now, waits_for, hand_at, on_learn, on_message, gives, after_input, Taking, Learning, Heard, Ignored, Try, time_of, row, news, Stage, Refused, Opening, Asking, Finishing, Closing, stage, standing, repository, broker, desk_at, state, IsRested, Base, Life, Sending, World, all_effects, Waits, standing_at, read_to, Askers, DeskSound, Answers, Keeps, Serves, ask_of, tell_of, ◌≡◌, ◌≢◌, ◌⊎◌, ℕ, ◌==◌, Bool, true, false, List, ◌++◌, map, reverse, refl, sym, ◌∙◌, ap, subst, Some, inl, inr, append_assoc, reverse-append, reverse-reverse, mind_of}
 use Rattle.pseudo_time.specs.declared.nodes.NodeKind.TheVariants as kind
 use Rattle.effect_form.specs.declared.effects.Effect.TheVariants as effect
 use Rattle.message_form.specs.declared.messages.Message.TheVariants as message
@@ -7,7 +7,7 @@ use Rattle.complete_law.proofs.BrokerEntries.{sound-more}
 use Rattle.complete_law.proofs.Answering.{heeds-read}
 use Rattle.repository_core.specs.Turns as hands
 use Rattle.complete_law.proofs.Frames.{OneTurn, turn-flies, turn-outside, turn-shut, turn-still, turn-ups}
-use Rattle.complete_law.proofs.Places.{log_of, held_of, IsBegun, IsDecided, Flying, AskedFor, tasks_of, desk_of, standing_in, Heeds, Placed, SaidOf, CalmWorld}
+use Rattle.complete_law.proofs.Places.{log_of, held_of, IsBegun, IsDecided, Flying, AskedFor, tasks_of, desk_of, standing_in, Heeds, Placed, SaidOf, Ended, said-on, CalmWorld}
 
 -- a life after a repository's turn
 abbrev pub life-hand : Life → Hand → Life
@@ -72,15 +72,8 @@ module _ (b : Base) (w w' : World) (n : ℕ) (h : Hand) (Taken : Post → Type 0
   for-brokers : (P : ℕ → List Effect → Heard → Type 0) → ((i : ℕ) → P i (log_of w (broker i)) (w.life (broker i)).mind.heard) → (i : ℕ) → P i (log_of w' (broker i)) (w'.life (broker i)).mind.heard
   for-brokers P k i = subst (λ (l : Life). P i (reverse (all_effects l)) l.mind.heard) (sym (broker-life i)) (k i)
 
-  abbrev Ended : StampParts → List Effect → Type 0
-  Ended s l = (t : Try) × (find s (tries (book l)) ≡ Some t) × (is_none t.end ≡ false)
-
   said-more : (i : ℕ) (m : Message) → SaidOf b w i m → SaidOf b w' i m
-  said-more i (message.Read x o) k = begun-more x.stamp k
-  said-more i (message.Write x o v) k = begun-more x.stamp k
-  said-more i (message.Commit s) k = begun-more s k
-  said-more i (message.Withdraw s) k = (begun-more s k.0, subst (λ (l : Life). Ended s (reverse (all_effects l))) (sym (broker-life i)) k.1)
-  said-more i _ k = tt
+  said-more i m k = said-on b w w' i begun-more (λ s. subst (λ (l : Life). Ended s (reverse (all_effects l))) (sym (broker-life i))) m k
 
   -- a held read is still held or is answered
   held-there : (r : ℕ) (e : TimeParts × HeldRead) → Keeps R agree old (λ x. ⊥) (λ x. ⊥) h → Has e (held_of w r) → (r ≡ n → Serves h e.0 e.1.object e.1.from) × (r ≢ n → Has e (held_of w' r))

@@ -1,5 +1,5 @@
 -- What a repository has sent, owes, stores, holds and keeps is paid by the messages that it took, and each is taken once.
-use Rattle.complete_law.proofs.Names.{Every, StampParts, same_node, same_node-refl, copies_of, Post, Hand, now, hand_at, accepts, on_learn, on_message, HeldHolds, begun-fine, on-learn-fine, take-fine, repository, count, Entry, Taking, Learning, Base, Life, Sending, World, leaving, numbered, sent_by, start_world, step, after_input, MayLearn, MayTake, Rule, times_taken, every-at, CalmPlace, CalmRun, IsPlain, IsUnstopped, world_at, ◌≡◌, ℕ, zero, suc, ◌+◌, ◌≤◌, ◌<◌, ◌==◌, min, Bool, true, false, List, [], ◌∷◌, ◌++◌, map, reverse, cond, refl, sym, ◌∙◌, ap, subst, Some, if◌then◌else◌, arith, slice_get, common_steps, false≢true, sendings_after, taken_after}
+use Rattle.complete_law.proofs.Names.{Every, StampParts, same_node, same_node-refl, copies_of, Post, Hand, now, hand_at, accepts, on_learn, on_message, HeldHolds, begun-fine, on-learn-fine, take-fine, repository, count, Entry, Taking, Learning, Base, Life, Sending, World, leaving, numbered, sent_by, start_world, step, after_input, MayLearn, MayTake, Rule, times_taken, every-at, CalmPlace, CalmRun, IsPlain, IsUnstopped, world_at, ◌≡◌, ℕ, zero, suc, ◌+◌, ◌≤◌, ◌<◌, ◌==◌, min, Bool, true, false, List, [], ◌∷◌, ◌++◌, map, reverse, cond, refl, sym, ◌∙◌, ap, subst, Some, if◌then◌else◌, arith, slice_get, common_steps, false≢true}
 use Rattle.world_core.specs.declared.entries.Entry.TheVariants as entry
 use Rattle.world_core.specs.Walks as walks
 use Rattle.complete_law.proofs.BrokerMoves.{node-there}

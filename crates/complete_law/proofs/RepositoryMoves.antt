@@ -1,5 +1,5 @@
 -- The entries at which a repository takes a turn: it learns a decision, or it takes a message.
-use Rattle.complete_law.proofs.Names.{Every, Has, has-left, every-has, has-right, StampParts, TimeParts, NodeId, NodeKind, ObjectId, Effect, Message, Out, Post, post, eq-from, Fate, ToRead, HeldRead, Hand, now, accepts, is_broker_of, on_learn, on_message, waits_for, known, hand_at, HasBegun, HeldHolds, broker-is, and-left, and-right, begun-fine, on-learn-fine, take-fine, Ignored, row, news, desk_at, state, book, tries, stage, repository, broker, one-request, Base, Flags, Life, World, sent_by, step, all_effects, MayTake, LogFacts, Refines, logs_at, soft_of, kind_post, node_turns, node_facts, NodeOk, SentOk, around, happened, each-has, every-of, node-laws, facts-of, Waits, read_to, Askers, Keeps, ask_of, tell_of, has-record, ◌≡◌, ◌⊎◌, ℕ, ◌==◌, Bool, true, false, ◌&&◌, List, [], ◌∷◌, ◌++◌, reverse, refl, sym, ◌∙◌, ap, subst, Option, Some, None, if◌then◌else◌, inl, inr, eq-eqb, false≢true, reverse-append, ReadSent, learned, on-learn-askers, on-message-askers, ask-serves}
+use Rattle.complete_law.proofs.Names.{Every, Has, has-left, every-has, has-right, StampParts, TimeParts, NodeId, NodeKind, ObjectId, Effect, Message, Out, Post, post, eq-from, Fate, ToRead, HeldRead, Hand, now, accepts, is_broker_of, on_learn, on_message, waits_for, known, hand_at, HasBegun, HeldHolds, broker-is, and-left, and-right, begun-fine, on-learn-fine, take-fine, Ignored, row, news, desk_at, state, book, tries, stage, repository, broker, one-request, Base, Flags, Life, World, sent_by, step, all_effects, MayTake, LogFacts, Refines, logs_at, kind_post, node_turns, node_facts, SentOk, each-has, every-of, node-laws, facts-of, Waits, read_to, Askers, Keeps, ask_of, tell_of, has-record, ◌≡◌, ◌⊎◌, ℕ, ◌==◌, Bool, true, false, List, [], ◌++◌, reverse, refl, sym, ◌∙◌, ap, subst, Option, Some, None, if◌then◌else◌, inl, inr, eq-eqb, false≢true, reverse-append, ReadSent, learned, on-learn-askers, on-message-askers, ask-serves}
 use Rattle.pseudo_time.specs.declared.nodes.NodeKind.TheVariants as kind
 use Rattle.effect_form.specs.declared.effects.Effect.TheVariants as effect
 use Rattle.message_form.specs.declared.messages.Message.TheVariants as message

@@ -1,5 +1,5 @@
 -- Of nodes at rest every broker is done: a read waits for a smaller stamp alone, so the broker of the least stamp that is waited for would have an answer due.
-use Rattle.complete_law.proofs.Names.{Every, Has, StampParts, TimeParts, same_stamp, stamp_lt, lt, same_stamp-is, same_stamp-self, ObjectId, Outcome, Out, ToRead, ToWrite, Stop, Asks, Over, Tree, HeldRead, waits_for, WriteSent, InRange, Heard, Act, Book, Try, book, tries, tries_of, find, front, last_try, open_try, open_of, open_front, time_of, is_none, stop_of, Stage, Idle, Refused, Opening, Asking, Finishing, Stopping, Closing, by_stop, by_last, of_open, stage_of, stage, standing, is_asking, is_closed, no_answer, repository, owed, by_stage, Task, is_stamp, is_time, desk_at, state, kept, each-found, StageOk, stage-ok, if-open, Waits, DecidedAt, standing_at, is_done, read_to, AtRest, ◌≡◌, ◌≢◌, ◌⊎◌, ℕ, nat_lt, Bool, true, false, ◌&&◌, ◌||◌, List, [], ◌∷◌, ◌++◌, refl, sym, ◌∙◌, ap, subst, Option, Some, None, if◌then◌else◌, inl, inr, false≢true, eq-eqb, or_right, lt-own}
+use Rattle.complete_law.proofs.Names.{Every, Has, StampParts, TimeParts, same_stamp, stamp_lt, lt, same_stamp-is, same_stamp-self, ObjectId, Outcome, Out, ToRead, ToWrite, Stop, Asks, Over, Tree, HeldRead, waits_for, InRange, Heard, Act, Book, Try, book, tries, tries_of, find, front, last_try, open_try, open_of, open_front, time_of, is_none, stop_of, Stage, Idle, Refused, Opening, Asking, Finishing, Closing, by_stop, by_last, of_open, stage_of, stage, standing, is_asking, is_closed, no_answer, repository, owed, by_stage, Task, is_stamp, is_time, desk_at, state, kept, each-found, StageOk, stage-ok, if-open, Waits, DecidedAt, standing_at, is_done, read_to, AtRest, ◌≡◌, ◌≢◌, ◌⊎◌, ℕ, nat_lt, Bool, true, false, ◌&&◌, ◌||◌, List, [], ◌∷◌, ◌++◌, refl, sym, ◌∙◌, ap, subst, Option, Some, None, if◌then◌else◌, inl, inr, false≢true, eq-eqb, or_right, lt-own}
 use Rattle.value_form.specs.declared.endings.Ending.TheVariants as ending
 use Rattle.effect_form.specs.declared.effects.Effect.TheVariants as effect
 use Rattle.message_form.specs.declared.messages.Message.TheVariants as message
@@ -135,13 +135,9 @@ module _ (script : List ℕ → Tree) (run : ℕ) (acts : ℕ → List Task) (mo
           heard-it None e s = absurd (false≢true s)
           heard-it (Some x) e s = k.closed b t.stamp i (e ∙ ap (λ z. Some z) (same_stamp-is x t.stamp s))
 
-          by-settled : (c : Bool) → is_settled t.end ≡ c → (c || is_stamp (k.heard b).closed t.stamp) ≡ true → DecidedAt k.homes t.stamp
-          by-settled true e s = k.settled b t i last e
-          by-settled false e s = heard-it (k.heard b).closed refl s
-
           by-end : (n : Bool) → (if n then false else (is_settled t.end || is_stamp (k.heard b).closed t.stamp)) ≡ true → DecidedAt k.homes t.stamp
           by-end true s = absurd (false≢true s)
-          by-end false s = by-settled (is_settled t.end) refl s
+          by-end false s = (elim (is_settled t.end) as (λ c. is_settled t.end ≡ c → (c || is_stamp (k.heard b).closed t.stamp) ≡ true → DecidedAt k.homes t.stamp) [ true ↦ λ e s. k.settled b t i last e | false ↦ λ e s. heard-it (k.heard b).closed refl s ]) refl s
 
   down : (s : StampParts) → Stuck s → (u : StampParts) × Stuck u × Below u s
   down s (b, x, o, i, stands, of-s) =

@@ -1,5 +1,5 @@
 -- What the acts of brokers have together: no more attempts than the plan allows, each with as many answers as its script has requests.
-use Rattle.complete_law.proofs.Names.{Every, ActSpec, Answer, Got, Stored, Stop, Asks, Over, Tree, Ends, Says, Reads, Writes, stop, Task, tasks, Act, Try, Started, AsksAtMost, tries_in, ◌≡◌, ℕ, zero, suc, ◌+◌, ◌*◌, ◌≤◌, max, Bool, true, false, length, List, [], ◌∷◌, refl, ap, Option, Some, None, if◌then◌else◌, arith, slice_get, filter, AreKinds}
+use Rattle.complete_law.proofs.Names.{Every, ActSpec, Answer, Got, Stored, Stop, Asks, Over, Tree, Ends, Says, Reads, Writes, stop, Task, tasks, Act, Try, Started, AsksAtMost, tries_in, ◌≡◌, ℕ, zero, suc, ◌+◌, ◌*◌, ◌≤◌, Bool, true, false, length, List, [], ◌∷◌, refl, ap, Some, None, if◌then◌else◌, arith, slice_get, filter, AreKinds}
 use Rattle.complete_law.proofs.Sizes.{IsSpare, end-one, size-act, size-tries, spent-one}
 
 -- ---- numbers

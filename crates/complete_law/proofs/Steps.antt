@@ -1,6 +1,6 @@
--- Each entry of a calm trace keeps what always holds. (Skeleton: the holes are the steps that are left.)
+-- Each entry of a calm trace keeps what always holds.
 use Rattle.std.specs.Option.{unwrap_or}
-use Rattle.complete_law.proofs.Names.{Every, StampParts, NodeId, NodeKind, Effect, Fate, book, nothing_heard, repository, broker, keep, Entry, Base, Life, World, opened_life, opened_log, start_world, step, walk_from, all_effects, Meets, MayTake, MayGo, MayLearn, MayGate, Rule, base_of, fates_of, node_turns, node_facts, Refines, node-laws, past-laws, CalmRun, CalmPlace, IsUnstopped, IsIdleAt, AllDone, world_at, DeskSound, desk_at, ◌≡◌, ℕ, Bool, List, [], ◌∷◌, reverse, refl, sym, ◌∙◌, ap, subst, Option, Some, None, is_some, inl, inr, false≢true, true≢false, MayHear, opens, left-nothing, ready-start}
+use Rattle.complete_law.proofs.Names.{Every, StampParts, NodeId, NodeKind, Fate, book, nothing_heard, repository, broker, keep, Entry, Base, Life, World, opened_life, opened_log, start_world, step, walk_from, all_effects, Meets, MayTake, MayGo, MayLearn, Rule, base_of, fates_of, node_turns, node_facts, Refines, node-laws, past-laws, CalmRun, CalmPlace, IsUnstopped, IsIdleAt, AllDone, world_at, DeskSound, desk_at, ◌≡◌, ℕ, Bool, List, [], ◌∷◌, reverse, refl, sym, ◌∙◌, ap, subst, Some, None, is_some, inl, inr, false≢true, true≢false, MayHear, opens, left-nothing, ready-start}
 use Rattle.pseudo_time.specs.declared.nodes.NodeKind.TheVariants as kind
 use Rattle.world_core.specs.declared.entries.Entry.TheVariants as entry
 use Rattle.world_core.proofs.Rules.{meets-front}
@@ -24,14 +24,6 @@ module _ (r : CalmRun) where
 
   -- ---- the steps
 
-  -- a broker takes a message: it is heeded, and the request that stands is owed; or it is ignored
-  take-broker : (w : World) (n k : ℕ) → Facts-at w → CalmWorld b w → MayTake fates w (broker n) k → CalmWorld b (step b w (entry.Take (broker n) k))
-  take-broker w n k f c may = take-calm b w c f n k fates may
-
-  -- a repository takes a message: a request is answered or held, and what is waited for is asked for or told
-  take-repository : (w : World) (n k : ℕ) → Facts-at w → CalmWorld b w → MayTake fates w (repository n) k → CalmWorld b (step b w (entry.Take (repository n) k))
-  take-repository w n k f c may = take-calm-there b w c f n (sym (c.ups (repository n)) ∙ may.up) k fates may
-
   go-step : (w : World) (n : NodeId) → Facts-at w → CalmWorld b w → MayGo w n → CalmWorld b (step b w (entry.Go n))
   go-step w n f c may = go n.kind n.number may
     where
@@ -49,11 +41,7 @@ module _ (r : CalmRun) where
   -- ---- the start
 
   pub empty-life : (n : NodeId) → (start_world b).life n ≡ opened_life b.start []
-  empty-life n = go (opened_log b.opened n) refl
-    where
-      go : (o : Option (List Effect)) → opened_log b.opened n ≡ o → opened_life b.start (unwrap_or o []) ≡ opened_life b.start []
-      go None e = refl
-      go (Some log) e = ap (opened_life b.start) (r.empty n log e)
+  empty-life n = (elim (opened_log b.opened n) as (λ o. opened_log b.opened n ≡ o → opened_life b.start (unwrap_or o []) ≡ opened_life b.start []) [ None ↦ λ e. refl | Some log ↦ λ e. ap (opened_life b.start) (r.empty n log e) ]) refl
 
   -- a broker that was never given anything
   blank-sound : (n : ℕ) → DeskSound b.script n b.run (tasks_of b n) (IsBegun (start_world b)) (IsDecided (start_world b)) (desk_at [] nothing_heard)
@@ -82,8 +70,10 @@ module _ (r : CalmRun) where
   take-step w n k f c may = go n.kind n.number may
     where
       go : (kd : NodeKind) (i : ℕ) → MayTake fates w (record { kind = kd; number = i }) k → CalmWorld b (step b w (entry.Take (record { kind = kd; number = i }) k))
-      go kind.Repository i may = take-repository w i k f c may
-      go kind.Broker i may = take-broker w i k f c may
+      -- a request is answered or held, and what is waited for is asked for or told
+      go kind.Repository i may = take-calm-there b w c f i (sym (c.ups (repository i)) ∙ may.up) k fates may
+      -- a message is heeded, and the request that stands is owed; or it is ignored
+      go kind.Broker i may = take-calm b w c f i k fates may
 
   pub no-moment : (w : World) (n : NodeId) → Facts-at w → MayHear w n → ⊥
   no-moment w n f may = (elim w.last as (λ l. w.last ≡ l → ⊥) [ None ↦ λ e. false≢true (sym (ap is_some e) ∙ may.some) | Some t ↦ λ e. f.models.ticked t (f.models.ticks t e) ]) refl
@@ -99,52 +89,40 @@ module _ (r : CalmRun) where
   quiet-tick : (e : Entry) → IsUnstopped e → (t : ℕ) → e ≡ entry.Tick t → ⊥
   quiet-tick e q t is = subst IsUnstopped is q
 
-  steps : (w : World) (es : List Entry) → Facts-at w → CalmWorld b w → Every IsUnstopped es → Meets b fates w es → CalmWorld b (walk_from b w es)
-  unfolding walk_from Meets
-  steps w [] f c quiet rules = c
-  steps w (e ∷ es) f c quiet rules =
-      steps (step b w e) es (step-refines r.script (node_turns r.script) (node_facts r.script) (node-laws r.script) b (λ n. []) (λ n. []) [] (λ t. ⊥) refl fates w e (quiet-tick e quiet.0) f rules.0)
-      (one-step w e f c quiet.0 rules.0) quiet.1 rules.1
-
-  -- what holds at the start, and is kept by each entry of a quiet trace, holds at each place
+  -- what holds at the start, and is kept by each entry of a quiet trace, holds at each place, beside what the landed laws say and what always holds
   pub steps-with : (P : World → Type 0) → ((w : World) (e : Entry) → Facts-at w → CalmWorld b w → IsUnstopped e → Rule b fates w e → P w → P (step b w e)) →
-      (w : World) (es : List Entry) → Facts-at w → CalmWorld b w → P w → Every IsUnstopped es → Meets b fates w es → P (walk_from b w es)
+      (w : World) (es : List Entry) → Facts-at w → CalmWorld b w → P w → Every IsUnstopped es → Meets b fates w es → Facts-at (walk_from b w es) × CalmWorld b (walk_from b w es) × P (walk_from b w es)
   unfolding walk_from Meets
-  steps-with P one w [] f c p quiet rules = p
+  steps-with P one w [] f c p quiet rules = (f, c, p)
   steps-with P one w (e ∷ es) f c p quiet rules =
       steps-with P one (step b w e) es (step-refines r.script (node_turns r.script) (node_facts r.script) (node-laws r.script) b (λ n. []) (λ n. []) [] (λ t. ⊥) refl fates w e (quiet-tick e quiet.0) f rules.0)
       (one-step w e f c quiet.0 rules.0) (one w e f c quiet.0 rules.0 p) quiet.1 rules.1
-
-  pub facts-steps : (w : World) (es : List Entry) → Facts-at w → Every IsUnstopped es → Meets b fates w es → Facts-at (walk_from b w es)
-  unfolding walk_from Meets
-  facts-steps w [] f quiet rules = f
-  facts-steps w (e ∷ es) f quiet rules =
-      facts-steps (step b w e) es (step-refines r.script (node_turns r.script) (node_facts r.script) (node-laws r.script) b (λ n. []) (λ n. []) [] (λ t. ⊥) refl fates w e (quiet-tick e quiet.0) f rules.0) quiet.1 rules.1
 
   start-facts : Facts-at (start_world b)
   start-facts =
       opens r.script (node_turns r.script) (node_facts r.script) (node-laws r.script) b (λ n. []) (λ n. []) [] (λ t. ⊥) (λ t. ⊥) (λ t h. h) (left-nothing r.script (node_turns r.script) (node_facts r.script) (node-laws r.script) (past-laws r.script)) (λ n log e. r.empty n log e)
       (ready-start r.script (node_turns r.script) (node_facts r.script) (node-laws r.script) (past-laws r.script) b refl r.legal.ready)
 
+-- what holds at the start, and is kept by each entry, holds at each calm place, beside what the landed laws say and what always holds
+there : (p : CalmPlace) (P : World → Type 0) → P (start_world (b p.run)) →
+    ((w : World) (e : Entry) → Facts-at p.run w → CalmWorld (b p.run) w → IsUnstopped e → Rule (b p.run) (fates p.run) w e → P w → P (step (b p.run) w e)) →
+    Facts-at p.run (world_at p) × CalmWorld (b p.run) (world_at p) × P (world_at p)
+there p P start one =
+    steps-with p.run P one (start_world (b p.run)) p.front (start-facts p.run) (start-calm p.run) start p.quiet
+    (meets-front (b p.run) (fates p.run) (start_world (b p.run)) p.front p.rest (subst (Meets (b p.run) (fates p.run) (start_world (b p.run))) p.here p.run.legal.meets))
+
+-- all that the landed laws say of nodes, with what isn't gated, at each calm place
+pub facts-there : (p : CalmPlace) → Facts-at p.run (world_at p)
+facts-there p = (there p (λ w. Unit {0}) tt (λ w e f c q rule h. h)).0
+
 -- what always holds, holds at each calm place
 pub calm-there : (p : CalmPlace) → CalmWorld (base_of p.run.script p.run.plan p.run.trace) (world_at p)
-calm-there p =
-    steps p.run (start_world (b p.run)) p.front (start-facts p.run) (start-calm p.run) p.quiet
-    (meets-front (b p.run) (fates p.run) (start_world (b p.run)) p.front p.rest (subst (Meets (b p.run) (fates p.run) (start_world (b p.run))) p.here p.run.legal.meets))
+calm-there p = (there p (λ w. Unit {0}) tt (λ w e f c q rule h. h)).1
+
+pub always : (p : CalmPlace) (P : World → Type 0) → P (start_world (b p.run)) →
+    ((w : World) (e : Entry) → Facts-at p.run w → CalmWorld (b p.run) w → IsUnstopped e → Rule (b p.run) (fates p.run) w e → P w → P (step (b p.run) w e)) → P (world_at p)
+always p P start one = (there p P start one).2
 
 -- no calm place is stuck
 pub never-stuck : (p : CalmPlace) → IsIdleAt p → AllDone p
 never-stuck p = stuck-never p (calm-there p)
-
--- all that the landed laws say of nodes, with what isn't gated, at each calm place
-pub facts-there : (p : CalmPlace) → Facts-at p.run (world_at p)
-facts-there p =
-    facts-steps p.run (start_world (b p.run)) p.front (start-facts p.run) p.quiet
-    (meets-front (b p.run) (fates p.run) (start_world (b p.run)) p.front p.rest (subst (Meets (b p.run) (fates p.run) (start_world (b p.run))) p.here p.run.legal.meets))
-
--- what holds at the start, and is kept by each entry, holds at each calm place
-pub always : (p : CalmPlace) (P : World → Type 0) → P (start_world (b p.run)) →
-    ((w : World) (e : Entry) → Facts-at p.run w → CalmWorld (b p.run) w → IsUnstopped e → Rule (b p.run) (fates p.run) w e → P w → P (step (b p.run) w e)) → P (world_at p)
-always p P start one =
-    steps-with p.run P one (start_world (b p.run)) p.front (start-facts p.run) (start-calm p.run) start p.quiet
-    (meets-front (b p.run) (fates p.run) (start_world (b p.run)) p.front p.rest (subst (Meets (b p.run) (fates p.run) (start_world (b p.run))) p.here p.run.legal.meets))
