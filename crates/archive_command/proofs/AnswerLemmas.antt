@@ -1,25 +1,17 @@
 -- What comes of a question to an archive.
-use Rattle.std.proofs.Common.{ap, ◌∙◌, ◌++◌, [], length, map, Option, ◌≡◌, ◌⊎◌, ℕ, List, refl, sym, subst, Some, inl, inr}
-use Rattle.std.proofs.lemmas.List.{length-map}
-use Rattle.pseudo_time.specs.TimeParts.{TimeParts}
+use Rattle.archive_command.proofs.Names.{ap, ◌∙◌, ◌++◌, [], length, map, Option, ◌≡◌, ◌⊎◌, ℕ, List, refl, sym, subst, Some, inl, inr, length-map, TimeParts, Mark, Opening, medium_in, ShelfSight, first_names, AreVolumes, Answers, AnswersOver, GivesMap, RefusesFor, asked_of}
 use Rattle.pseudo_time.specs.declared.nodes.NodeId.{NodeId}
-use Rattle.object_history.specs.declared.marks.Mark.{Mark}
 use Rattle.archive_store.specs.declared.faults.AsOfFault.{AsOfFault}
 use Rattle.archive_store.specs.declared.faults.AsOfFault.TheVariants as fault
 use Rattle.archive_store.specs.declared.starts.Start.{Start}
 use Rattle.archive_store.specs.Opens.{first_open}
-use Rattle.run_volumes.specs.Opening.{Opening}
 use Rattle.run_volumes.specs.Media.{Media}
-use Rattle.run_volumes.specs.Openings.{medium_in}
 use Rattle.run_volumes.specs.declared.kept.Kept.{Kept}
 use Rattle.run_volumes.specs.Kept.{kept_under}
-use Rattle.run_volumes.specs.Shelves.{ShelfSight, first_names}
-use Rattle.run_volumes.specs.Volumes.{AreVolumes}
 use Rattle.run_volumes.proofs.StandLemmas.{given-back, stand-all}
 use Rattle.archive_command.specs.declared.questions.Question.{Question}
 use Rattle.archive_command.specs.declared.outcomes.Outcome.{Outcome}
 use Rattle.archive_command.specs.declared.outcomes.Outcome.TheVariants.{Told, Refused, Fallen, NoMemory}
-use Rattle.archive_command.specs.Answers.{Answers, AnswersOver, GivesMap, RefusesFor, asked_of}
 use Rattle.report_writer.specs.Lines.{undecided_line}
 
 module _ (repository : ℕ) (at : TimeParts) (m : List Mark) where

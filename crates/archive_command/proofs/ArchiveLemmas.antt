@@ -1,12 +1,7 @@
 -- The complete ones of a repository's volumes, one after another.
-use Rattle.std.proofs.Common.{◌≡◌, ◌<◌, ◌≤◌, ◌+◌, ℕ, zero, suc, Bool, true, false, List, [], ◌∷◌, ◌++◌, length, map, drop, slice_index_or, refl, sym, ◌∙◌, ap, arith, if◌then◌else◌}
-use Rattle.std.proofs.lemmas.List.{append_assoc}
+use Rattle.archive_command.proofs.Names.{◌≡◌, ◌<◌, ◌≤◌, ◌+◌, ℕ, zero, suc, Bool, true, false, List, [], ◌∷◌, ◌++◌, length, map, drop, slice_index_or, refl, sym, ◌∙◌, ap, arith, if◌then◌else◌, append_assoc, Opening, log_in, logs_of, Complete, complete_from, is_complete}
 use Rattle.effect_form.specs.declared.effects.Effect.{Effect}
 use Rattle.archive_store.proofs.JoinLemmas.{drop-item}
-use Rattle.run_volumes.specs.Opening.{Opening}
-use Rattle.run_volumes.specs.Openings.{log_in}
-use Rattle.run_volumes.specs.Volumes.{logs_of}
-use Rattle.archive_command.specs.Archives.{Complete, complete_from, is_complete}
 
 map-if : {B : Type 0} (f : Complete → B) (b : Bool) (c : Complete) (cs : List Complete) → map f (if b then c ∷ cs else cs) ≡ map f (if b then c ∷ [] else []) ++ map f cs
 map-if f true c cs = refl

@@ -1,3 +1,4 @@
 pub mod VersionLemmas
 pub mod AnswerLemmas
 pub mod ArchiveLemmas
+pub mod Names

@@ -1,12 +1,9 @@
 -- Versions that are put in rising order of start.
-use Rattle.std.proofs.Common.{◌≡◌, ℕ, suc, Bool, true, false, List, [], ◌∷◌, ◌++◌, map, take, drop, refl, sym, ◌∙◌, ap, subst, if◌then◌else◌, ◌&&◌, not, ◌==◌}
-use Rattle.std.specs.Prelude.{Result, Ok, Err, OnOk}
+use Rattle.archive_command.proofs.Names.{◌≡◌, ℕ, suc, Bool, true, false, List, [], ◌∷◌, ◌++◌, map, take, drop, refl, sym, ◌∙◌, ap, subst, if◌then◌else◌, ◌&&◌, not, ◌==◌, Result, Ok, Err, OnOk, TimeParts, Mark, count_until, versions_of, with_version}
 use Rattle.std.proofs.lemmas.Bool.{true≢false, false≢true}
-use Rattle.pseudo_time.specs.TimeParts.{TimeParts}
 use Rattle.pseudo_time.specs.Order.{lt}
 use Rattle.value_form.specs.declared.objects.ObjectId.{ObjectId}
 use Rattle.value_form.specs.declared.values.Value.{Value}
-use Rattle.object_history.specs.declared.marks.Mark.{Mark}
 use Rattle.object_history.specs.declared.marks.Mark.TheVariants.{Put, Stretch, Settle, Floor}
 use Rattle.object_history.specs.Objects.{same_object}
 use Rattle.object_history.specs.History.{Seen, version_count}
@@ -14,7 +11,6 @@ use Rattle.object_history.specs.Settled.{insert, listed}
 use Rattle.commit_watch.specs.declared.versions.Version.{Version}
 use Rattle.commit_watch.specs.Folds.{version_of}
 use Rattle.commit_watch.proofs.ListLemmas.{same-parts}
-use Rattle.archive_command.specs.Versions.{count_until, versions_of, with_version}
 
 -- ---- by place
 

@@ -1,22 +1,6 @@
 -- The joined marks have no floor; and where no version is told as undecided, none is.
-use Rattle.std.proofs.Common.{◌≡◌, ℕ, zero, suc, ◌+◌, arith, Bool, true, false, List, [], ◌∷◌, ◌++◌, map, filter, reverse, length, slice_index_or, refl, sym, ◌∙◌, ap, Option, Some, None, ◌&&◌, ◌||◌, not, if◌then◌else◌}
-use Rattle.std.proofs.lemmas.Bool.{true≢false, false≢true}
-use Rattle.std.proofs.lemmas.List.{reverse-append}
-use Rattle.pseudo_time.specs.Lists.{Every}
+use Rattle.archive_store.proofs.Names.{◌≡◌, ℕ, zero, suc, ◌+◌, arith, Bool, true, false, List, [], ◌∷◌, ◌++◌, map, filter, reverse, length, slice_index_or, refl, sym, ◌∙◌, ap, Option, Some, None, ◌&&◌, ◌||◌, not, if◌then◌else◌, true≢false, false≢true, reverse-append, Every, TimeParts, lt, ObjectId, Value, Mark, Put, Stretch, Settle, Floor, same_object, settle_of, is_settled, top, floor_of, some_put, Start, is_new, firsts, met_after, all_firsts, is_floor, given_up, joined_with, last_log, is_open, lesser, is_unsettled, first_among, first_open}
 use Rattle.pseudo_time.specs.StampParts.{StampParts}
-use Rattle.pseudo_time.specs.TimeParts.{TimeParts}
-use Rattle.pseudo_time.specs.Order.{lt}
-use Rattle.value_form.specs.declared.objects.ObjectId.{ObjectId}
-use Rattle.value_form.specs.declared.values.Value.{Value}
-use Rattle.object_history.specs.declared.marks.Mark.{Mark}
-use Rattle.object_history.specs.declared.marks.Mark.TheVariants.{Put, Stretch, Settle, Floor}
-use Rattle.object_history.specs.Objects.{same_object}
-use Rattle.object_history.specs.History.{settle_of, is_settled, top, floor_of}
-use Rattle.object_history.specs.Answers.{some_put}
-use Rattle.archive_store.specs.declared.starts.Start.{Start}
-use Rattle.archive_store.specs.Joined.{is_new, firsts, met_after, all_firsts, is_floor, given_up, joined_with, last_log}
-use Rattle.archive_store.specs.Latest.{is_open}
-use Rattle.archive_store.specs.Opens.{lesser, is_unsettled, first_among, first_open}
 
 -- ---- no floor
 

@@ -1,16 +1,7 @@
 -- The last log that has a put, as the code looks for it from the end.
-use Rattle.std.proofs.Common.{◌≡◌, ℕ, zero, suc, ◌+◌, ◌<◌, ◌≤◌, arith, Bool, true, false, List, [], ◌∷◌, map, drop, length, slice_index_or, refl, sym, ◌∙◌, ap, Option, Some, None, ◌==◌, ◌&&◌, ◌||◌, if◌then◌else◌}
-use Rattle.std.proofs.lemmas.Bool.{true≢false, false≢true}
-use Rattle.pseudo_time.specs.TimeParts.{TimeParts}
-use Rattle.pseudo_time.specs.Order.{same_time}
+use Rattle.archive_store.proofs.Names.{◌≡◌, ℕ, zero, suc, ◌+◌, ◌<◌, ◌≤◌, arith, Bool, true, false, List, [], ◌∷◌, map, drop, length, slice_index_or, refl, sym, ◌∙◌, ap, Option, Some, None, ◌==◌, ◌&&◌, ◌||◌, if◌then◌else◌, true≢false, false≢true, TimeParts, same_time, ObjectId, Value, Mark, Put, Stretch, Settle, Floor, same_object, has_start, later, holder_of}
 use Rattle.pseudo_time.proofs.EqualLemmas.{same_time-parts}
-use Rattle.value_form.specs.declared.objects.ObjectId.{ObjectId}
-use Rattle.value_form.specs.declared.values.Value.{Value}
-use Rattle.object_history.specs.declared.marks.Mark.{Mark}
-use Rattle.object_history.specs.declared.marks.Mark.TheVariants.{Put, Stretch, Settle, Floor}
-use Rattle.object_history.specs.Objects.{same_object}
 use Rattle.commit_watch.proofs.ListLemmas.{same-parts}
-use Rattle.archive_store.specs.Joined.{has_start, later, holder_of}
 use Rattle.archive_store.proofs.JoinLemmas.{drop-item, drop-end}
 
 or-none : (b : Bool) → b ≡ (b || false)

@@ -1,22 +1,10 @@
 -- What is met, and what the last log gave up, as the code reads it mark by mark.
-use Rattle.std.proofs.Common.{◌≡◌, ℕ, zero, suc, ◌+◌, ◌<◌, ◌≤◌, arith, Bool, true, false, List, [], ◌∷◌, ◌++◌, map, filter, take, drop, reverse, length, slice_index_or, refl, sym, ◌∙◌, ap, subst, Option, Some, None, ◌&&◌, ◌||◌, not, if◌then◌else◌, cond}
-use Rattle.std.specs.Prelude.{is_some}
+use Rattle.archive_store.proofs.Names.{◌≡◌, ℕ, zero, suc, ◌+◌, ◌<◌, ◌≤◌, arith, Bool, true, false, List, [], ◌∷◌, ◌++◌, map, filter, take, drop, reverse, length, slice_index_or, refl, sym, ◌∙◌, ap, subst, Option, Some, None, ◌&&◌, ◌||◌, not, if◌then◌else◌, cond, is_some, reverse-append, TimeParts, time_cmp, same_time, ObjectId, Value, Mark, Put, same_object, Start, has_start, is_new, firsts, met_after, all_firsts, start_cmp}
 use Rattle.std.specs.Ordering.{is_eq, ordering_then}
 use Rattle.std.specs.declared.cmp.Ordering.{Ordering}
 use Rattle.std.specs.declared.cmp.Ordering.TheVariants.{Less, Equal, Greater}
-use Rattle.std.proofs.lemmas.List.{reverse-append}
-use Rattle.pseudo_time.specs.TimeParts.{TimeParts, time_cmp}
-use Rattle.pseudo_time.specs.Order.{same_time}
-use Rattle.value_form.specs.declared.objects.ObjectId.{ObjectId}
-use Rattle.value_form.specs.declared.values.Value.{Value}
 use Rattle.value_form.specs.Objects.{object_cmp}
-use Rattle.object_history.specs.declared.marks.Mark.{Mark}
-use Rattle.object_history.specs.declared.marks.Mark.TheVariants.{Put}
-use Rattle.object_history.specs.Objects.{same_object}
 use Rattle.object_history.proofs.MapLemmas.{found_at, Puts}
-use Rattle.archive_store.specs.declared.starts.Start.{Start}
-use Rattle.archive_store.specs.Joined.{has_start, is_new, firsts, met_after, all_firsts}
-use Rattle.archive_store.specs.Met.{start_cmp}
 
 -- ---- what is met
 

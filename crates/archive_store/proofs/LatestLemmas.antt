@@ -1,19 +1,7 @@
 -- The rule that keeps the last value, folded up to a pseudotime below which nothing is undecided, gives the last committed version below it.
-use Rattle.std.proofs.Common.{◌≡◌, Bool, true, false, List, [], ◌∷◌, map, filter, refl, sym, ◌∙◌, ap, subst, Option, Some, None, ◌&&◌, ◌||◌, not, if◌then◌else◌, inl, inr}
-use Rattle.std.specs.Prelude.{◌⊎◌, Result, Ok, Err}
-use Rattle.std.proofs.lemmas.Bool.{true≢false, false≢true}
-use Rattle.pseudo_time.specs.Lists.{Every}
-use Rattle.pseudo_time.specs.TimeParts.{TimeParts}
-use Rattle.pseudo_time.specs.Order.{lt}
+use Rattle.archive_store.proofs.Names.{◌≡◌, Bool, true, false, List, [], ◌∷◌, map, filter, refl, sym, ◌∙◌, ap, subst, Option, Some, None, ◌&&◌, ◌||◌, not, if◌then◌else◌, inl, inr, ◌⊎◌, Result, Ok, Err, true≢false, false≢true, Every, TimeParts, lt, ObjectId, Value, Mark, Put, Stretch, Settle, Floor, same_object, Seen, settle_of, is_settled, is_committed, version_count, starts_above, pick, scan, floor_of, some_put, cursor_of, total_of, moved_at, last_below, entry_of, is_open, is_wanting}
 use Rattle.pseudo_time.proofs.OrderLemmas.{lt-trans, lt-split}
-use Rattle.value_form.specs.declared.objects.ObjectId.{ObjectId}
-use Rattle.value_form.specs.declared.values.Value.{Value}
 use Rattle.value_form.specs.declared.values.Value.TheVariants.{Nothing}
-use Rattle.object_history.specs.declared.marks.Mark.{Mark}
-use Rattle.object_history.specs.declared.marks.Mark.TheVariants.{Put, Stretch, Settle, Floor}
-use Rattle.object_history.specs.Objects.{same_object}
-use Rattle.object_history.specs.History.{Seen, settle_of, is_settled, is_committed, version_count, starts_above, pick, scan, floor_of}
-use Rattle.object_history.specs.Answers.{some_put}
 use Rattle.object_history.specs.Kept.{is_past, is_below}
 use Rattle.object_history.specs.Settled.{insert, listed, is_blocked, settled_versions}
 use Rattle.commit_watch.specs.declared.versions.Version.{Version}
@@ -21,11 +9,9 @@ use Rattle.commit_watch.specs.declared.moved.Moved.{Moved}
 use Rattle.commit_watch.specs.declared.faults.WatchFault.{WatchFault}
 use Rattle.commit_watch.specs.declared.faults.WatchFault.TheVariants as fault
 use Rattle.commit_watch.specs.Rules.{latest_next}
-use Rattle.commit_watch.specs.Lists.{cursor_of, total_of, moved_at}
 use Rattle.commit_watch.specs.Refusals.{IsRefusal}
 use Rattle.commit_watch.specs.Folds.{version_of, fresh, is_under, is_retired, unless_retired, moved_over, advanced}
 use Rattle.commit_watch.proofs.StandingLemmas.{Sorted, sorted-listed, filter-listed}
-use Rattle.archive_store.specs.Latest.{last_below, entry_of, is_open, is_wanting}
 
 -- ---- the last of a listing
 

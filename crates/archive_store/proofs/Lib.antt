@@ -2,3 +2,4 @@ pub mod ArchiveLemmas
 pub mod HolderLemmas
 pub mod JoinLemmas
 pub mod LatestLemmas
+pub mod Names

@@ -1,10 +1,5 @@
 -- What may be added to the notes: an effect that is owed, and what a message adds.
-use Rattle.std.proofs.Common.{◌≡◌, ◌≢◌, ℕ, max, ◌+◌, ◌<◌, ◌==◌, nat_lt, Bool, true, false, ◌&&◌, length, List, refl, sym, ◌∙◌, subst, Option, Some, None, if◌then◌else◌, arith}
-use Rattle.std.proofs.lemmas.Grind.{common_steps}
-use Rattle.std.proofs.lemmas.Bool.{eqb-true, eq-eqb, false≢true}
-use Rattle.std.proofs.lemmas.Option.{slice_get_within}
-use Rattle.std.specs.List.{slice_get}
-use Rattle.broker_core.proofs.Names.{ActSpec, Value, Effect, ToRead, ToWrite, Stop, Asks, Over, IsAnswerTo, Given, Heard, Last, Notes, Phase, is_none, reads_now, writes_now, unended, open_last, act_at, stop_at, most_of, another_at, fits_at, fits_step_at, start_at, shown_at, by_clock_at, try_or_spent_at, closed_in, after_tries_at, by_phase, owed_at, IsAskedFor, MayAdd, MayBegin, IsHeard}
+use Rattle.broker_core.proofs.Names.{ActSpec, Value, Effect, ToRead, ToWrite, Stop, Asks, Over, IsAnswerTo, Given, Heard, Last, Notes, Phase, is_none, reads_now, writes_now, unended, open_last, act_at, stop_at, most_of, another_at, fits_at, fits_step_at, start_at, shown_at, by_clock_at, try_or_spent_at, closed_in, after_tries_at, by_phase, owed_at, IsAskedFor, MayAdd, MayBegin, IsHeard, ◌≡◌, ◌≢◌, ℕ, max, ◌+◌, ◌<◌, ◌==◌, nat_lt, Bool, true, false, ◌&&◌, length, List, refl, sym, ◌∙◌, subst, Option, Some, None, if◌then◌else◌, arith, common_steps, eqb-true, eq-eqb, false≢true, slice_get_within, slice_get}
 use Rattle.effect_form.specs.declared.effects.Effect.TheVariants as effect
 use Rattle.script_meaning.specs.Meaning as meaning
 use Rattle.broker_core.specs.declared.givens.Given.TheVariants as given

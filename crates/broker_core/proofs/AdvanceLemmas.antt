@@ -1,9 +1,5 @@
 -- A call's turn is that of the rules.
-use Rattle.std.proofs.Common.{◌≡◌, ℕ, min, ◌+◌, ◌*◌, ◌≤◌, ◌==◌, true, length, reverse, List, [], ◌∷◌, ◌++◌, refl, sym, ◌∙◌, ap, subst, Option, Some, None, arith}
-use Rattle.std.proofs.lemmas.Bool.{false≢true}
-use Rattle.std.proofs.lemmas.List.{length-map, length-take, length-take-le, reverse-append, reverse-reverse}
-use Rattle.std.proofs.lemmas.Grind.{common_steps}
-use Rattle.broker_core.proofs.Names.{ActSpec, Effect, Out, Turn, Tree, Given, Heard, Notes, Phase, tasks, task_of, Scripted, Book, book, enter, fits, counts, keep, stage, standing, Desk, desk_at, all_effects, note, hears, send, fuel, state, settle_up, say, Shows, noted, answered_in, standing_at, AreNotes, LedgerParts, Settled, kept, answers_noted, settled, most_steps, MayBegin, listed, phase_in, effects_from, ledger_from, BrokerParts, IsBroker, IsLedTo, book_of, parts_of, FirstInRange, reading, NoRun, Gives, follows, FirstFits}
+use Rattle.broker_core.proofs.Names.{ActSpec, Effect, Out, Turn, Tree, Given, Heard, Notes, Phase, tasks, task_of, Scripted, Book, book, enter, fits, counts, keep, stage, standing, Desk, desk_at, all_effects, note, hears, send, fuel, state, settle_up, say, Shows, noted, answered_in, standing_at, AreNotes, LedgerParts, Settled, kept, answers_noted, settled, most_steps, MayBegin, listed, phase_in, effects_from, ledger_from, BrokerParts, IsBroker, IsLedTo, book_of, parts_of, FirstInRange, reading, NoRun, Gives, follows, FirstFits, ◌≡◌, ℕ, min, ◌+◌, ◌*◌, ◌≤◌, ◌==◌, true, length, reverse, List, [], ◌∷◌, ◌++◌, refl, sym, ◌∙◌, ap, subst, Option, Some, None, arith, false≢true, length-map, length-take, length-take-le, reverse-append, reverse-reverse, common_steps}
 use Rattle.effect_form.specs.declared.effects.Effect.TheVariants as effect
 use Rattle.broker_core.proofs.AddLemmas.{heard-may}
 use Rattle.broker_core.proofs.CountLemmas.{are-same}

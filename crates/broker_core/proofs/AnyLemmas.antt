@@ -1,8 +1,5 @@
 -- What the notes show of any book, also of an earlier run.
-use Rattle.std.proofs.Common.{◌≡◌, ℕ, ◌==◌, ◌≤◌, nat_lt, Bool, true, false, List, refl, sym, ◌∙◌, ap, subst, Option, Some, if◌then◌else◌, arith}
-use Rattle.std.proofs.lemmas.Grind.{common_steps}
-use Rattle.std.proofs.lemmas.Bool.{eqb-true}
-use Rattle.broker_core.proofs.Names.{ActSpec, Effect, Message, Tree, Given, Heard, Notes, Phase, tasks, Scripted, Book, open_try, last_try, Stage, Idle, stage, stage_of, standing, row, news, owed, Shows, open_last, act_at, stop_at, index_of, timeout_of, phase_at, phase_by_open, standing_at, reply_at, owed_at, Sound}
+use Rattle.broker_core.proofs.Names.{ActSpec, Effect, Message, Tree, Given, Heard, Notes, Phase, tasks, Scripted, Book, open_try, last_try, Stage, Idle, stage, stage_of, standing, row, news, owed, Shows, open_last, act_at, stop_at, index_of, timeout_of, phase_at, phase_by_open, standing_at, reply_at, owed_at, Sound, ◌≡◌, ℕ, ◌==◌, ◌≤◌, nat_lt, Bool, true, false, List, refl, sym, ◌∙◌, ap, subst, Option, Some, if◌then◌else◌, arith, common_steps, eqb-true}
 use Rattle.effect_form.specs.declared.effects.Effect.TheVariants as effect
 use Rattle.broker_core.specs.declared.phases.Phase.TheVariants as phase
 use Rattle.broker_core.proofs.PhaseLemmas.{Meets, shown, phase-is, standing-is, none-stands}

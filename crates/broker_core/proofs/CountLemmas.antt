@@ -1,15 +1,6 @@
 -- What the notes count stays in range, and each answer of the last try is to what its script asks.
-use Rattle.std.proofs.Common.{◌≡◌, ◌≢◌, ℕ, max, ◌+◌, ◌-◌, ◌≤◌, ◌<◌, ◌==◌, Bool, true, false, length, take, List, [], ◌∷◌, ◌++◌, refl, sym, ◌∙◌, ap, subst, Option, Some, None, inl, inr, if◌then◌else◌, arith}
-use Rattle.std.proofs.lemmas.Grind.{common_steps}
-use Rattle.std.proofs.lemmas.Bool.{eqb-true}
-use Rattle.std.proofs.lemmas.Option.{slice_get_cases}
-use Rattle.std.proofs.lemmas.List.{length-append, length-map, length-take-le, map-append}
-use Rattle.std.proofs.Math.Seq.{take-length}
-use Rattle.std.specs.List.{slice_get}
-use Rattle.std.specs.Option.{option_map}
-use Rattle.broker_core.proofs.Names.{ActSpec, block, StampParts, Effect, Answer, RunParts, AreAsked, Given, Last, Notes, answer_of, answers_given, answered_in, act_at, tree_of, answer_noted, try_begun, LedgerParts, AreNotes, IsAskedFor, IsLedger, MayAdd, StepperFits, kept, lines_of}
+use Rattle.broker_core.proofs.Names.{ActSpec, block, StampParts, Effect, Answer, RunParts, AreAsked, Given, Last, Notes, answer_of, answers_given, answered_in, act_at, tree_of, answer_noted, try_begun, LedgerParts, AreNotes, IsAskedFor, IsLedger, MayAdd, StepperFits, kept, lines_of, ◌≡◌, ◌≢◌, ℕ, max, ◌+◌, ◌-◌, ◌≤◌, ◌<◌, ◌==◌, Bool, true, false, length, take, List, [], ◌∷◌, ◌++◌, refl, sym, ◌∙◌, ap, subst, Option, Some, None, inl, inr, if◌then◌else◌, arith, common_steps, eqb-true, slice_get_cases, length-append, length-map, length-take-le, map-append, take-length, slice_get, option_map, asked-none, asked-next, asked-few}
 use Rattle.effect_form.specs.declared.effects.Effect.TheVariants as effect
-use Rattle.serial_model.proofs.AskedLemmas.{asked-none, asked-next, asked-few}
 
 -- a try has at most 10,000 answers
 few-asked : (a : Option ActSpec) (ans : List Answer) → AreAsked (tree_of a) ans → length ans ≤ 10000

@@ -1,12 +1,5 @@
 -- What `done` and `hear` answer.
-use Rattle.std.proofs.Common.{◌≡◌, ℕ, ◌==◌, Bool, true, false, ◌&&◌, length, List, [], ◌++◌, reverse, refl, sym, ◌∙◌, ap, subst, Option, Some, None, if◌then◌else◌}
-use Rattle.std.proofs.lemmas.Bool.{eqb-true}
-use Rattle.std.proofs.lemmas.List.{append-nil, length-map}
-use Rattle.broker_core.proofs.Names.{ActSpec, Effect, Out, Turn, ToRead, ToWrite, Tree, Given, Heard, Notes, Phase, tasks, task_of, Scripted, Book, is_none, Stage, Idle, Refused, Opening, Asking, Finishing, Stopping, Closing, stage, standing, all_over, Desk, Hear, desk_at, send, notes_of, act_at, most_of, over_at, phase_at, standing_at, LedgerParts, kept, listed, BrokerParts, IsBroker, IsLedTo, book_of, parts_of, Gives, turn_of}
-use Rattle.broker_core.specs.Owed.{done}
-use Rattle.broker_core.specs.Phases.{is_quiet}
-use Rattle.broker_core.specs.Inputs.{over_by}
-use Rattle.broker_core.specs.Brokers.{is_done}
+use Rattle.broker_core.proofs.Names.{ActSpec, Effect, Out, Turn, ToRead, ToWrite, Tree, Given, Heard, Notes, Phase, tasks, task_of, Scripted, Book, is_none, Stage, Idle, Refused, Opening, Asking, Finishing, Stopping, Closing, stage, standing, all_over, Desk, Hear, desk_at, send, notes_of, act_at, most_of, over_at, phase_at, standing_at, LedgerParts, kept, listed, BrokerParts, IsBroker, IsLedTo, book_of, parts_of, Gives, turn_of, ◌≡◌, ℕ, ◌==◌, Bool, true, false, ◌&&◌, length, List, [], ◌++◌, reverse, refl, sym, ◌∙◌, ap, subst, Option, Some, None, if◌then◌else◌, eqb-true, append-nil, length-map, done, is_quiet, over_by, is_done}
 use Rattle.broker_core.proofs.ShapeLemmas.{over-is}
 use Rattle.broker_core.proofs.SoundLemmas.{sound-kept}
 use Rattle.broker_core.proofs.NotedLemmas.{most-of-last}

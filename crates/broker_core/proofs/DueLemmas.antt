@@ -1,8 +1,5 @@
 -- What is owed by the notes is what is owed by the book.
-use Rattle.std.proofs.Common.{◌≡◌, ℕ, max, ◌-◌, ◌==◌, nat_lt, Bool, true, false, ◌&&◌, length, List, [], ◌∷◌, ◌++◌, refl, sym, ◌∙◌, ap, Option, Some, None, if◌then◌else◌}
-use Rattle.std.specs.List.{slice_get}
-use Rattle.std.specs.Option.{option_map}
-use Rattle.broker_core.proofs.Names.{ActSpec, Effect, ToRead, ToWrite, Tree, Given, Heard, Notes, Task, task_of, tasks, Try, Act, Book, front, tries_of, is_none, another, next_clock, Stage, Idle, Refused, Opening, Asking, Finishing, Stopping, Closing, stage, is_closed, try_or_spent, after_tries, after_act, due, by_stage, owed, last_of, over_behind, spent_in, tries_in, notes_of, calls_on, act_at, most_of, index_of, phase_at, start_at, try_or_spent_at, closed_in, after_tries_at, due_at, by_phase, owed_at, Started}
+use Rattle.broker_core.proofs.Names.{ActSpec, Effect, ToRead, ToWrite, Tree, Given, Heard, Notes, Task, task_of, tasks, Try, Act, Book, front, tries_of, is_none, another, next_clock, Stage, Idle, Refused, Opening, Asking, Finishing, Stopping, Closing, stage, is_closed, try_or_spent, after_tries, after_act, due, by_stage, owed, last_of, over_behind, spent_in, tries_in, notes_of, calls_on, act_at, most_of, index_of, phase_at, start_at, try_or_spent_at, closed_in, after_tries_at, due_at, by_phase, owed_at, Started, ◌≡◌, ℕ, max, ◌-◌, ◌==◌, nat_lt, Bool, true, false, ◌&&◌, length, List, [], ◌∷◌, ◌++◌, refl, sym, ◌∙◌, ap, Option, Some, None, if◌then◌else◌, slice_get, option_map}
 use Rattle.effect_form.specs.declared.effects.Effect.TheVariants as effect
 use Rattle.effect_form.specs.declared.outcomes.Outcome.TheVariants as outcome
 use Rattle.broker_core.proofs.ShapeLemmas.{past-zero, start-is, another-is}

@@ -1,12 +1,7 @@
 -- Which effects fit, by the notes and by the book.
-use Rattle.std.proofs.Common.{◌≡◌, ℕ, ◌+◌, ◌==◌, nat_lt, Bool, true, false, not, ◌&&◌, length, List, [], ◌∷◌, ◌++◌, refl, sym, ◌∙◌, ap, Option, Some, None, if◌then◌else◌}
-use Rattle.std.proofs.lemmas.Option.{slice_get-map}
-use Rattle.std.specs.List.{slice_get}
-use Rattle.std.specs.Option.{option_map}
-use Rattle.broker_core.proofs.Names.{ActSpec, StampParts, Effect, Outcome, Stop, Tree, Given, Last, Notes, is_task, Task, task_of, task_with, tasks, Try, Act, Book, front, tries_of, open_try, is_none, reads_now, writes_now, fits_try, fits_spent, fits_end, fits_outcome, fits_got, fits_acked, fits, last_of, over_behind, spent_in, tries_in, notes_of, open_last, act_at, stop_at, calls_on, rests_at, fits_try_at, fits_step_at, fits_at, Started}
+use Rattle.broker_core.proofs.Names.{ActSpec, StampParts, Effect, Outcome, Stop, Tree, Given, Last, Notes, is_task, Task, task_of, task_with, tasks, Try, Act, Book, front, tries_of, open_try, is_none, reads_now, writes_now, fits_try, fits_spent, fits_end, fits_outcome, fits_got, fits_acked, fits, last_of, over_behind, spent_in, tries_in, notes_of, open_last, act_at, stop_at, calls_on, rests_at, fits_try_at, fits_step_at, fits_at, Started, ◌≡◌, ℕ, ◌+◌, ◌==◌, nat_lt, Bool, true, false, not, ◌&&◌, length, List, [], ◌∷◌, ◌++◌, refl, sym, ◌∙◌, ap, Option, Some, None, if◌then◌else◌, slice_get-map, slice_get, option_map, fits_spent_at, fits_end_at}
 use Rattle.effect_form.specs.declared.effects.Effect.TheVariants as effect
 use Rattle.effect_form.specs.declared.outcomes.Outcome.TheVariants as outcome
-use Rattle.broker_core.specs.Notes.{fits_spent_at, fits_end_at}
 use Rattle.broker_core.proofs.ShapeLemmas.{open-is, rests-is, may_follow-is}
 use Rattle.broker_core.proofs.MeetLemmas.{last-act, act-is, stop-is}
 use Rattle.broker_core.proofs.PhaseLemmas.{Meets}

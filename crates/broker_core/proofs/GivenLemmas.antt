@@ -1,13 +1,8 @@
 -- A run that is given answers to what it asks.
-use Rattle.std.proofs.Common.{◌≡◌, ℕ, suc, ◌<◌, ◌++◌, ◌∷◌, [], List, length, take, drop, get_or, Some, refl, ap, ◌∙◌, subst, sym}
-use Rattle.std.proofs.Math.Seq.{split_at}
-use Rattle.std.proofs.lemmas.List.{map-append}
-use Rattle.broker_core.proofs.Names.{Stmt, Line, ObjectId, Value, Answer, Stop, Next, RunParts, Tells, block, Tree, denote, stop, IsAnswerTo, AreAsked, Given, answer_of, answers_given}
+use Rattle.broker_core.proofs.Names.{Stmt, Line, ObjectId, Value, Answer, Stop, Next, RunParts, Tells, block, Tree, denote, stop, IsAnswerTo, AreAsked, Given, answer_of, answers_given, ◌≡◌, ℕ, suc, ◌<◌, ◌++◌, ◌∷◌, [], List, length, take, drop, get_or, Some, refl, ap, ◌∙◌, subst, sym, split_at, map-append, Got, Stored, asked-front}
 use Rattle.value_form.specs.declared.transcripts.Line.TheVariants as line
-use Rattle.script_meaning.specs.Meaning.{Got, Stored}
 use Rattle.script_run.specs.declared.nexts.Next.TheVariants as next
 use Rattle.script_run.specs.RunParts.{stop_of, answered, IsRead, IsWrite}
-use Rattle.serial_model.proofs.AskedLemmas.{asked-front}
 use Rattle.broker_core.proofs.StopLemmas.{told-stop}
 
 -- what is given to a run that asks for it

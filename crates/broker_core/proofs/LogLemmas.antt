@@ -1,13 +1,9 @@
 -- A log that is taken up leads to the notes on its book.
-use Rattle.std.proofs.Common.{◌≡◌, ℕ, max, ◌≤◌, ◌==◌, nat_lt, Bool, true, false, ◌&&◌, List, [], ◌∷◌, refl, sym, ◌∙◌, ap, subst, Option, Some, None, if◌then◌else◌, arith}
-use Rattle.std.proofs.lemmas.Grind.{common_steps}
-use Rattle.std.proofs.lemmas.Bool.{eqb-true, eq-eqb, false≢true}
-use Rattle.broker_core.proofs.Names.{ActSpec, Effect, Tree, Given, Notes, ResumeFault, tasks, Scripted, Book, book, enter, fits, counts, add_if, keep, unfit_act, first_some, other_plan, plan_fault, resume_fault, Shows, noted, passed, run_begun, fits_at, LedgerParts, kept, answers_noted, fresh_ledger, fits_now, added, logged, led, other_at, counts_led, fault_of}
+use Rattle.broker_core.proofs.Names.{ActSpec, Effect, Tree, Given, Notes, ResumeFault, tasks, Scripted, Book, book, enter, fits, counts, add_if, keep, unfit_act, first_some, other_plan, plan_fault, resume_fault, Shows, noted, passed, run_begun, fits_at, LedgerParts, kept, answers_noted, fresh_ledger, fits_now, added, logged, led, other_at, counts_led, fault_of, ◌≡◌, ℕ, max, ◌≤◌, ◌==◌, nat_lt, Bool, true, false, ◌&&◌, List, [], ◌∷◌, refl, sym, ◌∙◌, ap, subst, Option, Some, None, if◌then◌else◌, arith, common_steps, eqb-true, eq-eqb, false≢true, unfit_index, unfit_at, counts_at}
 use Rattle.effect_form.specs.declared.effects.Effect.TheVariants as effect
 use Rattle.effect_form.specs.declared.outcomes.Outcome.TheVariants as outcome
 use Rattle.broker_core.specs.declared.resume_faults.ResumeFault.TheVariants as fault
 use Rattle.broker_core.specs.Counted.{counts_now, counting}
-use Rattle.broker_core.specs.TakenUp.{unfit_index, unfit_at, counts_at}
 use Rattle.broker_core.proofs.SoundLemmas.{sound-kept, closed-run}
 use Rattle.broker_core.proofs.FitLemmas.{fits-is}
 use Rattle.broker_core.proofs.NotedLemmas.{noted-shows}

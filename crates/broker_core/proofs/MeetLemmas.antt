@@ -1,7 +1,5 @@
 -- The last act and the open try of a sound book are those that the notes on it show.
-use Rattle.std.proofs.Common.{◌≡◌, ℕ, zero, suc, ◌-◌, ◌==◌, length, List, [], ◌∷◌, refl, sym, ◌∙◌, ap, subst, Some, None, if◌then◌else◌, arith}
-use Rattle.std.specs.List.{slice_get}
-use Rattle.broker_core.proofs.Names.{ActSpec, Every, Tree, stop, Given, Task, task_of, tasks, Scripted, Try, Act, Book, front, open_front, open_of, open_try, last_try, stop_of, notes_of, answers_given, answers_of_last, act_at, tree_of, stop_at, Started, OfAct, Sound}
+use Rattle.broker_core.proofs.Names.{ActSpec, Every, Tree, stop, Given, Task, task_of, tasks, Scripted, Try, Act, Book, front, open_front, open_of, open_try, last_try, stop_of, notes_of, answers_given, answers_of_last, act_at, tree_of, stop_at, Started, OfAct, Sound, ◌≡◌, ℕ, zero, suc, ◌-◌, ◌==◌, length, List, [], ◌∷◌, refl, sym, ◌∙◌, ap, subst, Some, None, if◌then◌else◌, arith, slice_get}
 use Rattle.broker_core.proofs.ShapeLemmas.{past-zero, get-task, every-get, open-is-last, open-last-front}
 use Rattle.std.proofs.Common.{append-nil}
 

@@ -1,16 +1,8 @@
 -- An effect that counts changes the notes as it changes the book.
-use Rattle.std.proofs.Common.{◌≡◌, ℕ, suc, max, ◌+◌, ◌-◌, ◌==◌, Bool, true, false, length, take, List, [], ◌∷◌, ◌++◌, refl, sym, ◌∙◌, ap, subst, Option, Some, None, if◌then◌else◌, arith}
-use Rattle.std.proofs.lemmas.Bool.{false≢true}
-use Rattle.std.proofs.lemmas.List.{length-append, length-map, map-append}
-use Rattle.std.proofs.Math.Seq.{take-length}
-use Rattle.std.specs.List.{slice_get}
-use Rattle.std.specs.Option.{option_map}
-use Rattle.broker_core.proofs.Names.{ActSpec, StampParts, Effect, Outcome, Answer, Tree, Given, Last, Notes, Task, task_with, tasks, Try, Act, Book, enter, front, tries_of, on_act, on_front, on_try, new_try, finish, open_front, open_of, open_try, last_try, if_open, fits, fits_try, fits_got, fits_acked, fits_end, fits_spent, last_of, over_behind, spent_in, tries_in, notes_of, answers_given, answer_of, answers_of_last, answered_in, act_at, most_of, over_at, try_begun, answer_noted, noted, Shows, kept, answers_noted, Started}
+use Rattle.broker_core.proofs.Names.{ActSpec, StampParts, Effect, Outcome, Answer, Tree, Given, Last, Notes, Task, task_with, tasks, Try, Act, Book, enter, front, tries_of, on_act, on_front, on_try, new_try, finish, open_front, open_of, open_try, last_try, if_open, fits, fits_try, fits_got, fits_acked, fits_end, fits_spent, last_of, over_behind, spent_in, tries_in, notes_of, answers_given, answer_of, answers_of_last, answered_in, act_at, most_of, over_at, try_begun, answer_noted, noted, Shows, kept, answers_noted, Started, ◌≡◌, ℕ, suc, max, ◌+◌, ◌-◌, ◌==◌, Bool, true, false, length, take, List, [], ◌∷◌, ◌++◌, refl, sym, ◌∙◌, ap, subst, Option, Some, None, if◌then◌else◌, arith, false≢true, length-append, length-map, map-append, take-length, slice_get, option_map, gain, act_begun}
 use Rattle.effect_form.specs.declared.effects.Effect.TheVariants as effect
 use Rattle.effect_form.specs.declared.outcomes.Outcome.TheVariants as outcome
 use Rattle.broker_core.specs.declared.givens.Given.TheVariants as given
-use Rattle.broker_core.specs.Book.{gain}
-use Rattle.broker_core.specs.Notes.{act_begun}
 use Rattle.broker_core.proofs.ShapeLemmas.{over-is, most_in, open-is-last}
 use Rattle.broker_core.proofs.MeetLemmas.{last-act}
 use Rattle.broker_core.proofs.PhaseLemmas.{Meets}

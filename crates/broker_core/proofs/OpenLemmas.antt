@@ -1,10 +1,6 @@
 -- A log that is opened.
-use Rattle.std.proofs.Common.{◌≡◌, ℕ, ◌≤◌, ◌==◌, Bool, true, false, List, [], ◌∷◌, ◌++◌, reverse, refl, sym, ◌∙◌, ap, subst, Option, Some, None, if◌then◌else◌, Err}
-use Rattle.broker_core.proofs.Names.{ActSpec, Effect, Tree, Heard, ResumeFault, tasks, Scripted, book, keep, resume_fault, Shows, passed, LedgerParts, kept, fresh_ledger, fits_now, added, led, other_at, fault_of, IsLedTo, parts_of}
+use Rattle.broker_core.proofs.Names.{ActSpec, Effect, Tree, Heard, ResumeFault, tasks, Scripted, book, keep, resume_fault, Shows, passed, LedgerParts, kept, fresh_ledger, fits_now, added, led, other_at, fault_of, IsLedTo, parts_of, ◌≡◌, ℕ, ◌≤◌, ◌==◌, Bool, true, false, List, [], ◌∷◌, ◌++◌, reverse, refl, sym, ◌∙◌, ap, subst, Option, Some, None, if◌then◌else◌, Err, nothing_heard, opened_broker, Opens}
 use Rattle.broker_core.specs.declared.resume_faults.ResumeFault.TheVariants as fault
-use Rattle.broker_core.specs.Stages.{nothing_heard}
-use Rattle.broker_core.specs.Parts.{opened_broker}
-use Rattle.broker_core.specs.Brokers.{Opens}
 use Rattle.broker_core.proofs.LogLemmas.{Took, led-took, other-is, fault-is, not-old}
 
 -- whose the ledger is stays

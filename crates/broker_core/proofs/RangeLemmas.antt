@@ -1,14 +1,7 @@
 -- What a broker keeps stays in range, and what it gives is in range.
-use Rattle.std.proofs.Common.{◌≡◌, ◌≢◌, ℕ, zero, suc, ◌+◌, ◌-◌, ◌<◌, ◌≤◌, ◌^◌, max, nat_lt, ◌==◌, Bool, true, false, cond, ◌&&◌, ◌||◌, take, length, List, [], ◌∷◌, ◌++◌, reverse, refl, sym, ◌∙◌, ap, subst, Option, Some, None, if◌then◌else◌, arith}
-use Rattle.std.specs.List.{slice_get}
-use Rattle.std.specs.Option.{option_map}
-use Rattle.std.proofs.lemmas.Bool.{eqb-true, false≢true}
 use Rattle.std.proofs.lemmas.Bool.Decides.{nat_tests}
-use Rattle.std.proofs.lemmas.List.{reverse-reverse}
 use Rattle.std.proofs.Math.Nat.{max-le}
-use Rattle.broker_core.proofs.Names.{Every, StampParts, TimeParts, same_stamp, same_time, Decision, ActSpec, block, Effect, Outcome, Message, Out, Turn, AreEffects, AreOuts, Stop, Asks, Over, ToRead, ToWrite, Given, Heard, Last, Notes, Phase, Reply, Ignored, Hears, Adds, is_none, next_clock, is_asking, task_of, is_stamp, is_time, when, act_at, answered_in, answers_given, another_at, changed, fits_try_at, index_of, most_of, open_last, passed, run_begun, stop_at, timeout_of, tree_of, unended, phase_of, phase_by_last, phase_by_stop, phase_by_open, phase_at, closed_in, standing_for, standing_by, standing_at, commit_answered, early_answered, opening_row, reading_row, writing_row, decided_of, decision_row, reply_for, reply_by, reply_at, start_at, shown_at, by_clock_at, try_or_spent_at, after_tries_at, due_at, by_phase, IsBrokerAct, AreNotes, LedgerParts, Settled, kept, owed_now, settle_on, settled, most_steps, fits_now, added, logged, led, fresh_ledger, listed, phase_in, effects_from, ledger_from, IsHeard, FirstInRange}
-use Rattle.pseudo_time.specs.StampParts.{IsStamp}
-use Rattle.pseudo_time.specs.TimeParts.{IsTime}
+use Rattle.broker_core.proofs.Names.{Every, StampParts, TimeParts, same_stamp, same_time, Decision, ActSpec, block, Effect, Outcome, Message, Out, Turn, AreEffects, AreOuts, Stop, Asks, Over, ToRead, ToWrite, Given, Heard, Last, Notes, Phase, Reply, Ignored, Hears, Adds, is_none, next_clock, is_asking, task_of, is_stamp, is_time, when, act_at, answered_in, answers_given, another_at, changed, fits_try_at, index_of, most_of, open_last, passed, run_begun, stop_at, timeout_of, tree_of, unended, phase_of, phase_by_last, phase_by_stop, phase_by_open, phase_at, closed_in, standing_for, standing_by, standing_at, commit_answered, early_answered, opening_row, reading_row, writing_row, decided_of, decision_row, reply_for, reply_by, reply_at, start_at, shown_at, by_clock_at, try_or_spent_at, after_tries_at, due_at, by_phase, IsBrokerAct, AreNotes, LedgerParts, Settled, kept, owed_now, settle_on, settled, most_steps, fits_now, added, logged, led, fresh_ledger, listed, phase_in, effects_from, ledger_from, IsHeard, FirstInRange, ◌≡◌, ◌≢◌, ℕ, zero, suc, ◌+◌, ◌-◌, ◌<◌, ◌≤◌, ◌^◌, max, nat_lt, ◌==◌, Bool, true, false, cond, ◌&&◌, ◌||◌, take, length, List, [], ◌∷◌, ◌++◌, reverse, refl, sym, ◌∙◌, ap, subst, Option, Some, None, if◌then◌else◌, arith, slice_get, option_map, eqb-true, false≢true, reverse-reverse, IsStamp, IsTime, IsEffect, act_effect, end_noted, home_of, shown_by, time_at, closed_at, ends_at, ended_row, AreBrokerActs, GivenInRange, HasStamp, AreInRange, Ranged}
 use Rattle.pseudo_time.specs.declared.decisions.Decision.TheVariants as decision
 use Rattle.pseudo_time.proofs.ListLemmas.{every-append, every-reverse}
 use Rattle.field_form.specs.Decisions.{IsDecision}
@@ -21,18 +14,12 @@ use Rattle.effect_form.specs.Effects.{IsIndex}
 use Rattle.effect_form.specs.Outcomes.{IsOutcome}
 use Rattle.message_form.specs.declared.messages.Message.TheVariants as message
 use Rattle.message_form.specs.Messages.{IsMessage}
-use Rattle.message_form.specs.Ranges.{IsEffect}
 use Rattle.serial_model.specs.Ranges.{StopInRange}
 use Rattle.serial_model.specs.Requests.{AsksInRange, AnswerHasBytes}
 use Rattle.serial_model.proofs.RequestLemmas.{denote-HasBytes, stop-InRange}
 use Rattle.serial_model.proofs.TestLemmas.{by_test}
 use Rattle.broker_core.specs.declared.givens.Given.TheVariants as given
 use Rattle.broker_core.specs.declared.phases.Phase.TheVariants as phase
-use Rattle.broker_core.specs.Fits.{act_effect}
-use Rattle.broker_core.specs.Notes.{end_noted, home_of, shown_by, time_at}
-use Rattle.broker_core.specs.Phases.{closed_at, ends_at, ended_row}
-use Rattle.broker_core.specs.Ledgers.{AreBrokerActs}
-use Rattle.broker_core.specs.Ranges.{GivenInRange, HasStamp, AreInRange, Ranged}
 use Rattle.serial_model.proofs.ScriptRangeLemmas.{printable-InRange}
 use Rattle.serial_model.proofs.TextByteLemmas.{script-IsBytes}
 

@@ -1,11 +1,5 @@
 -- A text of the language is read as the script that has it.
-use Rattle.std.proofs.Common.{◌≡◌, inl, inr, ℕ, ◌+◌, ◌≤◌, arith, Bool, true, false, List, [], ◌∷◌, refl, sym, ap, subst, ◌∙◌, if◌then◌else◌}
-use Rattle.std.specs.Prelude.{◌==◌}
-use Rattle.std.specs.Cmp.Lexicographic.{pointwise, same_text, bytes_decides}
-use Rattle.std.proofs.lemmas.Bool.{false≢true}
-use Rattle.broker_core.proofs.Names.{Every, ActSpec, block, Tree, denote, Scripted, IsBrokerAct, reading}
-use Rattle.pseudo_time.specs.Lists.{Has}
-use Rattle.value_form.specs.Mirror.{Block, Spot, Fixed, At}
+use Rattle.broker_core.proofs.Names.{Every, ActSpec, block, Tree, denote, Scripted, IsBrokerAct, reading, ◌≡◌, inl, inr, ℕ, ◌+◌, ◌≤◌, arith, Bool, true, false, List, [], ◌∷◌, refl, sym, ap, subst, ◌∙◌, if◌then◌else◌, ◌==◌, pointwise, same_text, bytes_decides, false≢true, Has, Block, Spot, Fixed, At}
 use Rattle.script_form.specs.Row.{Row}
 use Rattle.script_form.specs.Row as r
 use Rattle.script_form.specs.Rows.{Numbered}

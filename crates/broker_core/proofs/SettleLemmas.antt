@@ -1,7 +1,5 @@
 -- Settling, effect by effect.
-use Rattle.std.proofs.Common.{◌≡◌, ℕ, zero, suc, ◌+◌, ◌-◌, ◌*◌, ◌<◌, List, [], ◌∷◌, ◌++◌, length, reverse, Option, Some, None, refl, ap, subst, sym, arith, ◌∙◌}
-use Rattle.broker_core.proofs.Names.{ActSpec, Effect, Given, Heard, Notes, Phase, changed, phase_at, owed_at, LedgerParts, kept, most_steps, owed_now, settle_on, settled}
-use Rattle.std.proofs.lemmas.List.{reverse-append}
+use Rattle.broker_core.proofs.Names.{ActSpec, Effect, Given, Heard, Notes, Phase, changed, phase_at, owed_at, LedgerParts, kept, most_steps, owed_now, settle_on, settled, ◌≡◌, ℕ, zero, suc, ◌+◌, ◌-◌, ◌*◌, ◌<◌, List, [], ◌∷◌, ◌++◌, length, reverse, Option, Some, None, refl, ap, subst, sym, arith, ◌∙◌, reverse-append}
 
 module _ (me run : ℕ) (acts : List ActSpec) (answers : List Given) (h : Heard) where
   -- nothing is owed

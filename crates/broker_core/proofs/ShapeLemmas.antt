@@ -1,12 +1,5 @@
 -- Notes on a book, by the shapes of its acts.
-use Rattle.std.proofs.Common.{◌≡◌, ℕ, zero, suc, ◌==◌, nat_lt, Bool, true, false, not, ◌&&◌, length, List, [], ◌∷◌, ◌++◌, refl, sym, ◌∙◌, ap, subst, Option, Some, None, if◌then◌else◌, arith}
-use Rattle.std.proofs.lemmas.Grind.{common_steps}
-use Rattle.std.proofs.lemmas.Option.{slice_get-map}
-use Rattle.std.specs.List.{slice_get}
-use Rattle.std.specs.Option.{option_map}
-use Rattle.broker_core.proofs.Names.{ActSpec, Outcome, Every, Last, Notes, Task, task_of, tasks, Try, Act, Book, front, tries_of, open_front, open_of, open_try, last_try, if_open, is_none, rests, has_ended, may_follow, another, calls_again, all_over, start, start_at, last_of, over_behind, spent_in, tries_in, notes_of, unended, open_last, calls_on, another_at, over_at, rests_at}
-use Rattle.broker_core.specs.Fits.{outcome_by}
-use Rattle.broker_core.specs.Notes.{has_end, outcome_at}
+use Rattle.broker_core.proofs.Names.{ActSpec, Outcome, Every, Last, Notes, Task, task_of, tasks, Try, Act, Book, front, tries_of, open_front, open_of, open_try, last_try, if_open, is_none, rests, has_ended, may_follow, another, calls_again, all_over, start, start_at, last_of, over_behind, spent_in, tries_in, notes_of, unended, open_last, calls_on, another_at, over_at, rests_at, ◌≡◌, ℕ, zero, suc, ◌==◌, nat_lt, Bool, true, false, not, ◌&&◌, length, List, [], ◌∷◌, ◌++◌, refl, sym, ◌∙◌, ap, subst, Option, Some, None, if◌then◌else◌, arith, common_steps, slice_get-map, slice_get, option_map, outcome_by, has_end, outcome_at}
 
 -- ---- tests of numbers
 

@@ -1,12 +1,7 @@
 -- The book of the part of a log that counts is the plan's.
-use Rattle.std.proofs.Common.{◌≡◌, ℕ, ◌==◌, Bool, true, false, ◌&&◌, length, List, [], ◌∷◌, refl, sym, ◌∙◌, ap, Option, Some, None, if◌then◌else◌}
-use Rattle.std.proofs.lemmas.Bool.{eqb-true, eq-eqb}
-use Rattle.std.specs.List.{slice_get}
-use Rattle.std.specs.Cmp.Lexicographic.{same_text}
-use Rattle.broker_core.proofs.Names.{StampParts, Every, Effect, Outcome, Tree, Task, task_with, same_task, is_task, Try, Act, Book, enter, book, on_act, on_front, on_try, finish, new_try, fits, counts, add_if, keep, rests, Started, OfAct, Sound}
+use Rattle.broker_core.proofs.Names.{StampParts, Every, Effect, Outcome, Tree, Task, task_with, same_task, is_task, Try, Act, Book, enter, book, on_act, on_front, on_try, finish, new_try, fits, counts, add_if, keep, rests, Started, OfAct, Sound, ◌≡◌, ℕ, ◌==◌, Bool, true, false, ◌&&◌, length, List, [], ◌∷◌, refl, sym, ◌∙◌, ap, Option, Some, None, if◌then◌else◌, eqb-true, eq-eqb, slice_get, same_text, close}
 use Rattle.effect_form.specs.declared.effects.Effect.TheVariants as effect
 use Rattle.effect_form.specs.declared.outcomes.Outcome.TheVariants as outcome
-use Rattle.broker_core.specs.Book.{close}
 
 -- ---- tests
 

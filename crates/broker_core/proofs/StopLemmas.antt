@@ -1,7 +1,5 @@
 -- What a run tells is where the tree of its script stops.
-use Rattle.std.proofs.Common.{◌≡◌, List, Option, Some, None, refl, ap, sym, ◌∙◌, subst, MatchOption}
-use Rattle.broker_core.proofs.Names.{ActSpec, Stmt, Line, block, Answer, denote, stop, Next, RunParts, Tells, Given, tree_of, answers_given, act_at, stop_at, LedgerParts, StepperFits, kept, lines_of}
-use Rattle.script_meaning.specs.Meaning.{Came}
+use Rattle.broker_core.proofs.Names.{ActSpec, Stmt, Line, block, Answer, denote, stop, Next, RunParts, Tells, Given, tree_of, answers_given, act_at, stop_at, LedgerParts, StepperFits, kept, lines_of, ◌≡◌, List, Option, Some, None, refl, ap, sym, ◌∙◌, subst, MatchOption, Came}
 use Rattle.serial_model.proofs.ScriptLemmas.{talk_of}
 use Rattle.serial_model.proofs.AnswerLemmas.{talked-stop}
 use Rattle.script_run.specs.RunParts.{stop_of}

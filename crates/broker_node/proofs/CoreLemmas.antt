@@ -1,13 +1,9 @@
 -- What a broker's core and the store beside it say of a life.
-use Rattle.std.proofs.Common.{◌≡◌, ℕ, true, false, List, reverse, Option, Some, is_none, Ok, Err, inr, refl, sym, ap, subst, ◌∙◌, append_assoc}
+use Rattle.broker_node.proofs.Names.{◌≡◌, ℕ, true, false, List, reverse, Option, Some, is_none, Ok, Err, inr, refl, sym, ap, subst, ◌∙◌, append_assoc, broker, NodeId, Effect, Image, Scripted, tasks, Base, Life, all_effects, opened_life, gated_life, after_input, HasTurn, IsReady, IsDamageOf, given_for, as_damage, is_over}
 use Rattle.std.proofs.lemmas.List.{append-nil}
-use Rattle.pseudo_time.specs.Nodes.{broker}
-use Rattle.pseudo_time.specs.declared.nodes.NodeId.{NodeId}
 use Rattle.value_form.specs.declared.acts.ActSpec.{ActSpec}
-use Rattle.effect_form.specs.declared.effects.Effect.{Effect}
 use Rattle.message_form.specs.declared.turns.Turn.{Turn}
 use Rattle.serial_model.specs.Questions.{Tree}
-use Rattle.medium_port.specs.Image.{Image}
 use Rattle.version_store.specs.Storage.{storage}
 use Rattle.version_store.specs.declared.faults.OpenFault.{OpenFault}
 use Rattle.version_store.specs.declared.faults.OpenFault.TheVariants as opening
@@ -18,14 +14,10 @@ use Rattle.broker_core.specs.Brokers.{Gives, Opens, is_done, opened_broker, turn
 use Rattle.broker_core.specs.Fits.{keep, resume_fault}
 use Rattle.broker_core.specs.Owed.{done}
 use Rattle.broker_core.specs.Parts.{BrokerParts}
-use Rattle.broker_core.specs.Tasks.{Scripted, tasks}
 use Rattle.broker_core.specs.Turns as desks
 use Rattle.world_core.specs.Cores.{IsBroker, BrokerGave}
 use Rattle.world_core.specs.Nodes.{Input, broker_gives, with_desk, desk_after, acts_of, is_ready, opened_mind}
-use Rattle.world_core.specs.Walks.{Base, Life, all_effects, opened_life, gated_life, after_input}
 use Rattle.world_core.proofs.CoreTurns.{gives-broker, broker-gave}
-use Rattle.node_turn.specs.Cores.{HasTurn, IsReady, IsDamageOf, given_for}
-use Rattle.broker_node.specs.Logs.{as_damage, is_over}
 
 -- ---- turns
 

@@ -10,3 +10,4 @@ pub use Rattle.node_turn.proofs.TrailLemmas
 pub use Rattle.node_turn.proofs.WindowLemmas
 pub use Rattle.node_turn.proofs.WireCrosses
 pub use Rattle.node_turn.proofs.hands
+pub mod Names

@@ -1,19 +1,7 @@
 -- What becomes of all objects, one after another in rising order.
-use Rattle.std.proofs.Common.{◌≡◌, ◌<◌, length, arith, Bool, true, false, List, [], ◌∷◌, ◌++◌, refl, sym, ◌∙◌, ap, subst, Option, Some, None, if◌then◌else◌, cond, inl, inr}
-use Rattle.std.specs.Prelude.{Result, Ok, Err, IsSome, is_some, is_ok, unwrap_or, IfSome, IfOk, IfErr, ◌⊎◌}
-use Rattle.std.specs.Ordering.{is_eq, is_gt}
-use Rattle.std.proofs.lemmas.Bool.{true≢false, false≢true}
-use Rattle.value_form.specs.declared.objects.ObjectId.{ObjectId}
-use Rattle.value_form.specs.Objects.{object_cmp}
-use Rattle.object_history.specs.Objects.{same_object}
-use Rattle.object_history.proofs.ObjectLemmas.{same_object-is}
-use Rattle.object_history.proofs.MapLemmas.{found_at}
-use Rattle.commit_watch.specs.declared.moved.Moved.{Moved}
-use Rattle.commit_watch.specs.declared.faults.WatchFault.{WatchFault}
+use Rattle.commit_watch.proofs.Names.{◌≡◌, ◌<◌, length, arith, Bool, true, false, List, [], ◌∷◌, ◌++◌, refl, sym, ◌∙◌, ap, subst, Option, Some, None, if◌then◌else◌, cond, inl, inr, Result, Ok, Err, IsSome, is_some, is_ok, unwrap_or, IfSome, IfOk, IfErr, ◌⊎◌, is_eq, is_gt, true≢false, false≢true, ObjectId, object_cmp, same_object, same_object-is, found_at, Moved, WatchFault, object_lt, moved_at, with_moved, with_all, or_before, with_change, StandingParts, empty_standing}
 use Rattle.commit_watch.specs.declared.faults.WatchFault.TheVariants as fault
-use Rattle.commit_watch.specs.Lists.{object_lt, moved_at, with_moved, with_all, or_before, with_change}
 use Rattle.commit_watch.specs.Refusals.{IsRefusal}
-use Rattle.commit_watch.specs.Standings.{StandingParts, empty_standing}
 use Rattle.commit_watch.proofs.ListLemmas.{behind, all-more, moved-with}
 
 module _ {T : Type 0} (out : ObjectId → StandingParts → Result (Option (Moved T)) WatchFault) (ws : List (Moved T)) (all : ObjectId → Option StandingParts) where

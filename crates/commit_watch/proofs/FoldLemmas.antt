@@ -1,13 +1,6 @@
 -- The steps of a fold over an object's versions.
-use Rattle.std.proofs.Common.{◌≡◌, ℕ, zero, suc, ◌+◌, ◌<◌, ◌≤◌, slice_index_or, arith, Bool, true, false, List, [], ◌∷◌, filter, drop, length, refl, sym, ◌∙◌, ap, subst, Option, Some, None, if◌then◌else◌}
-use Rattle.std.specs.Prelude.{Result, Ok, Err}
-use Rattle.value_form.specs.declared.objects.ObjectId.{ObjectId}
-use Rattle.commit_watch.specs.declared.versions.Version.{Version}
-use Rattle.commit_watch.specs.declared.moved.Moved.{Moved}
-use Rattle.commit_watch.specs.declared.faults.WatchFault.{WatchFault}
+use Rattle.commit_watch.proofs.Names.{◌≡◌, ℕ, zero, suc, ◌+◌, ◌<◌, ◌≤◌, slice_index_or, arith, Bool, true, false, List, [], ◌∷◌, filter, drop, length, refl, sym, ◌∙◌, ap, subst, Option, Some, None, if◌then◌else◌, Result, Ok, Err, ObjectId, Version, Moved, WatchFault, total_of, and_then, moved_to, moved_over}
 use Rattle.commit_watch.specs.declared.faults.WatchFault.TheVariants as fault
-use Rattle.commit_watch.specs.Lists.{total_of}
-use Rattle.commit_watch.specs.Folds.{and_then, moved_to, moved_over}
 
 module _ {T : Type 0} (first : T) (next : T → Version → Option T) (o : ObjectId) (p : Version → Bool) where
   filter-first : (rest vs : List Version) (v : Version) (b : Bool) → rest ≡ v ∷ vs → p v ≡ b → filter p rest ≡ (if b then v ∷ filter p vs else filter p vs)

@@ -3,3 +3,4 @@ pub mod FoldLemmas
 pub mod ListLemmas
 pub mod StandingLemmas
 pub mod TotalLemmas
+pub mod Names

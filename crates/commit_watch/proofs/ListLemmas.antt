@@ -1,23 +1,11 @@
 -- Rising lists of objects that moved: what they have of an object, and how one more is put into them.
-use Rattle.std.proofs.Common.{◌≡◌, ℕ, zero, suc, ◌+◌, ◌<◌, ◌≤◌, Bool, true, false, List, [], ◌∷◌, ◌++◌, length, take, drop, refl, sym, ◌∙◌, ap, subst, Option, Some, None, if◌then◌else◌, slice_set, slice_index_or, arith}
-use Rattle.std.specs.List.{AllWithin}
+use Rattle.commit_watch.proofs.Names.{◌≡◌, ℕ, zero, suc, ◌+◌, ◌<◌, ◌≤◌, Bool, true, false, List, [], ◌∷◌, ◌++◌, length, take, drop, refl, sym, ◌∙◌, ap, subst, Option, Some, None, if◌then◌else◌, slice_set, slice_index_or, arith, AllWithin, Result, Ok, Err, IsOk, is_ok, ◌==◌, ◌&&◌, is_lt, is_eq, ordering_reverse, ordering_then, nat_cmp, true≢false, false≢true, Every, is_less, ObjectId, object_cmp, same_object, same_object-is, same_object-of, Moved, object_lt, moved_at, AreRising, by_order, with_moved, with_all}
 use Rattle.std.specs.List.Sorted.{IsPartitionedBy}
-use Rattle.std.specs.Prelude.{Result, Ok, Err, IsOk, is_ok, ◌==◌, ◌&&◌}
-use Rattle.std.specs.Ordering.{is_lt, is_eq, ordering_reverse, ordering_then, nat_cmp}
 use Rattle.std.proofs.lemmas.Grind.{common_steps}
 use Rattle.std.specs.declared.cmp.Ordering.{Ordering}
 use Rattle.std.specs.declared.cmp.Ordering.TheVariants.{Less, Equal, Greater}
 use Rattle.std.specs.Cmp.{tied_itself}
-use Rattle.std.proofs.lemmas.Bool.{true≢false, false≢true}
-use Rattle.pseudo_time.specs.Lists.{Every}
-use Rattle.pseudo_time.proofs.OrderLemmas.{is_less}
-use Rattle.value_form.specs.declared.objects.ObjectId.{ObjectId}
-use Rattle.value_form.specs.Objects.{object_cmp}
 use Rattle.value_form.proofs.ObjectLemmas.{object_cmp-total, object_cmp-exact}
-use Rattle.object_history.specs.Objects.{same_object}
-use Rattle.object_history.proofs.ObjectLemmas.{same_object-is, same_object-of}
-use Rattle.commit_watch.specs.declared.moved.Moved.{Moved}
-use Rattle.commit_watch.specs.Lists.{object_lt, moved_at, AreRising, by_order, with_moved, with_all}
 
 -- ---- the order of objects
 

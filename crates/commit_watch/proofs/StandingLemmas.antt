@@ -1,38 +1,10 @@
 -- How the versions of an object stand, as the code keeps it, says what is folded and what is refused.
-use Rattle.std.proofs.Common.{◌≡◌, ℕ, zero, suc, ◌+◌, ◌<◌, ◌≤◌, Bool, true, false, List, [], ◌∷◌, ◌++◌, map, filter, length, take, drop, refl, sym, ◌∙◌, ap, subst, Option, Some, None, ◌&&◌, ◌||◌, not, if◌then◌else◌, cond, slice_index_or, arith}
-use Rattle.std.specs.Prelude.{Result, Ok, Err, unwrap_or, is_some}
-use Rattle.std.specs.List.{AllWithin}
-use Rattle.std.specs.Ordering.{is_eq}
+use Rattle.commit_watch.proofs.Names.{◌≡◌, ℕ, zero, suc, ◌+◌, ◌<◌, ◌≤◌, Bool, true, false, List, [], ◌∷◌, ◌++◌, map, filter, length, take, drop, refl, sym, ◌∙◌, ap, subst, Option, Some, None, ◌&&◌, ◌||◌, not, if◌then◌else◌, cond, slice_index_or, arith, Result, Ok, Err, unwrap_or, is_some, AllWithin, is_eq, get-insert, get-empty, true≢false, false≢true, Every, StampParts, stamp_cmp, TimeParts, lt, same_stamp, lt-trans, lt-asymmetric, lt-split, stamp_cmp-total, same_stamp-is, ObjectId, Value, object_cmp, Mark, Put, Stretch, Settle, Floor, same_object, Seen, or_else, settle_of, is_settled, is_committed, version_count, floor_of, insert, listed, is_blocked, settled_versions, not-false, same_object-is, found_at, Puts, Version, Moved, WatchFault, Scan, moved_at, cursor_of, version_of, fresh, is_under, is_retired, unless_retired, moved_over, advanced, StandingParts, empty_standing, all_above, version_in, earlier, Terms, is_wanted, is_lost, put_of, with_version, standing_of, is_stopped, settled_in, stood, terms_in}
 use Rattle.std.specs.FinMap as finite
-use Rattle.std.specs.FinMap.{get-insert, get-empty}
-use Rattle.std.proofs.lemmas.Bool.{true≢false, false≢true}
 use Rattle.std.proofs.lemmas.Cmp.{eq_by_cmp_equiv}
-use Rattle.pseudo_time.specs.Lists.{Every}
-use Rattle.pseudo_time.specs.StampParts.{StampParts, stamp_cmp}
-use Rattle.pseudo_time.specs.TimeParts.{TimeParts}
-use Rattle.pseudo_time.specs.Order.{lt, same_stamp}
-use Rattle.pseudo_time.proofs.OrderLemmas.{lt-trans, lt-asymmetric, lt-split, stamp_cmp-total, same_stamp-is}
-use Rattle.value_form.specs.declared.objects.ObjectId.{ObjectId}
-use Rattle.value_form.specs.declared.values.Value.{Value}
-use Rattle.value_form.specs.Objects.{object_cmp}
-use Rattle.object_history.specs.declared.marks.Mark.{Mark}
-use Rattle.object_history.specs.declared.marks.Mark.TheVariants.{Put, Stretch, Settle, Floor}
-use Rattle.object_history.specs.Objects.{same_object}
-use Rattle.object_history.specs.History.{Seen, or_else, settle_of, is_settled, is_committed, version_count, floor_of}
 use Rattle.object_history.specs.Answers.{some_put}
 use Rattle.object_history.specs.Kept.{Settled, is_past, is_below}
-use Rattle.object_history.specs.Settled.{insert, listed, is_blocked, settled_versions}
-use Rattle.object_history.proofs.BoolLemmas.{not-false}
-use Rattle.object_history.proofs.ObjectLemmas.{same_object-is}
-use Rattle.object_history.proofs.MapLemmas.{found_at, Puts}
 use Rattle.commit_watch.specs.declared.puts.Put as puts
-use Rattle.commit_watch.specs.declared.versions.Version.{Version}
-use Rattle.commit_watch.specs.declared.moved.Moved.{Moved}
-use Rattle.commit_watch.specs.declared.faults.WatchFault.{WatchFault}
-use Rattle.commit_watch.specs.declared.scans.Scan.{Scan}
-use Rattle.commit_watch.specs.Lists.{moved_at, cursor_of}
-use Rattle.commit_watch.specs.Folds.{version_of, fresh, is_under, is_retired, unless_retired, moved_over, advanced}
-use Rattle.commit_watch.specs.Standings.{StandingParts, empty_standing, all_above, version_in, earlier, Terms, is_wanted, is_lost, put_of, with_version, standing_of, is_stopped, settled_in, stood, terms_in}
 
 -- ---- a version goes to its place
 

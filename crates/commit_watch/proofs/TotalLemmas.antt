@@ -1,28 +1,8 @@
 -- A total stays that of the rule over all of an object's settled versions up to its cursor.
-use Rattle.std.proofs.Common.{◌≡◌, ◌≢◌, Bool, true, false, List, [], ◌∷◌, ◌++◌, map, filter, refl, sym, ◌∙◌, ap, subst, Option, Some, None, ◌&&◌, not, if◌then◌else◌}
-use Rattle.std.specs.Prelude.{◌⊎◌, Result, Ok, Err}
-use Rattle.std.proofs.Common.{inl, inr}
-use Rattle.std.proofs.lemmas.Bool.{true≢false, false≢true}
-use Rattle.pseudo_time.specs.Lists.{Every, Has}
-use Rattle.pseudo_time.specs.TimeParts.{TimeParts}
-use Rattle.pseudo_time.specs.Order.{lt}
-use Rattle.pseudo_time.proofs.OrderLemmas.{lt-irreflexive, lt-trans, lt-total, lt-split}
-use Rattle.value_form.specs.declared.objects.ObjectId.{ObjectId}
-use Rattle.object_history.specs.declared.marks.Mark.{Mark}
-use Rattle.object_history.specs.declared.marks.Mark.TheVariants.{Put, Stretch, Settle, Floor}
-use Rattle.object_history.specs.Objects.{same_object}
+use Rattle.commit_watch.proofs.Names.{◌≡◌, ◌≢◌, Bool, true, false, List, [], ◌∷◌, ◌++◌, map, filter, refl, sym, ◌∙◌, ap, subst, Option, Some, None, ◌&&◌, not, if◌then◌else◌, ◌⊎◌, Result, Ok, Err, inl, inr, true≢false, false≢true, Every, Has, TimeParts, lt, lt-irreflexive, lt-trans, lt-total, lt-split, ObjectId, Mark, Put, Stretch, Settle, Floor, same_object, Seen, version_count, floor_of, settle_of, is_committed, insert, listed, settled_versions, is_blocked, Adds, same_object-is, and-left, not-false, not-true, Version, Moved, WatchFault, cursor_of, total_of, version_of, fresh, is_retired, unless_retired, and_then, moved_to, moved_over, advanced}
 use Rattle.object_history.specs.Views.{Starts, Distinct}
-use Rattle.object_history.specs.History.{Seen, version_count, floor_of, settle_of, is_committed}
-use Rattle.object_history.specs.Settled.{insert, listed, settled_versions, is_blocked, Adds}
-use Rattle.object_history.proofs.ObjectLemmas.{same_object-is}
 use Rattle.object_history.proofs.SettledLemmas.{listed-passes, settled-prefix}
-use Rattle.object_history.proofs.BoolLemmas.{and-left, not-false, not-true}
-use Rattle.commit_watch.specs.declared.versions.Version.{Version}
-use Rattle.commit_watch.specs.declared.moved.Moved.{Moved}
-use Rattle.commit_watch.specs.declared.faults.WatchFault.{WatchFault}
 use Rattle.commit_watch.specs.declared.faults.WatchFault.TheVariants as fault
-use Rattle.commit_watch.specs.Lists.{cursor_of, total_of}
-use Rattle.commit_watch.specs.Folds.{version_of, fresh, is_retired, unless_retired, and_then, moved_to, moved_over, advanced}
 use Rattle.commit_watch.specs.Totals.{folded_so_far, IsTotal}
 use Rattle.commit_watch.proofs.StandingLemmas.{Sorted, sorted-listed, every-in}
 

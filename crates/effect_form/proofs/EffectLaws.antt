@@ -1,30 +1,7 @@
 -- An effect that is read is the one that was written.
-use Rattle.std.proofs.Common.{◌≡◌, ℕ, lit<, ◌+◌, ◌-◌, ◌≤◌, ◌<◌, ◌^◌, ◌&&◌, nat_lt, nat_le, Bool, true, false, cond, List, [], ◌∷◌, ◌++◌, length, Option, Some, None, Result, Ok, Err, refl, sym, ap, subst, ◌∙◌, append_assoc, arith, inl, inr}
-use Rattle.std.specs.Prelude.{◌==◌, ◌⊎◌}
-use Rattle.std.specs.Int.{w16, w32, w64, to_be_bytes}
-use Rattle.std.proofs.lemmas.Bool.Decides.{nat_tests}
-use Rattle.pseudo_time.specs.StampParts.{IsStamp, stamp_bytes}
-use Rattle.pseudo_time.specs.TimeParts.{TimeParts, IsTime, time_bytes}
-use Rattle.field_form.specs.Decisions.{IsDecision, decision_text, decision_at}
-use Rattle.field_form.specs.Forms.{IsBytes, Begins, IsForm}
+use Rattle.effect_form.proofs.Names.{◌≡◌, ℕ, lit<, ◌+◌, ◌-◌, ◌≤◌, ◌<◌, ◌^◌, ◌&&◌, nat_lt, nat_le, Bool, true, false, cond, List, [], ◌∷◌, ◌++◌, length, Option, Some, None, Result, Ok, Err, refl, sym, ap, subst, ◌∙◌, append_assoc, arith, inl, inr, ◌==◌, ◌⊎◌, w16, w32, w64, to_be_bytes, nat_tests, IsStamp, stamp_bytes, TimeParts, IsTime, time_bytes, IsDecision, decision_text, decision_at, IsBytes, Begins, IsForm, byte_at, number_at, between, front_at, stamp_at, time_at, bind_some, chosen_then, some_is, Begins-then, byte_form, u16_form, u32_form, u64_form, between_form, front_takes, front_again, stamp_form, time_form, chosen, decision_form, Value, IsObject, object_bytes, object_bytes_at, IsValue, value_bytes, value_at, found, ◌>>=◌, field, field_ok, ok_is, object_form, value_form, Effect, Put, Stretch, Begin, Decide, Learn, Run, Act, Try, Got, Acked, End, Mark, Whole, Place, IsOutcome, outcome_bytes, outcome_at, clock_at, whole_one, whole_two, Written, IsPlace, IsBack, back_bytes, back_from, back_at, index_at, positive_at, learned_byte, learned_at, home_at, timeout_at, tries_at, length_at, IsIndex, IsPositive, effect_bytes, IsActEffect, IsWritten, put_at, act_at, effect_of_tag, effect_at}
 use Rattle.field_form.specs.Forms as form
-use Rattle.field_form.specs.Numbers.{byte_at, number_at, between, front_at}
-use Rattle.field_form.specs.Times.{stamp_at, time_at}
-use Rattle.field_form.proofs.FormLaws.{bind_some, chosen_then, some_is, Begins-then}
-use Rattle.field_form.proofs.NumberLaws.{byte_form, u16_form, u32_form, u64_form, between_form, front_takes, front_again}
-use Rattle.field_form.proofs.TimeLaws.{stamp_form, time_form}
-use Rattle.field_form.proofs.DecisionLaws.{chosen, decision_form}
 use Rattle.value_form.specs.declared.objects.ObjectId.{ObjectId}
-use Rattle.value_form.specs.declared.values.Value.{Value}
-use Rattle.value_form.specs.ObjectBytes.{IsObject, object_bytes, object_bytes_at}
-use Rattle.value_form.specs.ValueBytes.{IsValue, value_bytes, value_at, found, ◌>>=◌, field}
-use Rattle.value_form.proofs.ValueLaws.{field_ok, ok_is, object_form, value_form}
-use Rattle.effect_form.specs.declared.effects.Effect.{Effect}
-use Rattle.effect_form.specs.declared.effects.Effect.TheVariants.{Put, Stretch, Begin, Decide, Learn, Run, Act, Try, Got, Acked, End, Mark, Whole}
-use Rattle.effect_form.specs.declared.effects.Place.{Place}
-use Rattle.effect_form.specs.Outcomes.{IsOutcome, outcome_bytes, outcome_at, clock_at}
-use Rattle.effect_form.specs.Sequences.{whole_one, whole_two}
-use Rattle.effect_form.specs.Effects.{Written, IsPlace, IsBack, back_bytes, back_from, back_at, index_at, positive_at, learned_byte, learned_at, home_at, timeout_at, tries_at, length_at, IsIndex, IsPositive, effect_bytes, IsActEffect, IsWritten, put_at, act_at, effect_of_tag, effect_at}
 use Rattle.effect_form.proofs.OutcomeLaws.{clock_form, outcome_form}
 use Rattle.effect_form.proofs.SequenceLaws.{whole_one-takes, whole_one-again, whole_two-takes, whole_two-again}
 

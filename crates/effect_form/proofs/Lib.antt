@@ -4,3 +4,4 @@ pub mod Pieces
 pub mod ReadLaws
 pub mod SequenceLaws
 pub mod SizeLaws
+pub mod Names

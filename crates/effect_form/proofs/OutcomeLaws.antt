@@ -1,25 +1,8 @@
 -- An outcome that is read is the one that was written.
-use Rattle.std.proofs.Common.{◌≡◌, ℕ, ◌≤◌, ◌<◌, ◌^◌, Bool, true, false, cond, List, [], ◌∷◌, ◌++◌, Option, Some, None, refl, sym, ap, subst, ◌∙◌, arith, inl, inr}
-use Rattle.std.specs.Prelude.{◌==◌, ◌⊎◌}
-use Rattle.std.specs.Int.{w16, w64, to_be_bytes}
-use Rattle.std.proofs.lemmas.Bool.Decides.{nat_tests}
-use Rattle.pseudo_time.specs.TimeParts.{IsTime, time_bytes}
-use Rattle.field_form.specs.Forms.{IsBytes, Begins, IsForm}
+use Rattle.effect_form.proofs.Names.{◌≡◌, ℕ, ◌≤◌, ◌<◌, ◌^◌, Bool, true, false, cond, List, [], ◌∷◌, ◌++◌, Option, Some, None, refl, sym, ap, subst, ◌∙◌, arith, inl, inr, ◌==◌, ◌⊎◌, w16, w64, to_be_bytes, nat_tests, IsTime, time_bytes, IsBytes, Begins, IsForm, byte_at, number_at, time_at, bind_some, some_is, Begins-then, byte_form, u16_form, u64_form, between_form, time_form, chosen, IsObject, object_bytes, object_bytes_at, object_form, Outcome, Committed, Withdrawn, Failed, LaterRead, LaterVersion, Expired, Spent, fail_number, fail_from, fail_at, line_at, clock_at, outcome_bytes, IsOutcome, outcome_of_tag, outcome_at, part_one, part_two}
 use Rattle.field_form.specs.Forms as form
-use Rattle.field_form.specs.Numbers.{byte_at, number_at}
-use Rattle.field_form.specs.Times.{time_at}
-use Rattle.field_form.proofs.FormLaws.{bind_some, some_is, Begins-then}
-use Rattle.field_form.proofs.NumberLaws.{byte_form, u16_form, u64_form, between_form}
-use Rattle.field_form.proofs.TimeLaws.{time_form}
-use Rattle.field_form.proofs.DecisionLaws.{chosen}
-use Rattle.value_form.specs.ObjectBytes.{IsObject, object_bytes, object_bytes_at}
-use Rattle.value_form.proofs.ValueLaws.{object_form}
 use Rattle.value_form.specs.declared.fail_kinds.FailKind.{FailKind}
 use Rattle.value_form.specs.declared.fail_kinds.FailKind.TheVariants as kind
-use Rattle.effect_form.specs.declared.outcomes.Outcome.{Outcome}
-use Rattle.effect_form.specs.declared.outcomes.Outcome.TheVariants.{Committed, Withdrawn, Failed, LaterRead, LaterVersion, Expired, Spent}
-use Rattle.effect_form.specs.Outcomes.{fail_number, fail_from, fail_at, line_at, clock_at, outcome_bytes, IsOutcome, outcome_of_tag, outcome_at}
-use Rattle.effect_form.specs.Sequences.{part_one, part_two}
 use Rattle.effect_form.proofs.SequenceLaws.{part_one-takes, part_one-again, part_two-takes, part_two-again}
 
 abbrev IsLine : ℕ → Type 0

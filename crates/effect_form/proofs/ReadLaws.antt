@@ -1,18 +1,7 @@
 -- What the calls that read effects give.
-use Rattle.std.proofs.Common.{◌≡◌, ℕ, ◌+◌, ◌-◌, ◌≤◌, List, ◌∷◌, ◌++◌, length, take, drop, Option, Some, None, Result, Ok, Err, refl, sym, ap, subst, ◌∙◌, arith}
-use Rattle.std.specs.Prelude.{IfOk}
+use Rattle.effect_form.proofs.Names.{◌≡◌, ℕ, ◌+◌, ◌-◌, ◌≤◌, List, ◌∷◌, ◌++◌, length, take, drop, Option, Some, None, Result, Ok, Err, refl, sym, ap, subst, ◌∙◌, arith, IfOk, IsBytes, Value, value_bytes, value_at, found, field, value_takes, ok_is, time_bytes, object_bytes, Effect, Put, Stretch, Begin, Decide, Learn, Run, Act, Try, Got, Acked, End, Mark, Whole, Place, Written, IsWritten, back_bytes, effect_bytes, effect_at}
 use Rattle.std.proofs.lemmas.List.{take_at, drop_at, take_all, length-append, length-drop}
-use Rattle.field_form.specs.Forms.{IsBytes}
-use Rattle.value_form.specs.declared.values.Value.{Value}
-use Rattle.value_form.specs.ValueBytes.{value_bytes, value_at, found, field}
-use Rattle.value_form.proofs.ValueLaws.{value_takes, ok_is}
-use Rattle.pseudo_time.specs.TimeParts.{time_bytes}
-use Rattle.value_form.specs.ObjectBytes.{object_bytes}
-use Rattle.effect_form.specs.declared.effects.Effect.{Effect}
-use Rattle.effect_form.specs.declared.effects.Effect.TheVariants.{Put, Stretch, Begin, Decide, Learn, Run, Act, Try, Got, Acked, End, Mark, Whole}
-use Rattle.effect_form.specs.declared.effects.Place.{Place}
 use Rattle.effect_form.specs.declared.faults.EffectFault.{EffectFault}
-use Rattle.effect_form.specs.Effects.{Written, IsWritten, back_bytes, effect_bytes, effect_at}
 use Rattle.effect_form.specs.EffectReads.{GivesCount}
 use Rattle.effect_form.proofs.EffectLaws.{effect_takes, effect_again}
 

@@ -1,11 +1,6 @@
 -- Fields one after another that are read are those that were written.
-use Rattle.std.proofs.Common.{◌≡◌, ℕ, List, [], ◌∷◌, ◌++◌, Option, Some, None, Result, Ok, refl, ap, ◌∙◌, subst, append_assoc}
-use Rattle.field_form.specs.Forms.{IsBytes, Begins, IsForm}
+use Rattle.effect_form.proofs.Names.{◌≡◌, ℕ, List, [], ◌∷◌, ◌++◌, Option, Some, None, Result, Ok, refl, ap, ◌∙◌, subst, append_assoc, IsBytes, Begins, IsForm, bind_some, some_is, Begins-then, ◌>>=◌, field, field_ok, ok_is, part_one, part_two, whole_one, whole_two}
 use Rattle.field_form.specs.Forms as form
-use Rattle.field_form.proofs.FormLaws.{bind_some, some_is, Begins-then}
-use Rattle.value_form.specs.ValueBytes.{◌>>=◌, field}
-use Rattle.value_form.proofs.ValueLaws.{field_ok, ok_is}
-use Rattle.effect_form.specs.Sequences.{part_one, part_two, whole_one, whole_two}
 
 module _ {A X : Type 0} (text : A → List ℕ) (InRange : A → Type 0) (f : List ℕ → Option (A × List ℕ)) (one : IsForm text InRange f) (make : A → X) where
   pub part_one-takes : (bytes : List ℕ) (x : X) (rest : List ℕ) → IsBytes bytes → part_one make f bytes ≡ Some (x, rest) → (a : A) × (make a ≡ x) × Begins bytes (text a) rest × InRange a

@@ -1,20 +1,10 @@
 -- How many bytes effects take, and that a back place changes no range.
 use Rattle.std.proofs.Common.{◌≡◌, ℕ, ◌≤◌, nat_le, List, ◌∷◌, ◌++◌, length, Option, None, refl, ap, arith, length-append, inl, inr}
-use Rattle.std.specs.Int.{w16, w32, to_be_bytes}
+use Rattle.effect_form.proofs.Names.{w16, w32, to_be_bytes, decision_text, Value, IsValue, text_bytes, value_bytes, Effect, Put, Stretch, Begin, Decide, Learn, Run, Act, Try, Got, Acked, End, Mark, Whole, Place, Outcome, Committed, Withdrawn, Failed, LaterRead, LaterVersion, Expired, Spent, Written, IsWritten, IsEffect, back_bytes, effect_bytes, size_of, outcome_bytes}
 use Rattle.std.proofs.lemmas.Bool.{cases_Bool, cond-true, cond-false}
 use Rattle.pseudo_time.specs.declared.decisions.Decision.{Decision}
 use Rattle.pseudo_time.specs.declared.decisions.Decision.TheVariants as decision
-use Rattle.field_form.specs.Decisions.{decision_text}
-use Rattle.value_form.specs.declared.values.Value.{Value}
 use Rattle.value_form.specs.declared.values.Value.TheVariants.{Nothing, Number, Text}
-use Rattle.value_form.specs.ValueBytes.{IsValue, text_bytes, value_bytes}
-use Rattle.effect_form.specs.declared.effects.Effect.{Effect}
-use Rattle.effect_form.specs.declared.effects.Effect.TheVariants.{Put, Stretch, Begin, Decide, Learn, Run, Act, Try, Got, Acked, End, Mark, Whole}
-use Rattle.effect_form.specs.declared.effects.Place.{Place}
-use Rattle.effect_form.specs.declared.outcomes.Outcome.{Outcome}
-use Rattle.effect_form.specs.declared.outcomes.Outcome.TheVariants.{Committed, Withdrawn, Failed, LaterRead, LaterVersion, Expired, Spent}
-use Rattle.effect_form.specs.Effects.{Written, IsWritten, IsEffect, back_bytes, effect_bytes, size_of}
-use Rattle.effect_form.specs.Outcomes.{outcome_bytes}
 
 -- an effect's first byte is its tag
 pub effect_cons : (w : Written) → (tag : ℕ) × (fields : List ℕ) × (effect_bytes w ≡ tag ∷ fields)

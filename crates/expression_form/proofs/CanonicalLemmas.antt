@@ -1,23 +1,11 @@
 -- The canonical tokens spell the expression, and are in their limits.
-use Rattle.std.proofs.Common.{◌≡◌, ℕ, zero, suc, ◌+◌, ◌≤◌, Bool, true, false, List, [], ◌∷◌, ◌++◌, refl, subst, arith}
-use Rattle.std.specs.Prelude.{nat_lt}
-use Rattle.std.proofs.lemmas.Bool.{ltb-false}
-use Rattle.token_form.specs.declared.tokens.Token.{Token}
+use Rattle.expression_form.proofs.Names.{◌≡◌, ℕ, zero, suc, ◌+◌, ◌≤◌, Bool, true, false, List, [], ◌∷◌, ◌++◌, refl, subst, arith, nat_lt, ltb-false, Token, IsToken, AreTokens, opens_object, spelling, Prefix, Infix, Call, Term, Number, Text, Nothing, Name, Before, Between, Applied, Given, infix_level, left_level, prefix_level, infix_token, prefix_token, call_token, enclosed, wrapped, level_of, Bare, SpellsAt, Spells, is_looser, enclosed_if, canonical, InLimits}
 use Rattle.token_form.specs.declared.tokens.Token.TheVariants as t
 use Rattle.token_form.specs.declared.tokens.Sign.TheVariants as g
-use Rattle.token_form.specs.Tokens.{IsToken, AreTokens, opens_object, spelling}
 use Rattle.token_form.specs.Tokens as tokens
-use Rattle.value_form.specs.declared.expressions.Prefix.{Prefix}
 use Rattle.value_form.specs.declared.expressions.Prefix.TheVariants as p
-use Rattle.value_form.specs.declared.expressions.Infix.{Infix}
 use Rattle.value_form.specs.declared.expressions.Infix.TheVariants as i
-use Rattle.value_form.specs.declared.expressions.Call.{Call}
 use Rattle.value_form.specs.declared.expressions.Call.TheVariants as c
-use Rattle.value_form.specs.Mirror.{Term, Number, Text, Nothing, Name, Before, Between, Applied, Given}
-use Rattle.expression_form.specs.Levels.{infix_level, left_level, prefix_level, infix_token, prefix_token, call_token}
-use Rattle.expression_form.specs.Grammar.{enclosed, wrapped, level_of, Bare, SpellsAt, Spells}
-use Rattle.expression_form.specs.Canonical.{is_looser, enclosed_if, canonical}
-use Rattle.expression_form.specs.Texts.{InLimits}
 use Rattle.expression_form.proofs.LevelLemmas.{infix_le, left_le, prefix_le}
 
 -- ---- they spell it

@@ -1,15 +1,6 @@
 -- An expression is kept, exactly while it is no deeper than 16.
-use Rattle.std.proofs.Common.{◌≡◌, ℕ, ◌+◌, ◌<◌, ◌≤◌, ◌⊎◌, inl, inr, max, refl, sym, ap, ◌∙◌, subst, arith}
-use Rattle.std.specs.Prelude.{if◌then◌else◌}
-use Rattle.std.proofs.lemmas.Bool.{le-ltb, lt-ltb, cases_lt}
-use Rattle.value_form.specs.declared.expressions.Expr.{Expr}
+use Rattle.expression_form.proofs.Names.{◌≡◌, ℕ, ◌+◌, ◌<◌, ◌≤◌, ◌⊎◌, inl, inr, max, refl, sym, ap, ◌∙◌, subst, arith, if◌then◌else◌, le-ltb, lt-ltb, cases_lt, Expr, Term, Number, Text, Nothing, Name, Before, Between, Applied, Given, made, Operand, Built, Deep, depth, kept, before, between, applied, given, operand_of}
 use Rattle.value_form.specs.declared.expressions.Expr.TheVariants as e
-use Rattle.value_form.specs.Mirror.{Term, Number, Text, Nothing, Name, Before, Between, Applied, Given}
-use Rattle.value_form.specs.MirrorLaws.{made}
-use Rattle.expression_form.specs.declared.operands.Operand.{Operand}
-use Rattle.expression_form.specs.declared.operands.Operand.TheVariants.{Built, Deep}
-use Rattle.expression_form.specs.Depth.{depth}
-use Rattle.expression_form.specs.Operands.{kept, before, between, applied, given, operand_of}
 
 -- kept whole with its depth, or too deep
 abbrev pub Keeps : Operand → Expr → ℕ → Type 0

@@ -1,17 +1,10 @@
 -- Facts on the levels of operators, and on their tokens.
-use Rattle.std.proofs.Common.{◌≡◌, ◌≢◌, ℕ, ◌<◌, ◌≤◌, Bool, true, false, Option, Some, None, refl, ap, arith}
-use Rattle.std.specs.Prelude.{nat_le, if◌then◌else◌}
-use Rattle.std.proofs.lemmas.Bool.{le-leb, lt-leb, leb-true, leb-false}
-use Rattle.token_form.specs.declared.tokens.Token.{Token}
+use Rattle.expression_form.proofs.Names.{◌≡◌, ◌≢◌, ℕ, ◌<◌, ◌≤◌, Bool, true, false, Option, Some, None, refl, ap, arith, nat_le, if◌then◌else◌, le-leb, lt-leb, leb-true, leb-false, Token, Prefix, Infix, infix_level, left_level, prefix_level, infix_token, infix_of}
 use Rattle.token_form.specs.declared.tokens.Token.TheVariants as t
 use Rattle.token_form.specs.declared.tokens.Word.TheVariants as w
 use Rattle.token_form.specs.declared.tokens.Sign.TheVariants as g
-use Rattle.value_form.specs.declared.expressions.Prefix.{Prefix}
 use Rattle.value_form.specs.declared.expressions.Prefix.TheVariants as p
-use Rattle.value_form.specs.declared.expressions.Infix.{Infix}
 use Rattle.value_form.specs.declared.expressions.Infix.TheVariants as i
-use Rattle.expression_form.specs.Levels.{infix_level, left_level, prefix_level, infix_token}
-use Rattle.expression_form.specs.Machine.{infix_of}
 
 -- the left operand's level is no lower than the operator's, both are below unary minus, and no operator between operands has the level of `not`
 pub infix_levels : (o : Infix) → (infix_level o ≤ left_level o) × (left_level o ≤ 5) × (infix_level o ≢ 2)

@@ -6,3 +6,4 @@ pub mod Readings
 pub mod CanonicalLemmas
 pub mod TextLemmas
 pub mod BracketLemmas
+pub mod Names

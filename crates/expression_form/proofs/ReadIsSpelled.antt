@@ -1,25 +1,14 @@
 -- What is read is spelled.
-use Rattle.std.proofs.Common.{◌≡◌, ℕ, suc, ◌+◌, ◌≤◌, List, [], ◌∷◌, ◌++◌, Option, Some, None, refl, sym, ap, ◌∙◌, subst, arith, append_assoc, append-nil}
-use Rattle.std.specs.Prelude.{option_and_then}
-use Rattle.token_form.specs.declared.tokens.Token.{Token}
+use Rattle.expression_form.proofs.Names.{◌≡◌, ℕ, suc, ◌+◌, ◌≤◌, List, [], ◌∷◌, ◌++◌, Option, Some, None, refl, sym, ap, ◌∙◌, subst, arith, append_assoc, append-nil, option_and_then, Token, Prefix, Infix, Term, Number, Text, Nothing, Name, Before, Between, Applied, Given, Operand, Frame, infix_level, left_level, prefix_level, infix_token, prefix_token, call_token, enclosed, level_of, Bare, SpellsAt, before, between, applied, given, operand_of, infix_of, hole, Waiting, close, State, state, shift, shut_at, parted_at, prefixed, joined, wanting, opening, closing, having_as, step_at, step, run, finish, finish_at, ended, operand_read}
 use Rattle.token_form.specs.declared.tokens.Token.TheVariants as t
 use Rattle.token_form.specs.declared.tokens.Word.TheVariants as w
 use Rattle.token_form.specs.declared.tokens.Sign.TheVariants as g
-use Rattle.value_form.specs.declared.expressions.Prefix.{Prefix}
 use Rattle.value_form.specs.declared.expressions.Prefix.TheVariants as p
-use Rattle.value_form.specs.declared.expressions.Infix.{Infix}
-use Rattle.value_form.specs.Mirror.{Term, Number, Text, Nothing, Name, Before, Between, Applied, Given}
-use Rattle.expression_form.specs.declared.operands.Operand.{Operand}
-use Rattle.expression_form.specs.declared.frames.Frame.{Frame}
 use Rattle.expression_form.specs.declared.frames.Frame.TheVariants as f
 use Rattle.expression_form.specs.declared.frames.Head.{Head}
 use Rattle.expression_form.specs.declared.frames.Head.TheVariants as h
 use Rattle.expression_form.specs.declared.frames.Mode.{Mode}
 use Rattle.expression_form.specs.declared.frames.Mode.TheVariants as m
-use Rattle.expression_form.specs.Levels.{infix_level, left_level, prefix_level, infix_token, prefix_token, call_token}
-use Rattle.expression_form.specs.Grammar.{enclosed, level_of, Bare, SpellsAt}
-use Rattle.expression_form.specs.Operands.{before, between, applied, given, operand_of}
-use Rattle.expression_form.specs.Machine.{infix_of, hole, Waiting, close, State, state, shift, shut_at, parted_at, prefixed, joined, wanting, opening, closing, having_as, step_at, step, run, finish, finish_at, ended, operand_read}
 use Rattle.expression_form.proofs.LevelLemmas.{infix_le, prefix_le, chosen, IsInfix, infix_of-is}
 
 -- the tokens spell, at this level, an expression of which this is the operand

@@ -1,15 +1,5 @@
 -- What the operand that was read says of the tokens.
-use Rattle.std.proofs.Common.{◌≡◌, ℕ, ◌<◌, inl, inr, List, Some, None, sym, ap, ◌∙◌, subst, arith}
-use Rattle.token_form.specs.declared.tokens.Token.{Token}
-use Rattle.value_form.specs.declared.expressions.Expr.{Expr}
-use Rattle.value_form.specs.Mirror.{Term, term}
-use Rattle.value_form.specs.MirrorLaws.{made, term-made}
-use Rattle.expression_form.specs.declared.operands.Operand.{Operand}
-use Rattle.expression_form.specs.declared.operands.Operand.TheVariants.{Built, Deep}
-use Rattle.expression_form.specs.Grammar.{Spells}
-use Rattle.expression_form.specs.Depth.{depth, IsShallow}
-use Rattle.expression_form.specs.Operands.{operand_of}
-use Rattle.expression_form.specs.Machine.{operand_read}
+use Rattle.expression_form.proofs.Names.{◌≡◌, ℕ, ◌<◌, inl, inr, List, Some, None, sym, ap, ◌∙◌, subst, arith, Token, Expr, Term, term, made, term-made, Operand, Built, Deep, Spells, depth, IsShallow, operand_of, operand_read}
 use Rattle.expression_form.proofs.DepthLemmas.{Keeps, operand_keeps}
 use Rattle.expression_form.proofs.SpelledIsRead.{spelled_is_read}
 use Rattle.expression_form.proofs.ReadIsSpelled.{Writes, OnWritten, read_is_spelled}

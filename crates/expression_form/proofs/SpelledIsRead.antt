@@ -1,24 +1,12 @@
 -- What is spelled is read.
-use Rattle.std.proofs.Common.{◌≡◌, ℕ, zero, suc, ◌+◌, ◌≤◌, List, [], ◌∷◌, ◌++◌, Option, Some, None, refl, sym, ap, ◌∙◌, subst, arith, append_assoc}
-use Rattle.std.specs.Prelude.{option_and_then}
-use Rattle.token_form.specs.declared.tokens.Token.{Token}
+use Rattle.expression_form.proofs.Names.{◌≡◌, ℕ, zero, suc, ◌+◌, ◌≤◌, List, [], ◌∷◌, ◌++◌, Option, Some, None, refl, sym, ap, ◌∙◌, subst, arith, append_assoc, option_and_then, Token, Prefix, Infix, Call, Term, Number, Text, Nothing, Name, Before, Between, Applied, Given, Operand, Frame, infix_level, left_level, prefix_level, infix_token, prefix_token, call_token, enclosed, wrapped, level_of, level_in, At, Bare, Spells, operand_of, hole, Waiting, held, close, State, state, shift, shut, parted, prefixed, joined, having_as, having, step, run, finish, ended, operand_read}
 use Rattle.token_form.specs.declared.tokens.Token.TheVariants as t
 use Rattle.token_form.specs.declared.tokens.Word.TheVariants as w
 use Rattle.token_form.specs.declared.tokens.Sign.TheVariants as g
-use Rattle.value_form.specs.declared.expressions.Prefix.{Prefix}
 use Rattle.value_form.specs.declared.expressions.Prefix.TheVariants as p
-use Rattle.value_form.specs.declared.expressions.Infix.{Infix}
-use Rattle.value_form.specs.declared.expressions.Call.{Call}
 use Rattle.value_form.specs.declared.expressions.Call.TheVariants as c
-use Rattle.value_form.specs.Mirror.{Term, Number, Text, Nothing, Name, Before, Between, Applied, Given}
-use Rattle.expression_form.specs.declared.operands.Operand.{Operand}
-use Rattle.expression_form.specs.declared.frames.Frame.{Frame}
 use Rattle.expression_form.specs.declared.frames.Frame.TheVariants as f
 use Rattle.expression_form.specs.declared.frames.Mode.TheVariants as m
-use Rattle.expression_form.specs.Levels.{infix_level, left_level, prefix_level, infix_token, prefix_token, call_token}
-use Rattle.expression_form.specs.Grammar.{enclosed, wrapped, level_of, level_in, At, Bare, Spells}
-use Rattle.expression_form.specs.Operands.{operand_of}
-use Rattle.expression_form.specs.Machine.{hole, Waiting, held, close, State, state, shift, shut, parted, prefixed, joined, having_as, having, step, run, finish, ended, operand_read}
 use Rattle.expression_form.proofs.LevelLemmas.{left_ge, apart, infix_of-token, chosen-le, chosen-gt}
 
 -- an operator that fits takes nothing in

@@ -1,22 +1,11 @@
 -- The canonical text is the canonical tokens.
-use Rattle.std.proofs.Common.{ℕ, ◌+◌, Bool, true, false, List, [], ◌∷◌, ◌++◌, refl, sym, subst, append_assoc}
-use Rattle.std.specs.Prelude.{codes}
-use Rattle.token_form.specs.declared.tokens.Token.{Token}
+use Rattle.expression_form.proofs.Names.{ℕ, ◌+◌, Bool, true, false, List, [], ◌∷◌, ◌++◌, refl, sym, subst, append_assoc, codes, Token, Ends, IsTokens, spelling, Prefix, Infix, Call, Term, Number, Text, Nothing, Name, Before, Between, Applied, Given, infix_level, left_level, prefix_level, infix_token, prefix_token, call_token, enclosed, is_looser, enclosed_if, canonical, parenthesized_if, prefix_text, text, InLimits}
 use Rattle.token_form.specs.declared.tokens.Token.TheVariants as t
 use Rattle.token_form.specs.declared.tokens.Word.TheVariants as w
 use Rattle.token_form.specs.declared.tokens.Sign.TheVariants as g
-use Rattle.token_form.specs.Tokens.{Ends, IsTokens, spelling}
 use Rattle.token_form.proofs.Spellings.{spells}
 use Rattle.token_form.proofs.Seams.{quiet_ends, quiet_space, quiet_open, quiet_close, quiet_comma, after_space, seam, first, alone}
-use Rattle.value_form.specs.declared.expressions.Prefix.{Prefix}
 use Rattle.value_form.specs.declared.expressions.Prefix.TheVariants as p
-use Rattle.value_form.specs.declared.expressions.Infix.{Infix}
-use Rattle.value_form.specs.declared.expressions.Call.{Call}
-use Rattle.value_form.specs.Mirror.{Term, Number, Text, Nothing, Name, Before, Between, Applied, Given}
-use Rattle.expression_form.specs.Levels.{infix_level, left_level, prefix_level, infix_token, prefix_token, call_token}
-use Rattle.expression_form.specs.Grammar.{enclosed}
-use Rattle.expression_form.specs.Canonical.{is_looser, enclosed_if, canonical}
-use Rattle.expression_form.specs.Texts.{parenthesized_if, prefix_text, text, InLimits}
 use Rattle.expression_form.proofs.CanonicalLemmas.{infix_token-plain, call_token-plain}
 
 -- signs with which no longer one begins

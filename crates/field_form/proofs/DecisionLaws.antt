@@ -1,12 +1,7 @@
 -- A decision that is read is the one that was written.
-use Rattle.std.proofs.Common.{◌≡◌, ℕ, ◌^◌, ◌<◌, Bool, true, false, cond, List, [], ◌∷◌, ◌++◌, Option, Some, None, refl, sym, ap, subst, ◌∙◌, append_assoc, arith, inl, inr}
-use Rattle.std.specs.Prelude.{◌==◌, ◌⊎◌}
-use Rattle.std.specs.Int.{w64, to_be_bytes}
-use Rattle.std.proofs.lemmas.Bool.Decides.{nat_tests}
+use Rattle.field_form.proofs.Names.{◌≡◌, ℕ, ◌^◌, ◌<◌, Bool, true, false, cond, List, [], ◌∷◌, ◌++◌, Option, Some, None, refl, sym, ap, subst, ◌∙◌, append_assoc, arith, inl, inr, ◌==◌, ◌⊎◌, w64, to_be_bytes, nat_tests, IsBytes, Begins, IsForm, ◌>>=◌, byte_at, number_at}
 use Rattle.pseudo_time.specs.declared.decisions.Decision.{Decision}
 use Rattle.pseudo_time.specs.declared.decisions.Decision.TheVariants.{Committed, Withdrawn, Expired}
-use Rattle.field_form.specs.Forms.{IsBytes, Begins, IsForm, ◌>>=◌}
-use Rattle.field_form.specs.Numbers.{byte_at, number_at}
 use Rattle.field_form.specs.Decisions.{decision_text, IsDecision, decision_at, expiry_at}
 use Rattle.field_form.proofs.FormLaws.{bind_some, some_is, Begins-then}
 use Rattle.field_form.proofs.NumberLaws.{byte_form, u64_form}

@@ -2,3 +2,4 @@ pub mod FormLaws
 pub mod NumberLaws
 pub mod TimeLaws
 pub mod DecisionLaws
+pub mod Names

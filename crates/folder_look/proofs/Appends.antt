@@ -1,10 +1,8 @@
 -- What calls append one behind the other, as one text.
-use Rattle.std.proofs.Common.{◌≡◌, ℕ, ◌+◌, List, [], ◌∷◌, ◌++◌, append_assoc, sym, ◌∙◌, ap, subst, ◌<◌, arith, get_or, length, take, Result, Ok, Err, OnOk, if◌then◌else◌}
+use Rattle.folder_look.proofs.Names.{◌≡◌, ℕ, ◌+◌, List, [], ◌∷◌, ◌++◌, append_assoc, sym, ◌∙◌, ap, subst, ◌<◌, arith, get_or, length, take, Result, Ok, Err, OnOk, if◌then◌else◌, flat_map, append-nil}
 use Prim.Native.Nat.{suc}
-use Rattle.std.specs.List.{flat_map}
 use Rattle.std.specs.Result.{is_ok}
 use Rattle.std.proofs.lemmas.Grind.{flat_map-append}
-use Rattle.std.proofs.lemmas.List.{append-nil}
 use Rattle.std.proofs.Math.Seq.{take-suc}
 
 -- one text and then another

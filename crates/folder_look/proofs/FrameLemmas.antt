@@ -1,7 +1,6 @@
 -- Each part of the page has the frame's tags alone.
-use Rattle.std.proofs.Common.{◌≡◌, ℕ, ◌+◌, ◌*◌, Bool, true, false, List, [], ◌∷◌, ◌++◌, codes, reverse, length, take, refl, ◌∙◌, Option, Some, None, ◌==◌, ◌||◌, nat_lt, if◌then◌else◌}
 use Rattle.std.specs.Fmt.{decimal}
-use Rattle.folder_look.proofs.Names.{flat_map, TimeParts, ObjectId, Value, Effect, stamp_text, named, Choice, VersionRow, ObjectRow, MediumLook, Tally, ended_text, effect_text, column, objects_left}
+use Rattle.folder_look.proofs.Names.{flat_map, TimeParts, ObjectId, Value, Effect, stamp_text, named, Choice, VersionRow, ObjectRow, MediumLook, Tally, ended_text, effect_text, column, objects_left, ◌≡◌, ℕ, ◌+◌, ◌*◌, Bool, true, false, List, [], ◌∷◌, ◌++◌, codes, reverse, length, take, refl, ◌∙◌, Option, Some, None, ◌==◌, ◌||◌, nat_lt, if◌then◌else◌, object_text, time_text, kind_text, refusal_text, kind_word, ended_class, act_text, try_text, got_text, end_text, axis_of, width_of, tally_of}
 use Rattle.pseudo_time.specs.StampParts.{StampParts}
 use Rattle.pseudo_time.specs.declared.nodes.NodeKind.{NodeKind}
 use Rattle.pseudo_time.specs.declared.nodes.NodeKind.TheVariants.{Repository, Broker}
@@ -11,21 +10,16 @@ use Rattle.value_form.specs.ValueText.{value_text}
 use Rattle.effect_form.specs.declared.effects.Effect.TheVariants as effect
 use Rattle.effect_form.specs.declared.outcomes.Outcome.{Outcome}
 use Rattle.effect_form.specs.declared.outcomes.Outcome.TheVariants as outcome
-use Rattle.report_writer.specs.Parts.{object_text, time_text, kind_text}
-use Rattle.report_writer.specs.Reports.{refusal_text, kind_word}
 use Rattle.page_text.specs.Escapes.{page_text}
 use Rattle.page_text.specs.Tags.{InText, InTag, HasTagsOf, spot_behind}
 use Rattle.page_text.proofs.TagLemmas.{through, each-through, text-stays, number-stays, number-quoted}
 use Rattle.folder_look.specs.declared.looks.MediumState.{MediumState}
 use Rattle.folder_look.specs.declared.looks.MediumState.TheVariants.{Whole, Damaged, Shut}
-use Rattle.folder_look.specs.Attempts.{ended_class, act_text, try_text, got_text, end_text}
-use Rattle.folder_look.specs.Axes.{axis_of, width_of}
 use Rattle.folder_look.specs.Drawing as draw
 use Rattle.folder_look.specs.Frame.{frame_tags}
 use Rattle.folder_look.specs.MediaText as media
 use Rattle.folder_look.specs.Objects.{objects_of, rows_of}
 use Rattle.folder_look.specs.Page as page
-use Rattle.folder_look.specs.Tallies.{tally_of}
 
 abbrev T : List ℕ → Type 0
 T text = HasTagsOf frame_tags text

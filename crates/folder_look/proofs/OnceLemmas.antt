@@ -1,12 +1,8 @@
 -- The versions of an object are as many as its Puts, and no two have one place.
-use Rattle.std.proofs.Common.{◌≡◌, ℕ, ◌+◌, ◌-◌, Bool, true, false, List, [], ◌∷◌, length, take, refl, ◌∙◌, ap, if◌then◌else◌, arith}
 use Prim.Native.Nat.{zero, suc}
-use Rattle.pseudo_time.specs.Order.{lt}
-use Rattle.folder_look.proofs.Names.{ObjectId, Mark, Seen, falling, VersionRow}
+use Rattle.folder_look.proofs.Names.{ObjectId, Mark, Seen, falling, VersionRow, ◌≡◌, ℕ, ◌+◌, ◌-◌, Bool, true, false, List, [], ◌∷◌, length, take, refl, ◌∙◌, ap, if◌then◌else◌, arith, lt, version_count, version_in}
 use Rattle.object_history.specs.declared.marks.Mark.TheVariants.{Put, Stretch, Settle, Floor}
 use Rattle.object_history.specs.Objects.{same_object}
-use Rattle.object_history.specs.History.{version_count}
-use Rattle.report_writer.specs.Histories.{version_in}
 
 length-if : (b : Bool) (q p : Seen) (ps qs : List Seen) → length qs ≡ suc (length ps) → length (if b then p ∷ qs else q ∷ p ∷ ps) ≡ suc (length (p ∷ ps))
 length-if true q p ps qs h = ap suc h

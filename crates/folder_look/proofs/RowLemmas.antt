@@ -1,7 +1,5 @@
 -- The rows that the code makes of what it keeps are those of the marks.
-use Rattle.std.proofs.Common.{◌≡◌, ℕ, Bool, true, false, List, [], ◌∷◌, ◌++◌, map, reverse, refl, sym, ◌∙◌, ap, Option, Some, None, if◌then◌else◌, ◌&&◌, not}
-use Rattle.folder_look.proofs.Names.{filter, BTreeSet, contains, reverse-append, TimeParts, time_cmp, ObjectId, Value, Mark, Seen, floor_of, falling, versions, Choice, ObjectRow, VersionRow, Version, has_start, row_of, is_shown, rows_with, starts_at, told_of, Holds, told_row, is_told_in}
-use Rattle.object_history.specs.History.{top, latest, stretched}
+use Rattle.folder_look.proofs.Names.{filter, BTreeSet, contains, reverse-append, TimeParts, time_cmp, ObjectId, Value, Mark, Seen, floor_of, falling, versions, Choice, ObjectRow, VersionRow, Version, has_start, row_of, is_shown, rows_with, starts_at, told_of, Holds, told_row, is_told_in, ◌≡◌, ℕ, Bool, true, false, List, [], ◌∷◌, ◌++◌, map, reverse, refl, sym, ◌∙◌, ap, Option, Some, None, if◌then◌else◌, ◌&&◌, not, top, latest, stretched}
 use Rattle.object_history.specs.Kept.{Settled}
 
 map-append : (f : Seen → Version) (xs ys : List Seen) → map f (xs ++ ys) ≡ map f xs ++ map f ys

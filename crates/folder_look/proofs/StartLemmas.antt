@@ -1,15 +1,11 @@
 -- A set of starts has those of the versions that it was made of.
-use Rattle.std.proofs.Common.{◌≡◌, ℕ, ◌+◌, Bool, true, false, List, [], ◌∷◌, ◌++◌, map, take, refl, sym, ◌∙◌, ap, subst, ◌||◌, Result, Ok, Err, OnOk, ◌<◌, length, get_or}
 use Rattle.std.specs.Prelude.{IfOk}
 use Rattle.std.specs.BTreeMap.{is_at}
-use Rattle.folder_look.proofs.Names.{BTreeSet, contains, same_time, TimeParts, time_cmp, ObjectId, Mark, Seen, falling, told_of, Version, starts_at}
-use Rattle.std.specs.BTreeSet.{insert_key}
-use Rattle.std.specs.List.{list_any}
+use Rattle.folder_look.proofs.Names.{BTreeSet, contains, same_time, TimeParts, time_cmp, ObjectId, Mark, Seen, falling, told_of, Version, starts_at, ◌≡◌, ℕ, ◌+◌, Bool, true, false, List, [], ◌∷◌, ◌++◌, map, take, refl, sym, ◌∙◌, ap, subst, ◌||◌, Result, Ok, Err, OnOk, ◌<◌, length, get_or, insert_key, list_any, time_cmp-exact}
 use Rattle.std.specs.Ordering.{match_ordering}
 use Rattle.std.specs.declared.cmp.Ordering.{Ordering}
 use Rattle.std.specs.declared.cmp.Ordering.TheVariants.{Less, Equal, Greater}
 use Rattle.std.proofs.lemmas.List.Folds.{list_any-append}
-use Rattle.pseudo_time.proofs.OrderLemmas.{time_cmp-exact}
 use Rattle.folder_look.proofs.Appends.{take-one}
 
 or-again : (a b : Bool) → (a || b) ≡ (a || (a || b))

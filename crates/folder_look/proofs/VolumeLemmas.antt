@@ -1,14 +1,9 @@
 -- What the volumes of a repository give up, one after another; and that none of their versions is left out.
-use Rattle.std.proofs.Common.{◌≡◌, ◌⊎◌, inl, inr, ℕ, zero, suc, ◌+◌, ◌-◌, ◌≤◌, ◌<◌, Bool, true, false, List, [], ◌∷◌, ◌++◌, length, map, take, drop, reverse, get_or, nat_le, refl, sym, ◌∙◌, ap, subst, ◌&&◌, ◌||◌, not, if◌then◌else◌, append_assoc, Option, Some, None, arith}
-use Rattle.folder_look.proofs.Names.{filter, nat_tests, reverse-append, same_time, TimeParts, ObjectId, Effect, Mark, Seen, marks, falling, versions, current, current_from, log_at, Choice, VersionRow, has_start, logs_of, MediumLook, given_up_by, is_shown, row_of, rows_of, rows_with, starts_at}
+use Rattle.folder_look.proofs.Names.{filter, nat_tests, reverse-append, same_time, TimeParts, ObjectId, Effect, Mark, Seen, marks, falling, versions, current, current_from, log_at, Choice, VersionRow, has_start, logs_of, MediumLook, given_up_by, is_shown, row_of, rows_of, rows_with, starts_at, ◌≡◌, ◌⊎◌, inl, inr, ℕ, zero, suc, ◌+◌, ◌-◌, ◌≤◌, ◌<◌, Bool, true, false, List, [], ◌∷◌, ◌++◌, length, map, take, drop, reverse, get_or, nat_le, refl, sym, ◌∙◌, ap, subst, ◌&&◌, ◌||◌, not, if◌then◌else◌, append_assoc, Option, Some, None, arith, drop_more, same_time-is, is_volume, given_up, given_up_at}
 use Rattle.std.proofs.lemmas.Bool.{true≢false, false≢true}
-use Rattle.std.proofs.lemmas.List.{drop_more}
 use Rattle.pseudo_time.specs.Lists.{Has}
-use Rattle.pseudo_time.proofs.OrderLemmas.{same_time-is}
 use Rattle.forward_copy.specs.Wholes.{has_whole}
 use Rattle.folder_look.specs.Once.{HasStart}
-use Rattle.folder_look.specs.Objects.{is_volume}
-use Rattle.folder_look.specs.Rows.{given_up, given_up_at}
 
 -- ---- one volume after another
 

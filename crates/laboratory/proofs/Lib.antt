@@ -1,3 +1,4 @@
 mod GivenLemmas
 mod RunLemmas
 mod WordLemmas
+pub mod Names

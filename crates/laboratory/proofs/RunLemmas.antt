@@ -1,7 +1,5 @@
 -- What a run of the laboratory keeps of the top call's promise.
-use Rattle.std.proofs.Common.{◌≡◌, ℕ, List, [], Some, inl, inr, subst}
-use Rattle.std.specs.Prelude.{◌⊎◌, Option, replicate}
-use Rattle.std.specs.List.{All}
+use Rattle.laboratory.proofs.Names.{◌≡◌, ℕ, List, [], Some, inl, inr, subst, ◌⊎◌, Option, replicate, All, asked_of, divisor_of, fates_are, AreFor, IsLabShelf, Lab}
 use Rattle.std.specs.String.{string_bytes}
 use Rattle.stream_port.specs.declared.fates.Asked.{Asked}
 use Rattle.medium_port.specs.declared.memory_media.MemoryMedium.{MemoryMedium}
@@ -9,12 +7,8 @@ use Rattle.medium_port.specs.declared.memory_shelves.MemoryShelf.{MemoryShelf}
 use Rattle.swallow_top.specs.Finishes.{account_of, tellers}
 use Rattle.swallow_top.specs.Promise.{Call, Promise}
 use Rattle.laboratory.specs.Calls.{IsStarved, LabPromise, RanAs, call_made, cut}
-use Rattle.laboratory.specs.Fates.{asked_of, divisor_of, fates_are}
 use Rattle.laboratory.specs.Losses.{IsFated}
 use Rattle.laboratory.specs.Runs.{LabRun}
-use Rattle.laboratory.specs.Options.{AreFor}
-use Rattle.laboratory.specs.Shelves.{IsLabShelf}
-use Rattle.laboratory.specs.declared.options.Lab.{Lab}
 
 -- the call that was made, with other words, and with what the fates and the clock had told before it
 abbrev call_with : LabRun → Lab → (before after : MemoryShelf) → List (List ℕ) → List Asked → Option (List ℕ) → Call MemoryMedium

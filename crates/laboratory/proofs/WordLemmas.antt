@@ -1,20 +1,10 @@
 -- What the laboratory's words say, as the matches of its command have it.
-use Rattle.std.proofs.Common.{◌≡◌, ◌≢◌, ◌∙◌, ◌<◌, ◌≤◌, ◌^◌, ℕ, Bool, true, false, List, [], Option, Some, None, Result, Ok, Err, refl, sym, ap, subst, inl, inr, arith}
-use Rattle.std.specs.Str.Parse.{ParsesUnsigned}
+use Rattle.laboratory.proofs.Names.{◌≡◌, ◌≢◌, ◌∙◌, ◌<◌, ◌≤◌, ◌^◌, ℕ, Bool, true, false, List, [], Option, Some, None, Result, Ok, Err, refl, sym, ap, subst, inl, inr, arith, ParsesUnsigned, ReadsOne, found_of, App, HasMatchesOf, app_of, Command, ArgMatches, signed_reads, one_text-rows, HasText, AreFor, AreRead, HasNumber, Says, command, Lab}
 use Rattle.clap.specs.Kinds.{HasKind}
-use Rattle.clap.specs.Matches.{ReadsOne, found_of}
-use Rattle.clap.specs.Simple.{App, HasMatchesOf, app_of}
 use Rattle.clap.specs.Words.{Text, fault_of, is_simple_and_free, kind_of, rows_of, takes, without_minus}
-use Rattle.clap.specs.declared.builder.command.Command.{Command}
 use Rattle.clap.specs.declared.error.Error.{Error}
 use Rattle.clap.specs.declared.error.kind.ErrorKind.TheVariants.{OutOfMemory}
-use Rattle.clap.specs.declared.parser.matches.ArgMatches.{ArgMatches}
 use Rattle.clap.specs.declared.parser.matches.Found.{Found}
-use Rattle.clap.proofs.CallerReads.{signed_reads}
-use Rattle.clap.proofs.WalkLemmas.{one_text-rows}
-use Rattle.laboratory.specs.Given.{HasText}
-use Rattle.laboratory.specs.Options.{AreFor, AreRead, HasNumber, Says, command}
-use Rattle.laboratory.specs.declared.options.Lab.{Lab}
 use Rattle.laboratory.specs.declared.options.LabFault.{LabFault}
 use Rattle.laboratory.specs.declared.options.LabFault.TheVariants.{Words, NoMemory}
 

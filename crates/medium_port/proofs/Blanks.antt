@@ -1,9 +1,5 @@
 -- Pages that read 0 in every byte.
-use Rattle.std.proofs.Common.{◌≡◌, ⊎_elim, ℕ, ◌+◌, ◌<◌, List, [], ◌∷◌, ◌++◌, length, get_or, refl, sym, ◌∙◌, ap, subst, arith, length-append, zero, suc}
-use Rattle.std.proofs.Math.ListN.{replicate}
-use Rattle.std.proofs.lemmas.Bool.{cases_eq, cases_lt}
-use Rattle.std.proofs.lemmas.List.{get_or_append_left, get_or_push, get_or_past, ext_get_or, get_or-replicate, length-replicate}
-use Rattle.medium_port.specs.Image.{Image, IsImage, IsBlankImage, byte_of}
+use Rattle.medium_port.proofs.Names.{◌≡◌, ⊎_elim, ℕ, ◌+◌, ◌<◌, List, [], ◌∷◌, ◌++◌, length, get_or, refl, sym, ◌∙◌, ap, subst, arith, length-append, zero, suc, replicate, cases_eq, cases_lt, get_or_append_left, get_or_push, get_or_past, ext_get_or, get_or-replicate, length-replicate, Image, IsImage, IsBlankImage, byte_of}
 
 -- one page more
 pub image_push : (n : ℕ) (image : Image) (page : List ℕ) → IsImage n image → length page ≡ 4096 → ((at : ℕ) → get_or page at 0 < 256) → IsImage (n + 1) (image ++ page ∷ [])

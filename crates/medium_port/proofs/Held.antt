@@ -1,9 +1,5 @@
 -- Pages of which the first are held.
-use Rattle.std.proofs.Common.{◌≡◌, ℕ, ◌+◌, ◌-◌, ◌≤◌, ◌<◌, List, [], ◌∷◌, ◌++◌, length, refl, sym, ◌∙◌, ap, subst, arith, append_assoc, length-append, slice_set, zero, suc}
-use Rattle.std.proofs.Math.ListN.{replicate}
-use Rattle.std.proofs.lemmas.List.{length-set, get_or_append_left, get_or-append_right, get_or-replicate, length-replicate}
-use Rattle.medium_port.specs.Image.{Image, IsImage, IsBlankImage, page_of, put_bytes, splice}
-use Rattle.medium_port.specs.HeldPages.{with_blanks}
+use Rattle.medium_port.proofs.Names.{◌≡◌, ℕ, ◌+◌, ◌-◌, ◌≤◌, ◌<◌, List, [], ◌∷◌, ◌++◌, length, refl, sym, ◌∙◌, ap, subst, arith, append_assoc, length-append, slice_set, zero, suc, replicate, length-set, get_or_append_left, get_or-append_right, get_or-replicate, length-replicate, Image, IsImage, IsBlankImage, page_of, put_bytes, splice, with_blanks}
 use Rattle.medium_port.proofs.Blanks.{blank_replicate, image_replicate, zero_get}
 
 abbrev zeros : List ℕ

@@ -4,3 +4,4 @@ mod Disks
 mod Held
 mod MetLemmas
 mod SlotLemmas
+pub mod Names

@@ -1,13 +1,8 @@
 -- The first stop that a call meets.
-use Rattle.std.proofs.Common.{◌≡◌, ℕ, ◌<◌, List, [], ◌∷◌, length, get_or, true, false, inl, refl, sym, ap, ◌∙◌, arith, zero, suc}
+use Rattle.medium_port.proofs.Names.{◌≡◌, ℕ, ◌<◌, List, [], ◌∷◌, length, get_or, true, false, inl, refl, sym, ap, ◌∙◌, arith, zero, suc, Option, Some, None, Err, is_some, OnErr, MatchOption, cond-true, cond-false, Stop, is_at, first_met, without_met, MemoryMedium}
 use Rattle.std.specs.List.{remove}
-use Rattle.std.specs.Prelude.{Option, Some, None, Err, is_some, OnErr, MatchOption}
-use Rattle.std.proofs.lemmas.Bool.{cond-true, cond-false}
-use Rattle.medium_port.specs.declared.stops.Stop.{Stop}
-use Rattle.medium_port.specs.Stops.{is_at, first_met, without_met}
 use Rattle.stream_port.specs.Causes.{next_count}
 use Rattle.medium_port.specs.MemoryMedia.{calls_of, stops_of, pending_of, next_stop, MeetsStops}
-use Rattle.medium_port.specs.declared.memory_media.MemoryMedium.{MemoryMedium}
 
 module _ (call : ℕ) (write : Option (ℕ × ℕ)) where
   pub met_here : (stops : List Stop) (i : ℕ) (d : Stop) → i < length stops → ((k : ℕ) → k < i → is_at call write (get_or stops k d).at ≡ false) → is_at call write (get_or stops i d).at ≡ true

@@ -1,9 +1,5 @@
 -- What a page and an image are after bytes were put in them.
-use Rattle.std.proofs.Common.{◌≡◌, ◌⊎◌, ⊎_elim, ℕ, ◌+◌, ◌-◌, ◌≤◌, ◌<◌, List, [], ◌∷◌, ◌++◌, length, take, drop, get_or, sym, ◌∙◌, ap, subst, arith, append_assoc, length-append, length-take, length-drop, slice_set, zero, suc}
-use Rattle.std.proofs.Math.ListN.{replicate}
-use Rattle.std.proofs.lemmas.Bool.{cases_eq, cases_lt}
-use Rattle.std.proofs.lemmas.List.{take_at, drop_at, length-set, get_or-set_same, get_or-set_other, set_past, get_or_append_left, get_or-append_right, get_or-take, get_or-drop}
-use Rattle.medium_port.specs.Image.{Image, IsImage, page_of, byte_of, splice, put_bytes}
+use Rattle.medium_port.proofs.Names.{◌≡◌, ◌⊎◌, ⊎_elim, ℕ, ◌+◌, ◌-◌, ◌≤◌, ◌<◌, List, [], ◌∷◌, ◌++◌, length, take, drop, get_or, sym, ◌∙◌, ap, subst, arith, append_assoc, length-append, length-take, length-drop, slice_set, zero, suc, replicate, cases_eq, cases_lt, take_at, drop_at, length-set, get_or-set_same, get_or-set_other, set_past, get_or_append_left, get_or-append_right, get_or-take, get_or-drop, Image, IsImage, page_of, byte_of, splice, put_bytes}
 
 -- lists of bytes
 pub small_append : (xs ys : List ℕ) → ((k : ℕ) → get_or xs k 0 < 256) → ((k : ℕ) → get_or ys k 0 < 256) → (k : ℕ) → get_or (xs ++ ys) k 0 < 256

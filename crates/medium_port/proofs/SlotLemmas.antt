@@ -1,18 +1,9 @@
 -- Names on a shelf over memory.
-use Rattle.std.proofs.Common.{◌≡◌, ◌≢◌, ⊎_elim, ℕ, ◌<◌, List, [], ◌∷◌, ◌++◌, length, get_or, true, false, refl, sym, ◌∙◌, ap, subst, arith, slice_set, zero, suc}
-use Rattle.std.specs.Prelude.{Option, Some, None, if◌then◌else◌, ◌==◌, ◌&&◌, Bool}
-use Rattle.std.proofs.lemmas.Bool.{cond-true, cond-false, cases_Bool, eqb-true, eq-eqb, and_parts, false≢true}
+use Rattle.medium_port.proofs.Names.{◌≡◌, ◌≢◌, ⊎_elim, ℕ, ◌<◌, List, [], ◌∷◌, ◌++◌, length, get_or, true, false, refl, sym, ◌∙◌, ap, subst, arith, slice_set, zero, suc, Option, Some, None, if◌then◌else◌, ◌==◌, ◌&&◌, Bool, cond-true, cond-false, cases_Bool, eqb-true, eq-eqb, and_parts, false≢true, MediumName, MemoryMedium, Slot, replicate, replay, reads_left, left_now, first_disk, events_in, is_same_name, slot_of, IsPlace, NowHas, IsBlankOf, image_there, left_there}
 use Rattle.pseudo_time.specs.declared.nodes.NodeKind.{NodeKind}
 use Rattle.pseudo_time.specs.declared.nodes.NodeKind.TheVariants.{Repository, Broker}
-use Rattle.medium_port.specs.declared.shelves.MediumName.{MediumName}
-use Rattle.medium_port.specs.declared.memory_media.MemoryMedium.{MemoryMedium}
-use Rattle.medium_port.specs.declared.slots.Slot.{Slot}
-use Rattle.std.proofs.Math.ListN.{replicate}
 use Rattle.medium_port.specs.Names.{IsJustSo}
-use Rattle.medium_port.specs.Disk.{replay, reads_left}
-use Rattle.medium_port.specs.Pasts.{left_now, first_disk, events_in}
 use Rattle.medium_port.proofs.Blanks.{blank_is}
-use Rattle.medium_port.specs.Slots.{is_same_name, slot_of, IsPlace, NowHas, IsBlankOf, image_there, left_there}
 use Rattle.pseudo_time.specs.Nodes.{kind_number}
 
 same_kind : (a b : NodeKind) → kind_number a ≡ kind_number b → a ≡ b

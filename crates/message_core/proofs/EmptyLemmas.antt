@@ -1,14 +1,6 @@
 -- Maps of empty queues.
-use Rattle.std.proofs.Common.{◌≡◌, ℕ, suc, ◌+◌, ◌<◌, ◌||◌, ◌⊎◌, inl, inr, Bool, true, false, cond, List, [], ◌∷◌, ◌++◌, length, take, get_or, refl, sym, ap, ◌∙◌, arith}
-use Rattle.std.specs.Prelude.{Option, Some, None, is_some, slice_get, if◌then◌else◌}
-use Rattle.std.specs.Option.{option_map, unwrap_or}
-use Rattle.std.specs.List.{list_any}
-use Rattle.std.specs.declared.collections.VecDeque.{VecDeque}
-use Rattle.std.proofs.Math.Seq.{take-suc}
+use Rattle.message_core.proofs.Names.{◌≡◌, ℕ, suc, ◌+◌, ◌<◌, ◌||◌, ◌⊎◌, inl, inr, Bool, true, false, cond, List, [], ◌∷◌, ◌++◌, length, take, get_or, refl, sym, ap, ◌∙◌, arith, Option, Some, None, is_some, slice_get, if◌then◌else◌, option_map, unwrap_or, list_any, VecDeque, take-suc, NodeId, same_node, queue_in}
 use Rattle.std.proofs.lemmas.List.Folds.{list_any-append}
-use Rattle.pseudo_time.specs.declared.nodes.NodeId.{NodeId}
-use Rattle.pseudo_time.specs.Nodes.{same_node}
-use Rattle.message_core.specs.Queues.{queue_in}
 use Rattle.message_core.proofs.NodeLemmas.{same_is}
 use Rattle.message_core.proofs.QueueLemmas.{Puts, deque_at}
 use Rattle.message_core.proofs.TakeLemmas.{no_front}

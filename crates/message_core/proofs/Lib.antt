@@ -8,3 +8,4 @@ pub mod StateLemmas
 pub mod TakeLemmas
 pub mod TallyLemmas
 pub mod StayLemmas
+pub mod Names

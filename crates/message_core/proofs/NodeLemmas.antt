@@ -1,16 +1,8 @@
 -- Nodes' names, and the order that maps keep them in.
-use Rattle.std.proofs.Common.{rules, ◌≡◌, ℕ, ◌==◌, true, List, refl, ap, arith}
-use Rattle.std.specs.Map.{lookup}
-use Rattle.std.specs.BTreeMap.{is_at}
-use Rattle.std.proofs.Math.Path.{fun_ext}
-use Rattle.std.proofs.lemmas.Bool.Decides.{nat_tests}
-use Rattle.std.specs.Ordering.{is_eq, nat_cmp}
-use Rattle.std.proofs.lemmas.Bool.{eqb-true, and_parts}
-use Rattle.pseudo_time.specs.declared.nodes.NodeId.{NodeId}
+use Rattle.message_core.proofs.Names.{rules, ◌≡◌, ℕ, ◌==◌, true, List, refl, ap, arith, lookup, is_at, fun_ext, nat_tests, is_eq, nat_cmp, eqb-true, and_parts, NodeId, kind_number, same_node}
 use Rattle.pseudo_time.specs.declared.nodes.NodeKind.{NodeKind}
 use Rattle.pseudo_time.specs.declared.nodes.NodeKind.TheVariants.{Repository, Broker}
 use Rattle.pseudo_time.specs.contracts.nodes.NodeIdOrd.TheImpl as order
-use Rattle.pseudo_time.specs.Nodes.{kind_number, same_node}
 
 same_number : (m n : ℕ) → is_eq (nat_cmp m n) ≡ (m == n)
 same_number m n = search rules

@@ -1,19 +1,6 @@
 -- One queue of a map changes.
-use Rattle.std.proofs.Common.{◌≡◌, ℕ, suc, ◌+◌, ◌≤◌, ◌<◌, get_or, subst, ◌-◌, ◌++◌, arith, List, [], ◌∷◌, Bool, true, false, cond, length, take, map, refl, sym, ap, ◌∙◌}
-use Rattle.std.specs.Prelude.{Option, Some, None, Result, Ok, Err, OnOk, OnErr, if◌then◌else◌}
-use Rattle.std.specs.Option.{option_map}
-use Rattle.std.specs.List.{filter}
-use Rattle.std.specs.Map.{lookup}
-use Rattle.std.specs.BTreeMap.{is_at}
-use Rattle.std.specs.declared.collections.VecDeque.{VecDeque}
-use Rattle.std.proofs.lemmas.List.{append-nil, append_assoc, map-append, length-append}
-use Rattle.std.proofs.Math.Seq.{take-append_seam, take-suc}
+use Rattle.message_core.proofs.Names.{◌≡◌, ℕ, suc, ◌+◌, ◌≤◌, ◌<◌, get_or, subst, ◌-◌, ◌++◌, arith, List, [], ◌∷◌, Bool, true, false, cond, length, take, map, refl, sym, ap, ◌∙◌, Option, Some, None, Result, Ok, Err, OnOk, OnErr, if◌then◌else◌, option_map, filter, lookup, is_at, VecDeque, append-nil, append_assoc, map-append, length-append, take-append_seam, take-suc, NodeId, HeldCopy, same_node, going_to, put, puts, queue_in, Grew}
 use Rattle.std.proofs.lemmas.List.Elements.{filter-append}
-use Rattle.pseudo_time.specs.declared.nodes.NodeId.{NodeId}
-use Rattle.message_core.specs.declared.letters.HeldCopy.{HeldCopy}
-use Rattle.pseudo_time.specs.Nodes.{same_node}
-use Rattle.message_core.specs.Flights.{going_to, put, puts}
-use Rattle.message_core.specs.Queues.{queue_in, Grew}
 use Rattle.message_core.proofs.NodeLemmas.{same_is, finds_same, found_same}
 use Rattle.pseudo_time.specs.contracts.nodes.NodeIdOrd.TheImpl as order
 

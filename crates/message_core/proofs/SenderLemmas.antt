@@ -1,12 +1,7 @@
 -- The message of a letter among the messages sent.
-use Rattle.std.proofs.Common.{◌≡◌, ℕ, zero, suc, List, [], ◌∷◌, ◌++◌, map, ap}
-use Rattle.std.specs.Prelude.{Option, Some, slice_get}
-use Rattle.std.specs.Option.{unwrap_or}
-use Rattle.pseudo_time.specs.declared.nodes.NodeId.{NodeId}
+use Rattle.message_core.proofs.Names.{◌≡◌, ℕ, zero, suc, List, [], ◌∷◌, ◌++◌, map, ap, Option, Some, slice_get, unwrap_or, NodeId, IsMessage, message_bytes, Letter}
 use Rattle.message_form.specs.declared.messages.Message.{Message}
-use Rattle.message_form.specs.Messages.{IsMessage, message_bytes}
 use Rattle.message_form.specs.Posts.{Post}
-use Rattle.message_core.specs.declared.letters.Letter.{Letter}
 use Rattle.message_core.specs.Senders.{letter_of, AllInRange}
 
 same_letter : (a b : Letter) → Some a ≡ Some b → a ≡ b

@@ -1,17 +1,5 @@
 -- The copies of a flight stay copies of messages that were sent to their nodes.
-use Rattle.std.proofs.Common.{◌≡◌, ℕ, zero, suc, ◌+◌, ◌-◌, ◌==◌, Bool, true, false, cond, List, [], ◌∷◌, ◌++◌, length, take, drop, map, replicate, refl, ap, ◌∙◌, subst, arith}
-use Rattle.std.specs.Prelude.{Option, Some, None, slice_get, if◌then◌else◌}
-use Rattle.std.specs.Option.{option_map}
-use Rattle.std.specs.List.{filter, list_any}
-use Rattle.std.proofs.lemmas.Option.{same_Some}
-use Rattle.pseudo_time.specs.declared.nodes.NodeId.{NodeId}
-use Rattle.stream_port.specs.declared.fates.Fate.{Fate}
-use Rattle.stream_port.specs.Fates.{copies_of}
-use Rattle.message_core.specs.declared.letters.Letter.{Letter}
-use Rattle.message_core.specs.declared.letters.HeldCopy.{HeldCopy}
-use Rattle.pseudo_time.specs.Nodes.{same_node}
-use Rattle.message_core.specs.Flights.{State, put, puts, next_number, sent_at_once, sent_later, sent, taken, going_to, passed, was_shut, start}
-use Rattle.message_core.specs.Sound.{WentTo, AllWentTo, AllWent, HasText, IsSound}
+use Rattle.message_core.proofs.Names.{◌≡◌, ℕ, zero, suc, ◌+◌, ◌-◌, ◌==◌, Bool, true, false, cond, List, [], ◌∷◌, ◌++◌, length, take, drop, map, replicate, refl, ap, ◌∙◌, subst, arith, Option, Some, None, slice_get, if◌then◌else◌, option_map, filter, list_any, same_Some, NodeId, Fate, copies_of, Letter, HeldCopy, same_node, State, put, puts, next_number, sent_at_once, sent_later, sent, taken, going_to, passed, was_shut, start, WentTo, AllWentTo, AllWent, HasText, IsSound}
 use Rattle.pseudo_time.proofs.ListLemmas.{every-map, every-append}
 use Rattle.message_core.proofs.NodeLemmas.{same_is}
 

@@ -1,23 +1,7 @@
 -- What the code's fields hold, as a state.
-use Rattle.std.proofs.Common.{◌≡◌, ℕ, ◌+◌, ◌==◌, ◌&&◌, not, List, [], ◌∷◌, ◌++◌, length, replicate, Bool, true, false, refl, sym, ap, ◌∙◌}
-use Rattle.std.specs.Prelude.{Option, Some, None, drop, if◌then◌else◌}
-use Rattle.std.specs.Option.{option_map, unwrap_or}
-use Rattle.std.specs.Ordering.{nat_cmp}
-use Rattle.std.specs.Global.{Vec}
-use Rattle.std.specs.BTreeMap.{is_at}
-use Rattle.std.specs.declared.collections.VecDeque.{VecDeque}
-use Rattle.std.proofs.Math.Path.{fun_ext}
+use Rattle.message_core.proofs.Names.{◌≡◌, ℕ, ◌+◌, ◌==◌, ◌&&◌, not, List, [], ◌∷◌, ◌++◌, length, replicate, Bool, true, false, refl, sym, ap, ◌∙◌, Option, Some, None, drop, if◌then◌else◌, option_map, unwrap_or, nat_cmp, Vec, is_at, VecDeque, fun_ext, NodeId, Letter, HeldCopy, same_node, State, puts, going_to, sent_at_once, sent_later, sent, taken, passed, was_shut, Fate, copies_of, queue_in, held_in, queues_seen, held_seen, Grew, queue_at, held_at, state_of, parts_of}
 use Rattle.std.proofs.lemmas.Map.Made.{lookup-map_values}
-use Rattle.pseudo_time.specs.declared.nodes.NodeId.{NodeId}
-use Rattle.message_core.specs.declared.letters.Letter.{Letter}
-use Rattle.message_core.specs.declared.letters.HeldCopy.{HeldCopy}
-use Rattle.pseudo_time.specs.Nodes.{same_node}
-use Rattle.message_core.specs.Flights.{State, puts, going_to, sent_at_once, sent_later, sent, taken, passed, was_shut}
-use Rattle.stream_port.specs.declared.fates.Fate.{Fate}
-use Rattle.stream_port.specs.Fates.{copies_of}
 use Rattle.message_core.proofs.NodeLemmas.{same_is}
-use Rattle.message_core.specs.Queues.{queue_in, held_in, queues_seen, held_seen, Grew}
-use Rattle.message_core.specs.Parts.{queue_at, held_at, state_of, parts_of}
 
 pub queue_seen : {A : Type 0} (es : List (NodeId × VecDeque ℕ A)) (n : NodeId) → queue_at (queues_seen es) n ≡ queue_in es n
 queue_seen es n = lookup-map_values (λ queue. queue.items) (same_node n) es

@@ -1,13 +1,5 @@
 -- Which nodes have a queue.
-use Rattle.std.proofs.Common.{◌≡◌, ◌==◌, ◌&&◌, ℕ, Bool, true, false, List, [], refl}
-use Rattle.std.specs.Prelude.{Option, Some, None, is_some, not, if◌then◌else◌}
-use Rattle.std.specs.Option.{option_map}
-use Rattle.pseudo_time.specs.declared.nodes.NodeId.{NodeId}
-use Rattle.pseudo_time.specs.Nodes.{same_node}
-use Rattle.stream_port.specs.declared.fates.Fate.{Fate}
-use Rattle.stream_port.specs.Fates.{copies_of}
-use Rattle.message_core.specs.declared.letters.Letter.{Letter}
-use Rattle.message_core.specs.Flights.{State, puts, next_number, sent, sent_at_once, sent_later}
+use Rattle.message_core.proofs.Names.{◌≡◌, ◌==◌, ◌&&◌, ℕ, Bool, true, false, List, [], refl, Option, Some, None, is_some, not, if◌then◌else◌, option_map, NodeId, same_node, Fate, copies_of, Letter, State, puts, next_number, sent, sent_at_once, sent_later}
 
 abbrev made_if : Bool → Option (List ℕ)
 made_if b = if b then Some [] else None

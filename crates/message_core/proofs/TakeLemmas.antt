@@ -1,19 +1,6 @@
 -- The front copy of a queue, and its letter.
-use Rattle.std.proofs.Common.{◌≡◌, ℕ, zero, suc, ◌-◌, ◌≤◌, ◌<◌, List, [], ◌∷◌, length, get_or, refl, sym, ap, ◌∙◌, subst, arith}
-use Rattle.std.specs.Prelude.{◌↔◌, Option, Some, None, slice_get}
-use Rattle.std.specs.Option.{unwrap_or}
-use Rattle.std.specs.Global.{Vec}
-use Rattle.std.specs.declared.collections.VecDeque.{VecDeque}
-use Rattle.std.proofs.lemmas.Option.{slice_get_within, slice_get-get_or}
-use Rattle.pseudo_time.specs.declared.nodes.NodeId.{NodeId}
-use Rattle.message_form.specs.Messages.{IsMessage, message_bytes}
-use Rattle.message_core.specs.declared.letters.Letter.{Letter}
-use Rattle.message_core.specs.declared.letters.HeldCopy.{HeldCopy}
+use Rattle.message_core.proofs.Names.{◌≡◌, ℕ, zero, suc, ◌-◌, ◌≤◌, ◌<◌, List, [], ◌∷◌, length, get_or, refl, sym, ap, ◌∙◌, subst, arith, ◌↔◌, Option, Some, None, slice_get, unwrap_or, Vec, VecDeque, slice_get_within, slice_get-get_or, NodeId, IsMessage, message_bytes, Letter, HeldCopy, waiting, AllEmpty, IsFront, queue_in, WentTo, AllWentTo, HasText, AllHaveText, IsSound}
 use Rattle.message_core.specs.declared.letters.Arrival.{Arrival}
-use Rattle.message_core.specs.Flights.{waiting, AllEmpty}
-use Rattle.message_core.specs.Arrivals.{IsFront}
-use Rattle.message_core.specs.Queues.{queue_in}
-use Rattle.message_core.specs.Sound.{WentTo, AllWentTo, HasText, AllHaveText, IsSound}
 use Rattle.message_core.proofs.SoundLemmas.{front_went}
 use Rattle.message_core.proofs.StateLemmas.{now, queue_seen}
 

@@ -1,20 +1,5 @@
 -- The tally of a flight stays true at each call.
-use Rattle.std.proofs.Common.{subst, ◌<◌, ◌≡◌, ℕ, zero, suc, ◌+◌, ◌≤◌, ◌==◌, ◌&&◌, nat_le, nat_lt, Bool, true, false, cond, List, [], ◌∷◌, ◌++◌, length, take, drop, map, replicate, refl, sym, ap, ◌∙◌, arith}
-use Rattle.std.specs.Prelude.{Option, Some, None, slice_get, if◌then◌else◌}
-use Rattle.std.specs.Option.{option_map, unwrap_or}
-use Rattle.std.specs.List.{filter, list_any}
-use Rattle.std.proofs.lemmas.Bool.Decides.{nat_tests}
-use Rattle.std.proofs.lemmas.List.{length-append}
-use Rattle.std.proofs.lemmas.Option.{slice_get_past}
-use Rattle.std.proofs.lemmas.Bool.{leb-true, le-leb}
-use Rattle.pseudo_time.specs.declared.nodes.NodeId.{NodeId}
-use Rattle.stream_port.specs.declared.fates.Fate.{Fate}
-use Rattle.stream_port.specs.Fates.{copies_of}
-use Rattle.message_core.specs.declared.letters.Letter.{Letter}
-use Rattle.message_core.specs.declared.letters.HeldCopy.{HeldCopy}
-use Rattle.pseudo_time.specs.Nodes.{same_node}
-use Rattle.message_core.specs.Flights.{State, Call, Send, Take, Pass, Shut, puts, next_number, sent_at_once, sent_later, sent, taken, going_to, passed, was_shut, step, flown, start, waiting}
-use Rattle.message_core.specs.Tallies.{count, Posted, Tally, noted, blank_tally, all_noted, numbered, came, waits_for, took, Tallied, IsDue}
+use Rattle.message_core.proofs.Names.{subst, ◌<◌, ◌≡◌, ℕ, zero, suc, ◌+◌, ◌≤◌, ◌==◌, ◌&&◌, nat_le, nat_lt, Bool, true, false, cond, List, [], ◌∷◌, ◌++◌, length, take, drop, map, replicate, refl, sym, ap, ◌∙◌, arith, Option, Some, None, slice_get, if◌then◌else◌, option_map, unwrap_or, filter, list_any, nat_tests, length-append, slice_get_past, leb-true, le-leb, NodeId, Fate, copies_of, Letter, HeldCopy, same_node, State, Call, Send, Take, Pass, Shut, puts, next_number, sent_at_once, sent_later, sent, taken, going_to, passed, was_shut, step, flown, start, waiting, count, Posted, Tally, noted, blank_tally, all_noted, numbered, came, waits_for, took, Tallied, IsDue}
 use Rattle.message_core.proofs.NodeLemmas.{same_is, same_node-refl}
 use Rattle.message_core.proofs.QueueLemmas.{going_to-append}
 use Rattle.message_core.proofs.SoundLemmas.{Of, of_all, all_of, of_map}

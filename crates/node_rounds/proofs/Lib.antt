@@ -16,3 +16,4 @@ pub use Rattle.broker_node.proofs.StepLemmas
 pub use Rattle.broker_node.proofs.TrailLemmas
 pub use Rattle.broker_node.proofs.TurnPageLemmas
 pub use Rattle.broker_node.proofs.WindowLemmas
+pub mod Names

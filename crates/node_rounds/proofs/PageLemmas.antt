@@ -1,9 +1,7 @@
 -- Pages over two runs of turns.
-use Rattle.std.proofs.Common.{◌≡◌, ◌≢◌, ◌∙◌, ◌+◌, Bool, true, false, List, ◌++◌, ℕ, Ok, refl, sym, ap, subst, append_assoc, arith}
-use Rattle.medium_port.specs.Image.{Image, page_of}
+use Rattle.node_rounds.proofs.Names.{◌≡◌, ◌≢◌, ◌∙◌, ◌+◌, Bool, true, false, List, ◌++◌, ℕ, Ok, refl, sym, ap, subst, append_assoc, arith, Image, page_of, every-append}
 use Rattle.page_gate.specs.States.{is_blank, state_of}
 use Rattle.page_gate.specs.declared.pages.PageState.TheVariants.{Spoiled}
-use Rattle.pseudo_time.proofs.ListLemmas.{every-append}
 use Rattle.effect_form.specs.declared.effects.Effect.{Effect}
 use Rattle.effect_form.specs.Effects.{IsEffect}
 use Rattle.version_store.specs.Filling.{KeepsPages, StaysClean}

@@ -1,9 +1,5 @@
 -- Lists beside each other, and what holds of each element.
-use Rattle.std.proofs.Common.{◌≡◌, ◌<◌, ◌≤◌, ◌+◌, ◌∙◌, ℕ, zero, suc, List, [], ◌∷◌, ◌++◌, length, get_or, refl, subst, sym, arith}
-use Rattle.std.specs.Prelude.{All, Any, slice_set}
-use Rattle.std.specs.List.{AllZip, AllWithin}
-use Rattle.std.proofs.lemmas.List.{get_or_default}
-use Rattle.std.proofs.lemmas.List.Elements.{All-nil, All-cons, AllWithin-more}
+use Rattle.node_rounds.proofs.Names.{◌≡◌, ◌<◌, ◌≤◌, ◌+◌, ◌∙◌, ℕ, zero, suc, List, [], ◌∷◌, ◌++◌, length, get_or, refl, subst, sym, arith, All, Any, slice_set, AllZip, AllWithin, get_or_default, All-nil, All-cons, AllWithin-more}
 
 -- one pair more
 zip-more : {A B : Type 0} (R : A → B → Type 0) (xs : List A) (ys : List B) (x : A) (y : B) → AllZip R xs ys → R x y → AllZip R (xs ++ x ∷ []) (ys ++ y ∷ [])

@@ -1,34 +1,9 @@
 -- What becomes of nodes by turns and meetings.
-use Rattle.std.proofs.Common.{◌≡◌, ◌≢◌, ◌+◌, ℕ, Bool, List, [], ◌++◌, Result, Ok, Err, IsTrue, OnOk, refl, ap, sym, subst, ◌∙◌, arith, append_assoc}
-use Rattle.std.specs.Prelude.{All}
-use Rattle.std.specs.List.{AllZip}
-use Rattle.std.proofs.lemmas.List.{append-nil}
-use Rattle.seat_lock.specs.declared.views.View.{View}
-use Rattle.seat_lock.specs.declared.views.Founding.{Founding}
-use Rattle.seat_lock.specs.declared.locks.LockTable.{LockTable}
-use Rattle.pseudo_time.specs.declared.down_causes.DownCause.{DownCause}
-use Rattle.medium_port.specs.Image.{Image}
+use Rattle.node_rounds.proofs.Names.{◌≡◌, ◌≢◌, ◌+◌, ℕ, Bool, List, [], ◌++◌, Result, Ok, Err, IsTrue, OnOk, refl, ap, sym, subst, ◌∙◌, arith, append_assoc, All, AllZip, append-nil, View, Founding, LockTable, DownCause, Image, Media, Begins, entries_of, Entry, WireParts, owner_of, owner_for, NodeId, Sight, IsOf, Looked, Owns, life_at, looked-of, Condition, Turned, costs, PaysFor, PassesOn, kept-on, passes-on, passes-here, passes-beside, NodeParts, Adds, StaysWhole, IsCondition, TurnsTo, MeetsWith, sight, costs-append, adds-more, adds-none, IsKeptNow, IsKeptThrough, GoesOn, HasMet, HasAllOf, HasPass, HasSeen, IsReady}
 use Rattle.medium_port.specs.Moment.{Stage, LeftNow, goes_nowhere}
-use Rattle.medium_port.specs.declared.media.Medium.{Ghosts as Media}
-use Rattle.seat_lock.specs.Story.{Begins, entries_of}
-use Rattle.world_core.specs.declared.entries.Entry.{Entry}
-use Rattle.broker_node.specs.Wires.{WireParts}
-use Rattle.broker_node.specs.Boards.{owner_of}
-use Rattle.broker_node.specs.Boards.{owner_for}
-use Rattle.pseudo_time.specs.declared.nodes.NodeId.{NodeId}
-use Rattle.broker_node.specs.Sights.{Sight, IsOf, Looked, Owns, life_at}
-use Rattle.broker_node.proofs.SightLemmas.{looked-of}
-use Rattle.broker_node.specs.Condition.{Condition}
 use Rattle.broker_node.specs.Condition.TheVariants as condition
-use Rattle.broker_node.specs.Turned.{Turned}
-use Rattle.broker_node.specs.Costs.{costs, PaysFor}
 use Rattle.broker_node.specs.Lives.{IsKept}
-use Rattle.broker_node.specs.Windows.{PassesOn}
-use Rattle.broker_node.proofs.PhaseLemmas.{kept-on, passes-on, passes-here, passes-beside}
-use Rattle.broker_node.specs.TurnNodes.{NodeParts, Adds, StaysWhole, IsCondition, TurnsTo, MeetsWith, sight}
-use Rattle.broker_node.proofs.TrailLemmas.{costs-append, adds-more, adds-none}
 use Rattle.broker_node.proofs.TurnPageLemmas.{whole-same}
-use Rattle.node_rounds.specs.Nodes.{IsKeptNow, IsKeptThrough, GoesOn, HasMet, HasAllOf, HasPass, HasSeen, IsReady}
 use Rattle.node_rounds.proofs.PageLemmas.{intact-joins}
 use Rattle.node_rounds.proofs.PairLemmas.{zip-same, zip-through, zip-with}
 

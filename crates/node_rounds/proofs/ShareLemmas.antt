@@ -1,10 +1,5 @@
 -- What holds of the nodes of all shares.
-use Rattle.std.proofs.Common.{◌≡◌, ◌≢◌, List}
-use Rattle.std.specs.Prelude.{All, Any}
-use Rattle.std.specs.List.{AllZip}
-use Rattle.std.proofs.lemmas.List.Elements.{All-weaker}
-use Rattle.broker_node.specs.TurnNodes.{NodeParts}
-use Rattle.node_rounds.specs.Nodes.{Shares, EachNode, EachPlace, SomeNode}
+use Rattle.node_rounds.proofs.Names.{◌≡◌, ◌≢◌, List, All, Any, AllZip, All-weaker, NodeParts, Shares, EachNode, EachPlace, SomeNode}
 use Rattle.node_rounds.proofs.PairLemmas.{all-through, all-both, any-both, any-through, zip-through, zip-same, zip-with}
 
 module _ {M : Type 0} where

@@ -1,20 +1,9 @@
 -- What the conductor has seen, over looks and Ticks.
-use Rattle.std.proofs.Common.{◌≡◌, ◌+◌, ◌<◌, ℕ, Bool, true, false, not, IsTrue, List, [], ◌∷◌, ◌++◌, inr, refl, ap, sym, subst, ◌∙◌, arith}
-use Rattle.std.specs.Prelude.{cond}
-use Rattle.std.proofs.lemmas.List.{append-nil}
-use Rattle.std.proofs.lemmas.List.Sums.{sum_by-append}
-use Rattle.seat_lock.specs.Story.{Begins}
-use Rattle.world_core.specs.declared.entries.Entry.{Entry}
-use Rattle.world_core.specs.declared.entries.Entry.TheVariants.{Tick}
-use Rattle.world_core.specs.Walks.{walk}
-use Rattle.broker_node.specs.Sights.{Sight, HasNothingOpen, Looked, Added, base_at, world_at}
-use Rattle.world_core.specs.Counts.{is_tick, tick_count}
+use Rattle.node_rounds.proofs.Names.{◌≡◌, ◌+◌, ◌<◌, ℕ, Bool, true, false, not, IsTrue, List, [], ◌∷◌, ◌++◌, inr, refl, ap, sym, subst, ◌∙◌, arith, cond, append-nil, sum_by-append, Begins, Entry, Tick, walk, Sight, HasNothingOpen, Looked, Added, base_at, world_at, is_tick, tick_count, Shares, EachNode, EachPlace, HasMet, IsUp, SeesMore, SawRest, Follows}
 use Rattle.node_rounds.specs.declared.limits.Limits.{Limits}
 use Rattle.node_rounds.specs.declared.reasons.Reason.TheVariants as reason
 use Rattle.node_rounds.specs.declared.reasons.Next.{Next}
 use Rattle.node_rounds.specs.declared.reasons.Next.TheVariants as next
-use Rattle.node_rounds.specs.Nodes.{Shares, EachNode, EachPlace, HasMet, IsUp}
-use Rattle.node_rounds.specs.Reasons.{SeesMore, SawRest, Follows}
 use Rattle.node_rounds.proofs.RoundLemmas.{begins-joins, looked-own, looked-owner}
 use Rattle.node_rounds.proofs.ShareLemmas.{each-through}
 

@@ -1,27 +1,8 @@
 -- What turns are to a node of the rounds, one or several.
-use Rattle.std.proofs.Common.{◌≡◌, ◌≢◌, ◌+◌, ◌++◌, List, Result, Ok, Err, IsTrue, refl, ap, sym, subst, ◌∙◌, ⊎_elim}
-use Rattle.std.specs.Prelude.{IfOk, OnOk}
+use Rattle.node_rounds.proofs.Names.{◌≡◌, ◌≢◌, ◌+◌, ◌++◌, List, Result, Ok, Err, IsTrue, refl, ap, sym, subst, ◌∙◌, ⊎_elim, IfOk, OnOk, DownCause, NodeId, has-left, has-right, has-either, View, Founding, LockTable, Media, Entry, place_of, number_of, WireParts, Condition, Turned, costs, NodeParts, Does, Grew, IsCondition, StaysWhole, TurnsTo, sight, PassesOn, passes-on, trail-joins, more-grew, GoesOn, HadTurn, HasPass, IsKeptThrough, IsReady}
 use Rattle.std.specs.declared.alloc.AllocError.{AllocError}
-use Rattle.pseudo_time.specs.declared.down_causes.DownCause.{DownCause}
-use Rattle.pseudo_time.specs.declared.nodes.NodeId.{NodeId}
-use Rattle.pseudo_time.proofs.ListLemmas.{has-left, has-right, has-either}
-use Rattle.seat_lock.specs.declared.views.View.{View}
-use Rattle.seat_lock.specs.declared.views.Founding.{Founding}
-use Rattle.seat_lock.specs.declared.locks.LockTable.{LockTable}
-use Rattle.medium_port.specs.declared.media.Medium.{Ghosts as Media}
-use Rattle.world_core.specs.declared.entries.Entry.{Entry}
-use Rattle.broker_node.specs.Boards.{place_of, number_of}
-use Rattle.broker_node.specs.Wires.{WireParts}
-use Rattle.broker_node.specs.Condition.{Condition}
 use Rattle.broker_node.specs.Condition.TheVariants as condition
-use Rattle.broker_node.specs.Turned.{Turned}
 use Rattle.broker_node.specs.Turned.TheVariants.{Worked, Quiet, Stopped}
-use Rattle.broker_node.specs.Costs.{costs}
-use Rattle.broker_node.specs.TurnNodes.{NodeParts, Does, Grew, IsCondition, StaysWhole, TurnsTo, sight}
-use Rattle.broker_node.specs.Windows.{PassesOn}
-use Rattle.broker_node.proofs.PhaseLemmas.{passes-on}
-use Rattle.broker_node.proofs.TrailLemmas.{trail-joins, more-grew}
-use Rattle.node_rounds.specs.Nodes.{GoesOn, HadTurn, HasPass, IsKeptThrough, IsReady}
 use Rattle.node_rounds.proofs.RoundLemmas.{goes-joins, goes-turned}
 
 -- ---- what a turn's answer says of memory

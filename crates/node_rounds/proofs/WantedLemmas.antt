@@ -1,29 +1,8 @@
 -- Each Tick of the conductor's story stands where some node isn't done.
-use Rattle.std.proofs.Common.{◌≡◌, ◌⊎◌, ◌+◌, ◌≤◌, ◌<◌, ◌==◌, ℕ, Bool, true, false, IsTrue, List, [], ◌∷◌, ◌++◌, length, inl, inr, refl, ap, sym, subst, ◌∙◌, append_assoc, arith}
-use Rattle.std.specs.Prelude.{cond, if◌then◌else◌}
+use Rattle.node_rounds.proofs.Names.{◌≡◌, ◌⊎◌, ◌+◌, ◌≤◌, ◌<◌, ◌==◌, ℕ, Bool, true, false, IsTrue, List, [], ◌∷◌, ◌++◌, length, inl, inr, refl, ap, sym, subst, ◌∙◌, append_assoc, arith, cond, if◌then◌else◌, append-nil, filter-append, sum_by-append, sum_by-cons, NodeId, View, Founding, LockTable, Begins, entries_of, CarriesOn, lock_base, knows, Entry, Take, Go, Learn, Hear, Gate, Crash, Down, Tick, Base, Life, walk, WireParts, base_from, owner_of, Sight, IsOf, Owns, Looked, Added, base_at, life_at, as-before, pass-origin, is_tick, tick_count, NodeParts, sight, Shares, EachNode, EachPlace, SomeNode, HasAllOf, HasMet, HasPass, HasSeen, HasTicked, IsLate, IsLateAfter, SeesMore, TicksAreWanted, is_done_after, is_done_at}
 use Rattle.std.proofs.lemmas.Bool.Decides.{nat_tests}
-use Rattle.std.proofs.lemmas.List.{append-nil}
-use Rattle.std.proofs.lemmas.List.Elements.{filter-append}
-use Rattle.std.proofs.lemmas.List.Sums.{sum_by-append, sum_by-cons}
-use Rattle.pseudo_time.specs.declared.nodes.NodeId.{NodeId}
 use Rattle.pseudo_time.specs.Nodes.{is_broker}
-use Rattle.seat_lock.specs.declared.views.View.{View}
-use Rattle.seat_lock.specs.declared.views.Founding.{Founding}
-use Rattle.seat_lock.specs.declared.locks.LockTable.{LockTable}
-use Rattle.seat_lock.specs.Story.{Begins, entries_of}
-use Rattle.seat_lock.specs.Words.{CarriesOn, base_of as lock_base, knows}
-use Rattle.world_core.specs.declared.entries.Entry.{Entry}
-use Rattle.world_core.specs.declared.entries.Entry.TheVariants.{Take, Go, Learn, Hear, Gate, Crash, Down, Tick}
-use Rattle.world_core.specs.Walks.{Base, Life, walk}
-use Rattle.broker_node.specs.Wires.{WireParts, base_from}
-use Rattle.broker_node.specs.Boards.{owner_of}
-use Rattle.broker_node.specs.Sights.{Sight, IsOf, Owns, Looked, Added, base_at, life_at}
-use Rattle.broker_node.proofs.SightLemmas.{as-before, pass-origin}
-use Rattle.world_core.specs.Counts.{is_tick, tick_count}
 use Rattle.broker_node.specs.Logs.{is_over}
-use Rattle.broker_node.specs.TurnNodes.{NodeParts, sight}
-use Rattle.node_rounds.specs.Nodes.{Shares, EachNode, EachPlace, SomeNode, HasAllOf, HasMet, HasPass, HasSeen}
-use Rattle.node_rounds.specs.Reasons.{HasTicked, IsLate, IsLateAfter, SeesMore, TicksAreWanted, is_done_after, is_done_at}
 use Rattle.node_rounds.proofs.RoundLemmas.{begins-joins, looked-own, looked-owner}
 use Rattle.node_rounds.proofs.ShareLemmas.{each-both, some-both, some-through}
 

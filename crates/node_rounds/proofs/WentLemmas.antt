@@ -1,14 +1,5 @@
 -- How nodes went on, over rounds and meetings.
-use Rattle.std.proofs.Common.{List}
-use Rattle.medium_port.specs.declared.media.Medium.{Ghosts as Media}
-use Rattle.seat_lock.specs.declared.views.View.{View}
-use Rattle.seat_lock.specs.declared.views.Founding.{Founding}
-use Rattle.seat_lock.specs.declared.locks.LockTable.{LockTable}
-use Rattle.seat_lock.specs.Story.{Begins}
-use Rattle.world_core.specs.declared.entries.Entry.{Entry}
-use Rattle.broker_node.specs.Wires.{WireParts}
-use Rattle.broker_node.specs.TurnNodes.{NodeParts}
-use Rattle.node_rounds.specs.Nodes.{Shares, EachNode, EachPlace, GoesOn, IsKeptThrough, HadTurn, HasAllOf, HasMet, HasPass, IsReady, IsUp}
+use Rattle.node_rounds.proofs.Names.{List, Media, View, Founding, LockTable, Begins, Entry, WireParts, NodeParts, Shares, EachNode, EachPlace, GoesOn, IsKeptThrough, HadTurn, HasAllOf, HasMet, HasPass, IsReady, IsUp}
 use Rattle.node_rounds.proofs.RoundLemmas.{goes-same, goes-met, goes-joins, has-more, kept-same, kept-met, kept-joins}
 use Rattle.node_rounds.proofs.TurnedLemmas.{went-turned, kept-turned}
 use Rattle.node_rounds.proofs.WantedLemmas.{SameName}

@@ -1,14 +1,8 @@
 -- What an append leaves of a node, and the gate after it.
-use Rattle.std.proofs.Common.{◌≡◌, ◌≢◌, ℕ, ◌+◌, ◌≤◌, Bool, true, false, List, [], ◌++◌, length, take, Result, Ok, Err, IsTrue, refl, sym, ap, subst, ◌∙◌, arith}
-use Rattle.std.specs.List.{filter}
-use Rattle.std.specs.Prelude.{count_by, ◌<◌}
-use Rattle.node_turn.proofs.Names.{is_blank, NodeId, Rose, Image, Effect, Out, AreEffects, StoreFault, HasPrefix, filling, storage, Gate, leaves, Base, Life, Flags, all_effects, gated_life, owed, Decided, Sight, base_at, world_at, life_at, flags_at, Gated, closed, LeavesLog, IsAppended, IsFull, DraftParts, no_draft, IsKept, HasLife, IsUp, IsStored, IsStruck, IsCause}
+use Rattle.node_turn.proofs.Names.{is_blank, NodeId, Rose, Image, Effect, Out, AreEffects, StoreFault, HasPrefix, filling, storage, Gate, leaves, Base, Life, Flags, all_effects, gated_life, owed, Decided, Sight, base_at, world_at, life_at, flags_at, Gated, closed, LeavesLog, IsAppended, IsFull, DraftParts, no_draft, IsKept, HasLife, IsUp, IsStored, IsStruck, IsCause, ◌≡◌, ◌≢◌, ℕ, ◌+◌, ◌≤◌, Bool, true, false, List, [], ◌++◌, length, take, Result, Ok, Err, IsTrue, refl, sym, ap, subst, ◌∙◌, arith, filter, count_by, ◌<◌, Media, Meanings, IsAfterAppend}
 use Rattle.std.proofs.lemmas.List.{length-append, take_all}
 use Rattle.pseudo_time.specs.declared.down_causes.DownCause.TheVariants as down
-use Rattle.medium_port.specs.declared.media.Medium.{Ghosts as Media}
 use Rattle.version_store.specs.declared.faults.StoreFault.TheVariants as adding
-use Rattle.node_turn.specs.declared.core_meanings.Meanings.{Ghosts as Meanings}
-use Rattle.node_turn.specs.Lives.{IsAfterAppend}
 use Rattle.node_turn.proofs.ReadyLemmas.{ready-whole, ready-durable}
 use Rattle.node_turn.proofs.LifeLemmas.{Follows, follows-of, on-ok, if-err, kept-none}
 

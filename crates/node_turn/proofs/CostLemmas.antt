@@ -1,7 +1,5 @@
 -- What entries cost.
-use Rattle.std.specs.Prelude.{ℕ, ◌+◌, ◌≤◌}
-use Rattle.std.proofs.Common.{arith}
-use Rattle.node_turn.proofs.Names.{Rose, PaysFor}
+use Rattle.node_turn.proofs.Names.{Rose, PaysFor, ℕ, ◌+◌, ◌≤◌, arith}
 
 pub pays-none : (old new count now : ℕ) → new ≤ old → count ≤ now → PaysFor old count new now
 pays-none old new count now le later first r = omega (arith, le, later, r)

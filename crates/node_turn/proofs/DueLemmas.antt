@@ -1,7 +1,5 @@
 -- Where a node has something to close, more than downs happened.
-use Rattle.std.proofs.Common.{◌≡◌, Bool, true, false, ◌&&◌, List, [], ◌∷◌, refl, sym, ◌∙◌, if◌then◌else◌}
-use Rattle.node_turn.proofs.Names.{NodeId, Entry, Take, Go, Learn, Hear, Gate, Crash, Down, Tick, Base, World, Flags, names, step, start_world, walk_from, walk}
-use Rattle.world_core.specs.Walks.{flagged}
+use Rattle.node_turn.proofs.Names.{NodeId, Entry, Take, Go, Learn, Hear, Gate, Crash, Down, Tick, Base, World, Flags, names, step, start_world, walk_from, walk, ◌≡◌, Bool, true, false, ◌&&◌, List, [], ◌∷◌, refl, sym, ◌∙◌, if◌then◌else◌, flagged}
 
 same-due : (t : Bool) (f g : Flags) → g.due ≡ f.due → (if t then g else f).due ≡ true → f.due ≡ true
 same-due true f g e h = sym e ∙ h

@@ -1,14 +1,7 @@
 -- What a node has after it went down, or after it was opened anew.
-use Rattle.std.proofs.Common.{◌≡◌, ℕ, ◌+◌, ◌-◌, ◌≤◌, ◌<◌, Bool, true, false, List, [], ◌++◌, length, take, Option, Some, Result, Ok, Err, IsTrue, refl, sym, ap, subst, ◌∙◌, arith, length-append, ⊎_elim}
-use Rattle.std.proofs.lemmas.List.{append-nil, length-take-le}
-use Rattle.node_turn.proofs.Names.{NodeId, DownCause, Effect, OpenFault, Entry, Base, Life, Flags, opened_life, Sight, base_at, life_at, flags_at, Owns, Looked, Added, Falls, Crashes, IsReady, HasFound, IsReopened, no_draft, IsKept, HasLife, up_flags, IsUp, IsStored, IsStruck, IsCause, IsDown, storage, cost_of_cause, PaysFor}
+use Rattle.node_turn.proofs.Names.{NodeId, DownCause, Effect, OpenFault, Entry, Base, Life, Flags, opened_life, Sight, base_at, life_at, flags_at, Owns, Looked, Added, Falls, Crashes, IsReady, HasFound, IsReopened, no_draft, IsKept, HasLife, up_flags, IsUp, IsStored, IsStruck, IsCause, IsDown, storage, cost_of_cause, PaysFor, ◌≡◌, ℕ, ◌+◌, ◌-◌, ◌≤◌, ◌<◌, Bool, true, false, List, [], ◌++◌, length, take, Option, Some, Result, Ok, Err, IsTrue, refl, sym, ap, subst, ◌∙◌, arith, length-append, ⊎_elim, append-nil, length-take-le, Media, HadNothing, crashed, looked-of, Meanings, IsFullFor}
 use Rattle.pseudo_time.specs.declared.down_causes.DownCause.TheVariants as down
-use Rattle.medium_port.specs.declared.media.Medium.{Ghosts as Media}
 use Rattle.version_store.specs.declared.faults.OpenFault.TheVariants as opening
-use Rattle.wire_lock.specs.Sights.{HadNothing, crashed}
-use Rattle.wire_lock.proofs.SightLemmas.{looked-of}
-use Rattle.node_turn.specs.declared.core_meanings.Meanings.{Ghosts as Meanings}
-use Rattle.node_turn.specs.Lives.{IsFullFor}
 use Rattle.version_store.specs.Causes.{down_of_opening}
 use Rattle.node_turn.proofs.CostLemmas.{pays-none, pays-one}
 use Rattle.node_turn.proofs.ReadyLemmas.{ready-durable}

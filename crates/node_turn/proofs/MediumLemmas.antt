@@ -1,20 +1,11 @@
 -- What an append and an opening leave of a medium, for the cores that keep their log on it.
-use Rattle.std.proofs.Common.{◌≡◌, ◌≢◌, ℕ, ◌≤◌, ◌<◌, ◌+◌, true, List, [], ◌++◌, length, Result, Ok, Err, IsTrue, IfOk, IfErr, OnOk, refl, sym, ap, subst, ◌∙◌, arith, inl}
-use Rattle.std.specs.Prelude.{count_by, IsErrOf}
-use Rattle.node_turn.proofs.Names.{Rose, Image, NoMore, NodeId, is_blank, Effect, OpenFault, StoreFault, HasPrefix, filling, storage, Base, Life, opened_life, gated_life, IsIntact, LeavesLog, IsFull, IsAppended, IsReopened}
-use Rattle.medium_port.specs.Image.{IsImage, Only}
-use Rattle.medium_port.specs.Moment.{LeavesOnly}
-use Rattle.medium_port.specs.declared.media.Medium.{Ghosts as Media}
+use Rattle.node_turn.proofs.Names.{Rose, Image, NoMore, NodeId, is_blank, Effect, OpenFault, StoreFault, HasPrefix, filling, storage, Base, Life, opened_life, gated_life, IsIntact, LeavesLog, IsFull, IsAppended, IsReopened, ◌≡◌, ◌≢◌, ℕ, ◌≤◌, ◌<◌, ◌+◌, true, List, [], ◌++◌, length, Result, Ok, Err, IsTrue, IfOk, IfErr, OnOk, refl, sym, ap, subst, ◌∙◌, arith, inl, count_by, IsErrOf, IsImage, Only, LeavesOnly, Media, KeepsPages, StaysClean, effects_found, log_of, Meanings, HasGrown, IsDamageOf}
 use Rattle.effect_form.specs.Effects.{AreEffects}
 use Rattle.version_store.specs.declared.faults.OpenFault.TheVariants as opening
 use Rattle.version_store.specs.declared.faults.StoreFault.TheVariants as adding
 use Rattle.version_store.specs.Entries.{effects_of}
-use Rattle.version_store.specs.Filling.{KeepsPages, StaysClean}
 use Rattle.version_store.specs.Settled.{IsSettled}
 use Rattle.version_store.proofs.FillingLemmas.{filling-apart}
-use Rattle.version_store.specs.Storage.{effects_found, log_of}
-use Rattle.node_turn.specs.declared.core_meanings.Meanings.{Ghosts as Meanings}
-use Rattle.node_turn.specs.Cores.{HasGrown, IsDamageOf}
 
 -- ---- answers
 

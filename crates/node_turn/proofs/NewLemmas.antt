@@ -1,12 +1,6 @@
 -- What a node has that was just opened.
-use Rattle.std.proofs.Common.{◌≡◌, ℕ, true, false, List, [], length, Option, Some, IsTrue, refl, sym, ap, subst, ◌∙◌}
-use Rattle.std.specs.Prelude.{is_some}
 use Rattle.std.specs.Option.{unwrap_or}
-use Rattle.node_turn.proofs.Names.{NodeId, Effect, Base, opened_life, walk, walk_from, Sight, base_at, life_at, flags_at, IsOf, LeavesLog, IsReady, HasLife, IsUp, no_draft, up_flags}
-use Rattle.medium_port.specs.declared.media.Medium.{Ghosts as Media}
-use Rattle.world_core.specs.Walks.{opened_log, opened_flags}
-use Rattle.wire_lock.specs.Sights.{origin_at}
-use Rattle.node_turn.specs.declared.core_meanings.Meanings.{Ghosts as Meanings}
+use Rattle.node_turn.proofs.Names.{NodeId, Effect, Base, opened_life, walk, walk_from, Sight, base_at, life_at, flags_at, IsOf, LeavesLog, IsReady, HasLife, IsUp, no_draft, up_flags, ◌≡◌, ℕ, true, false, List, [], length, Option, Some, IsTrue, refl, sym, ap, subst, ◌∙◌, is_some, Media, opened_log, opened_flags, origin_at, Meanings}
 use Rattle.node_turn.proofs.ReadyLemmas.{ready-durable}
 
 -- ---- where nothing has happened yet

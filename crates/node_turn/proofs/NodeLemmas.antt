@@ -1,17 +1,11 @@
 -- What a node keeps while others move on, at rest, and over a turn.
-use Rattle.std.proofs.Common.{◌≡◌, ◌≢◌, ℕ, Bool, false, Result, Ok, Err, IsTrue, IfOk, OnOk, refl, sym, ap, subst, ◌∙◌}
-use Rattle.std.specs.Prelude.{MatchBool}
-use Rattle.node_turn.proofs.Names.{NodeId, is_broker, DownCause, Image, LeftNow, knows, Entry, Flags, WireParts, Sight, life_at, Looked, no_draft, IsUp, IsDown, costs, PaysFor, HasTested, PassesOn, Adds, Grew}
-use Rattle.medium_port.specs.declared.media.Medium.{Ghosts as Media}
+use Rattle.node_turn.proofs.Names.{NodeId, is_broker, DownCause, Image, LeftNow, knows, Entry, Flags, WireParts, Sight, life_at, Looked, no_draft, IsUp, IsDown, costs, PaysFor, HasTested, PassesOn, Adds, Grew, ◌≡◌, ◌≢◌, ℕ, Bool, false, Result, Ok, Err, IsTrue, IfOk, OnOk, refl, sym, ap, subst, ◌∙◌, MatchBool, Media, Meanings, Keeps, NodeParts, IsCondition, IsQuiet, Answers, Does, StaysWhole, TurnsTo, IsAtRest}
 use Rattle.atomic_table.specs.declared.shared.Seat.{Seat}
 use Rattle.seat_lock.specs.declared.views.View.{View}
-use Rattle.node_turn.specs.declared.core_meanings.Meanings.{Ghosts as Meanings}
 use Rattle.node_turn.specs.declared.conditions.Condition.{Condition}
 use Rattle.node_turn.specs.declared.conditions.Condition.TheVariants as condition
 use Rattle.node_turn.specs.declared.conditions.Turned.{Turned}
 use Rattle.node_turn.specs.declared.conditions.Turned.TheVariants.{Worked, Quiet, Stopped}
-use Rattle.node_turn.specs.Lives.{Keeps}
-use Rattle.node_turn.specs.Nodes.{NodeParts, IsCondition, IsQuiet, Answers, Does, StaysWhole, TurnsTo, IsAtRest}
 use Rattle.node_turn.proofs.LifeLemmas.{Follows, follows-looked, flags-seen, life-looked, up-looked, up-stored, stored-looked}
 use Rattle.node_turn.proofs.FallLemmas.{cause-same}
 use Rattle.node_turn.proofs.PageLemmas.{whole-same}

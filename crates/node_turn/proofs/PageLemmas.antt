@@ -1,9 +1,6 @@
 -- An image against itself.
 use Rattle.std.proofs.Common.{◌≡◌, Bool, true, ◌==◌, List, [], ℕ, Ok, drop, refl, sym, ap, ◌∙◌, if◌then◌else◌, append-nil, arith}
-use Rattle.std.specs.Prelude.{slice_index}
-use Rattle.node_turn.proofs.Names.{Image, is_blank, Effect, IsIntact}
-use Rattle.medium_port.specs.Image.{page_of}
-use Rattle.page_gate.specs.States.{state_of}
+use Rattle.node_turn.proofs.Names.{Image, is_blank, Effect, IsIntact, slice_index, page_of, state_of}
 use Rattle.page_gate.specs.declared.pages.PageState.{PageState}
 use Rattle.page_gate.specs.declared.pages.PageState.TheVariants.{Blank, Spoiled, Gated}
 

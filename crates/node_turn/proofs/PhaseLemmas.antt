@@ -1,12 +1,6 @@
 -- The windows of a node in the parts of its turn: what a crash at any moment of each leaves of its medium.
-use Rattle.std.proofs.Common.{◌≡◌, ◌≢◌, ℕ, suc, ◌+◌, ◌-◌, ◌≤◌, Bool, true, false, List, [], ◌∷◌, ◌++◌, length, take, cond, Option, Result, Ok, Err, IsTrue, refl, sym, ap, subst, ◌∙◌, arith, append_assoc, length-append}
-use Rattle.std.proofs.lemmas.List.{append-nil}
-use Rattle.node_turn.proofs.Names.{NodeId, same_node-refl, Image, Stage, LeftNow, Goes, goes_nowhere, Effect, Out, HistoryFault, StoreFault, OpenFault, HasPrefix, storage, Entry, Gate, Base, Life, Flags, gated_life, names, walk, WireParts, base_from, Decided, Sight, origin_in, base_at, life_at, flags_at, IsOf, Owns, Looked, Visited, Gated, Crashes, Falls, closed, LeavesLog, HasFound, IsAppended, IsReopened, DraftParts, IsKept, HasLife, IsUp, IsStored, IsStruck, IsAfter, Trail, Passes, PassesOn}
-use Rattle.medium_port.specs.Moment.{widens}
-use Rattle.medium_port.specs.declared.media.Medium.{Ghosts as Media}
+use Rattle.node_turn.proofs.Names.{NodeId, same_node-refl, Image, Stage, LeftNow, Goes, goes_nowhere, Effect, Out, HistoryFault, StoreFault, OpenFault, HasPrefix, storage, Entry, Gate, Base, Life, Flags, gated_life, names, walk, WireParts, base_from, Decided, Sight, origin_in, base_at, life_at, flags_at, IsOf, Owns, Looked, Visited, Gated, Crashes, Falls, closed, LeavesLog, HasFound, IsAppended, IsReopened, DraftParts, IsKept, HasLife, IsUp, IsStored, IsStruck, IsAfter, Trail, Passes, PassesOn, ◌≡◌, ◌≢◌, ℕ, suc, ◌+◌, ◌-◌, ◌≤◌, Bool, true, false, List, [], ◌∷◌, ◌++◌, length, take, cond, Option, Result, Ok, Err, IsTrue, refl, sym, ap, subst, ◌∙◌, arith, append_assoc, length-append, append-nil, widens, Media, gated-grows, Meanings}
 use Rattle.object_history.specs.declared.steps.HistoryFault.TheVariants as fault
-use Rattle.world_core.proofs.Lives.{gated-grows}
-use Rattle.node_turn.specs.declared.core_meanings.Meanings.{Ghosts as Meanings}
 use Rattle.node_turn.proofs.LifeLemmas.{Follows, follows-of, follows-added, on-ok, if-ok, kept-none}
 use Rattle.node_turn.proofs.StepLemmas.{kept-prefix, kept-whole, kept-gated, kept-crashed, kept-found, passes-between, passes-visit}
 use Rattle.node_turn.proofs.SightSteps.{passes-found, passes-looked}

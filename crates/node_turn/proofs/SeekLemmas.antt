@@ -1,18 +1,9 @@
 -- What the tests of a turn found.
-use Rattle.std.specs.Prelude.{◌≡◌, ℕ, ◌+◌, ◌<◌, ◌==◌, ◌||◌, not, Bool, true, false, List, [], ◌∷◌, ◌++◌, length, take, Option, Some, None, Result, Ok, Err, OnOk, IfSome}
-use Rattle.std.specs.List.{filter}
-use Rattle.std.proofs.Common.{refl, ap, sym, ◌∙◌, subst, cond, arith, inl, inr, ⊎_elim, get_or}
-use Rattle.std.proofs.lemmas.Bool.{eqb-true}
-use Rattle.std.proofs.lemmas.List.{append-nil, take_more, take-append-le}
 use Rattle.pseudo_time.specs.Lists.{Has}
-use Rattle.pseudo_time.proofs.ListLemmas.{has-left, has-right, has-either}
-use Rattle.node_turn.proofs.Names.{StampParts, NodeId, Effect, Out, is_for, decided_by, leaves, place_of, Decided, Sight, AreSought, stamp_asked, Trail, Seeks, HasTested}
+use Rattle.node_turn.proofs.Names.{StampParts, NodeId, Effect, Out, is_for, decided_by, leaves, place_of, Decided, Sight, AreSought, stamp_asked, Trail, Seeks, HasTested, ◌≡◌, ℕ, ◌+◌, ◌<◌, ◌==◌, ◌||◌, not, Bool, true, false, List, [], ◌∷◌, ◌++◌, length, take, Option, Some, None, Result, Ok, Err, OnOk, IfSome, filter, refl, ap, sym, ◌∙◌, subst, cond, arith, inl, inr, ⊎_elim, get_or, eqb-true, append-nil, take_more, take-append-le, has-left, has-right, has-either, number_of, answer_of, IsMissed, IsFound, IsSought}
 use Rattle.message_form.specs.declared.messages.Message.{Message}
 use Rattle.message_form.specs.declared.messages.Message.TheVariants as message
 use Rattle.repository_log.specs.Logs.{knows}
-use Rattle.wire_core.specs.Boards.{number_of}
-use Rattle.wire_lock.specs.Decisions.{answer_of}
-use Rattle.node_turn.specs.Trails.{IsMissed, IsFound, IsSought}
 use Rattle.node_turn.proofs.TrailLemmas.{trail-none, trail-joins}
 
 -- ---- one test

@@ -1,9 +1,5 @@
 -- What node_turn needs at each of its visits and calls.
-use Rattle.std.proofs.Common.{◌≡◌, ℕ, ◌≤◌, true, List, [], ◌∷◌, ◌++◌, length, take, refl, sym, ap, subst, ◌∙◌, arith, length-append, Ok}
-use Rattle.std.proofs.lemmas.List.{append-nil, take_all, take-append-le}
-use Rattle.node_turn.proofs.Names.{NodeId, Effect, Image, Stage, LeftNow, Goes, goes_nowhere, HasPrefix, storage, Entry, Base, Life, all_effects, gated_life, names, own, walk, IsKept, IsNext, KeptAlong, Mark, Passes}
-use Rattle.world_core.specs.Nodes.{Given}
-use Rattle.world_core.specs.Walks.{crashed_life, with_given}
+use Rattle.node_turn.proofs.Names.{NodeId, Effect, Image, Stage, LeftNow, Goes, goes_nowhere, HasPrefix, storage, Entry, Base, Life, all_effects, gated_life, names, own, walk, IsKept, IsNext, KeptAlong, Mark, Passes, ◌≡◌, ℕ, ◌≤◌, true, List, [], ◌∷◌, ◌++◌, length, take, refl, sym, ap, subst, ◌∙◌, arith, length-append, Ok, append-nil, take_all, take-append-le, Given, crashed_life, with_given}
 
 -- ---- images
 

@@ -1,12 +1,5 @@
 -- Runs of windows, one after another, and the window of a place.
-use Rattle.std.proofs.Common.{◌≡◌, ◌⊎◌, inl, inr, ⊎_elim, ℕ, zero, suc, ◌+◌, true, false, List, [], ◌∷◌, ◌++◌, length, map, refl, sym, ap, subst, ◌∙◌, append_assoc, length-append, arith}
-use Rattle.std.specs.Prelude.{cond, slice_index_or}
-use Rattle.std.proofs.lemmas.List.{append-nil}
-use Rattle.std.proofs.lemmas.List.Elements.{filter-append}
-use Rattle.node_turn.proofs.Names.{NodeId, Image, Stage, LeftNow, Goes, Entry, Base, Life, names, own, walk, IsKept, IsNext, Mark, KeptAlong, Passes}
-use Rattle.medium_port.specs.Moment.{goes_on, goes_to}
-use Rattle.world_core.proofs.Lives.{same-life}
-use Rattle.node_turn.specs.Windows.{entries_in, cuts_of, cut_at}
+use Rattle.node_turn.proofs.Names.{NodeId, Image, Stage, LeftNow, Goes, Entry, Base, Life, names, own, walk, IsKept, IsNext, Mark, KeptAlong, Passes, ◌≡◌, ◌⊎◌, inl, inr, ⊎_elim, ℕ, zero, suc, ◌+◌, true, false, List, [], ◌∷◌, ◌++◌, length, map, refl, sym, ap, subst, ◌∙◌, append_assoc, length-append, arith, cond, slice_index_or, append-nil, filter-append, goes_on, goes_to, same-life, entries_in, cuts_of, cut_at}
 
 own-append : (n : NodeId) (xs ys : List Entry) → own n (xs ++ ys) ≡ own n xs ++ own n ys
 own-append n xs ys = filter-append (names n) xs ys

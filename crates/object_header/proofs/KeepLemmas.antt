@@ -1,11 +1,6 @@
 -- Marks are kept one by one.
-use Rattle.std.proofs.Common.{◌≡◌, ℕ, suc, ◌+◌, ◌<◌, arith, take, length, slice_index_or, Bool, true, false, List, [], ◌∷◌, ◌++◌, reverse, refl, sym, ◌∙◌, ap, subst, Option, Some, None, if◌then◌else◌}
-use Rattle.std.proofs.lemmas.List.{reverse-append, append_assoc, append-nil}
-use Rattle.std.specs.Prelude.{IfSome}
-use Rattle.std.proofs.Math.Seq.{take-suc}
 use Rattle.pseudo_time.proofs.ListLemmas.{every-reverse}
-use Rattle.object_header.proofs.Names.{ObjectId, Effect, Mark, Put, Stretch, Settle, Floor, AreMarks, IsMark, kept_of, marks, mark_of, added}
-use Rattle.object_header.specs.Odd.{is_kept}
+use Rattle.object_header.proofs.Names.{ObjectId, Effect, Mark, Put, Stretch, Settle, Floor, AreMarks, IsMark, kept_of, marks, mark_of, added, ◌≡◌, ℕ, suc, ◌+◌, ◌<◌, arith, take, length, slice_index_or, Bool, true, false, List, [], ◌∷◌, ◌++◌, reverse, refl, sym, ◌∙◌, ap, subst, Option, Some, None, if◌then◌else◌, reverse-append, append_assoc, append-nil, IfSome, take-suc, is_kept}
 use Rattle.object_header.proofs.LedgerLemmas.{kept-append, kept-twice}
 
 kept-one : (odd : ObjectId → Bool) (f : Mark) → kept_of odd (f ∷ []) ≡ (if is_kept odd f then f ∷ [] else [])

@@ -1,18 +1,10 @@
 -- A walk from an object's last place by the back places meets its versions, the newest first.
-use Rattle.std.proofs.Common.{◌≡◌, ℕ, zero, suc, ◌+◌, ◌≤◌, ◌<◌, Bool, true, false, List, [], ◌∷◌, ◌++◌, length, reverse, take, refl, sym, ◌∙◌, ap, Option, Some, None, slice_index_or, ◌&&◌, if◌then◌else◌, cond, arith}
-use Rattle.std.proofs.lemmas.Bool.{false≢true, true≢false, cond-true, cond-false}
-use Rattle.std.proofs.lemmas.List.{reverse-append}
-use Rattle.std.proofs.Math.Seq.{take-suc}
 use Rattle.field_form.proofs.FormLaws.{some_is}
-use Rattle.object_header.proofs.Names.{TimeParts, ObjectId, Value, Effect, Place, Mark, same_object, same_object-is, Entry, Log, IsIn, first_put, first, mark_of, marks, added, marks_in, Walks}
+use Rattle.object_header.proofs.Names.{TimeParts, ObjectId, Value, Effect, Place, Mark, same_object, same_object-is, Entry, Log, IsIn, first_put, first, mark_of, marks, added, marks_in, Walks, ◌≡◌, ℕ, zero, suc, ◌+◌, ◌≤◌, ◌<◌, Bool, true, false, List, [], ◌∷◌, ◌++◌, length, reverse, take, refl, sym, ◌∙◌, ap, Option, Some, None, slice_index_or, ◌&&◌, if◌then◌else◌, cond, arith, false≢true, true≢false, cond-true, cond-false, reverse-append, take-suc, effects_of, put_object, is_object, last_put, back_in, is_some, StandsAt, put_found}
 use Rattle.effect_form.specs.declared.effects.Effect.TheVariants.{Put, Stretch, Begin, Decide, Learn, Run, Act, Try, Got, Acked, End}
 use Rattle.effect_form.specs.declared.effects.Effect.TheVariants as effect
 use Rattle.object_history.specs.declared.marks.Mark.TheVariants as mark
-use Rattle.version_store.specs.Entries.{effects_of, put_object, is_object, last_put, back_in}
-use Rattle.std.specs.Option.{is_some}
-use Rattle.version_store.specs.Fetch.{StandsAt}
 use Rattle.version_store.proofs.LogLemmas.{last_from-push, effects_of-append}
-use Rattle.object_header.specs.Marks.{put_found}
 
 marks-push : (log : Log) (e : Entry) → marks_in (log ++ e ∷ []) ≡ added (mark_of e.effect) (marks_in log)
 marks-push log e = ap (λ l. marks (reverse l)) (effects_of-append log (e ∷ [])) ∙ ap marks (reverse-append (effects_of log) (e.effect ∷ []))

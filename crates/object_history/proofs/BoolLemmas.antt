@@ -1,6 +1,5 @@
 -- Plain Booleans.
-use Rattle.std.proofs.Common.{◌≡◌, Bool, true, false, refl, ◌&&◌}
-use Rattle.std.proofs.lemmas.Bool.{false≢true}
+use Rattle.object_history.proofs.Names.{◌≡◌, Bool, true, false, refl, ◌&&◌, false≢true}
 
 pub and-both : (a b : Bool) → a ≡ true → b ≡ true → (a && b) ≡ true
 and-both true b h k = k

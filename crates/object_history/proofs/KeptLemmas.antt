@@ -1,18 +1,8 @@
 -- What histories in memory keep stays so when a mark is added.
-use Rattle.std.proofs.Common.{◌≡◌, ℕ, ◌+◌, ◌≤◌, ◌<◌, Bool, true, false, List, [], ◌∷◌, ◌++◌, length, reverse, refl, sym, ◌∙◌, ap, subst, Option, Some, None, ◌==◌, ◌&&◌, not, if◌then◌else◌, cond, arith}
-use Rattle.std.specs.Ordering.{is_eq}
 use Rattle.std.specs.FinMap as finite
-use Rattle.std.specs.Prelude.{unwrap_or}
-use Rattle.std.specs.Option.{is_some}
-use Rattle.std.proofs.lemmas.List.{reverse-append, length-reverse}
-use Rattle.std.specs.FinMap.{get-empty, get-insert}
-use Rattle.std.proofs.lemmas.Bool.{false≢true, true≢false}
-use Rattle.std.proofs.lemmas.Cmp.{eq_by_cmp_equiv}
-use Rattle.std.proofs.lemmas.Grind.{common_steps}
-use Rattle.object_history.proofs.Names.{StampParts, stamp_cmp, TimeParts, same_stamp, lt, stamp_cmp-total, same_stamp-is, ObjectId, Value, object_cmp, IsValue, Mark, Put, Stretch, Settle, Floor, Version, same_object, or_else, settle_of, version_count, Seen, starts_above, pick, scan, sees, place_of, same_place, top, floor_of, latest, read_to, reach, stretched, LaterRead, read_seen, read_from, read_step, Settled, TrackParts, Tracked, empty_track, track_at, IsKept, with_version, read_up_to, ended_at, with_end, versions_in}
+use Rattle.object_history.proofs.Names.{StampParts, stamp_cmp, TimeParts, same_stamp, lt, stamp_cmp-total, same_stamp-is, ObjectId, Value, object_cmp, IsValue, Mark, Put, Stretch, Settle, Floor, Version, same_object, or_else, settle_of, version_count, Seen, starts_above, pick, scan, sees, place_of, same_place, top, floor_of, latest, read_to, reach, stretched, LaterRead, read_seen, read_from, read_step, Settled, TrackParts, Tracked, empty_track, track_at, IsKept, with_version, read_up_to, ended_at, with_end, versions_in, ◌≡◌, ℕ, ◌+◌, ◌≤◌, ◌<◌, Bool, true, false, List, [], ◌∷◌, ◌++◌, length, reverse, refl, sym, ◌∙◌, ap, subst, Option, Some, None, ◌==◌, ◌&&◌, not, if◌then◌else◌, cond, arith, is_eq, unwrap_or, is_some, reverse-append, length-reverse, get-empty, get-insert, false≢true, true≢false, eq_by_cmp_equiv, common_steps, IsWhole, track_of, Keeps}
 use Rattle.value_form.specs.ObjectBytes.{IsObject}
 use Rattle.object_history.specs.declared.steps.ReadStep.{ReadStep}
-use Rattle.object_history.specs.Kept.{IsWhole, track_of, Keeps}
 use Rattle.object_history.proofs.ObjectLemmas.{same_object-is}
 
 -- ---- places

@@ -1,19 +1,10 @@
 -- What is looked up among the versions that are kept is what the definitions see.
-use Rattle.std.proofs.Common.{◌≡◌, ℕ, suc, ◌≤◌, ◌<◌, Bool, true, false, List, [], ◌∷◌, ◌++◌, length, reverse, refl, sym, ◌∙◌, ap, subst, Option, Some, None, ◌==◌, ◌&&◌, ◌||◌, not, if◌then◌else◌, nat_lt, slice_index_or, arith}
-use Rattle.std.specs.Option.{option_map}
-use Rattle.std.specs.List.{push}
-use Rattle.std.specs.Prelude.{unwrap_or}
 use Rattle.std.specs.FinMap as finite
-use Rattle.std.proofs.lemmas.List.{reverse-append, length-reverse, reverse-reverse}
 use Rattle.std.proofs.lemmas.Option.{unwrap_or-slice_get, slice_get_past}
 use Rattle.std.proofs.Math.ListN.{get_or-append}
 use Rattle.std.proofs.Math.Seq.{get_or-append_seam}
-use Rattle.std.proofs.lemmas.Bool.{true≢false}
-use Rattle.std.proofs.lemmas.Grind.{common_steps}
-use Rattle.object_history.proofs.Names.{TimeParts, same_stamp, same_time, lt, lt-trans, lt-split, ObjectId, Value, Nothing, IsValue, Mark, Put, Stretch, Settle, Floor, Version, same_object, same_value, settle_of, is_alive, is_settled, is_committed, alive, version_count, Seen, starts_above, pick, scan, sees, floor_of, stretched, is_over, some_put, settled_over, needs_stretch, read_seen, read_from, read_step, has_put, value_of, AreMarks, Answer, Wait, LaterRead, Settled, Tracked, TrackParts, empty_track, IsKept, versions_in, value_under, takes_over, joined, last_of, is_living, is_past, is_firm, some_version}
+use Rattle.object_history.proofs.Names.{TimeParts, same_stamp, same_time, lt, lt-trans, lt-split, ObjectId, Value, Nothing, IsValue, Mark, Put, Stretch, Settle, Floor, Version, same_object, same_value, settle_of, is_alive, is_settled, is_committed, alive, version_count, Seen, starts_above, pick, scan, sees, floor_of, stretched, is_over, some_put, settled_over, needs_stretch, read_seen, read_from, read_step, has_put, value_of, AreMarks, Answer, Wait, LaterRead, Settled, Tracked, TrackParts, empty_track, IsKept, versions_in, value_under, takes_over, joined, last_of, is_living, is_past, is_firm, some_version, ◌≡◌, ℕ, suc, ◌≤◌, ◌<◌, Bool, true, false, List, [], ◌∷◌, ◌++◌, length, reverse, refl, sym, ◌∙◌, ap, subst, Option, Some, None, ◌==◌, ◌&&◌, ◌||◌, not, if◌then◌else◌, nat_lt, slice_index_or, arith, option_map, push, unwrap_or, reverse-append, length-reverse, reverse-reverse, true≢false, common_steps, IsMark, IsReadStep, value_put, seen_in, is_below, HasEnd}
 use Rattle.pseudo_time.proofs.ListLemmas.{every-has}
-use Rattle.object_history.specs.Ranges.{IsMark, IsReadStep}
-use Rattle.object_history.specs.Kept.{value_put, seen_in, is_below, HasEnd}
 use Rattle.object_history.proofs.BoolLemmas.{not-false}
 use Rattle.object_history.proofs.ObjectLemmas.{eqb-yes, eq-from}
 use Rattle.object_history.proofs.ScanLemmas.{Standing, standing, stands-has}

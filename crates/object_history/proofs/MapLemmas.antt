@@ -1,12 +1,7 @@
 -- A finite map by the entries of an ordered map.
-use Rattle.std.proofs.Common.{◌≡◌, List, [], ◌∷◌, cond, sym, refl, ap, ◌∙◌, Some}
-use Rattle.std.specs.Prelude.{Option}
-use Rattle.std.specs.declared.cmp.Ordering.{Ordering}
-use Rattle.std.specs.Cmp.{IsTotalOrder}
+use Rattle.object_history.proofs.Names.{◌≡◌, List, [], ◌∷◌, cond, sym, refl, ap, ◌∙◌, Some, Option, Ordering, IsTotalOrder, find, get, insert, from_entries, get-from_entries, get-insert, same_map, eq_by_cmp_equiv}
 use Rattle.std.specs.BTreeMap.{is_at}
 use Rattle.std.specs.Map.{lookup}
-use Rattle.std.specs.FinMap.{find, get, insert, from_entries, get-from_entries, get-insert, same_map}
-use Rattle.std.proofs.lemmas.Cmp.{eq_by_cmp_equiv}
 use Rattle.std.proofs.lemmas.Map.Lookups.{CmpEqualImpliesEq}
 
 -- what an ordered map with these entries has

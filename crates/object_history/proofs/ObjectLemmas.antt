@@ -1,15 +1,7 @@
 -- The tests of equality of objects and values tell what they say.
-use Rattle.std.proofs.Common.{◌≡◌, ℕ, Bool, true, refl, sym, ◌∙◌, ap, subst, ◌==◌, ◌&&◌, arith}
-use Rattle.std.specs.Ordering.{nat_cmp, ordering_then, is_eq}
-use Rattle.std.specs.declared.cmp.Ordering.{Ordering}
 use Rattle.std.specs.declared.cmp.Ordering.TheVariants.{Less, Equal, Greater}
-use Rattle.std.specs.Cmp.{tied_itself, signed_Decides}
 use Rattle.std.specs.Cmp.Lexicographic.{bytes_decides}
-use Rattle.std.proofs.lemmas.Grind.{common_steps}
-use Rattle.std.proofs.lemmas.Bool.{false≢true}
-use Rattle.object_history.proofs.Names.{StampParts, stamp_cmp, TimeParts, same_stamp, same_time, ObjectId, Value, Nothing, object_cmp, object_cmp-total, object_cmp-exact, same_object, same_value}
-use Rattle.pseudo_time.proofs.OrderLemmas.{is_equal}
-use Rattle.value_form.specs.declared.values.Value.TheVariants.{Number, Text}
+use Rattle.object_history.proofs.Names.{StampParts, stamp_cmp, TimeParts, same_stamp, same_time, ObjectId, Value, Nothing, object_cmp, object_cmp-total, object_cmp-exact, same_object, same_value, ◌≡◌, ℕ, Bool, true, refl, sym, ◌∙◌, ap, subst, ◌==◌, ◌&&◌, arith, nat_cmp, ordering_then, is_eq, Ordering, tied_itself, signed_Decides, common_steps, false≢true, is_equal, Number, Text}
 
 pub same_object-is : (a b : ObjectId) → same_object a b ≡ true → a ≡ b
 unfolding same_object

@@ -1,10 +1,6 @@
 -- In a history that grew by fitting marks, no reach goes beyond a living version above it.
-use Rattle.std.proofs.Common.{◌≡◌, ℕ, ◌+◌, ◌<◌, Bool, true, false, List, [], ◌∷◌, refl, sym, ◌∙◌, ap, subst, Option, Some, None, ◌&&◌, if◌then◌else◌, inl, inr, arith}
-use Rattle.std.proofs.lemmas.Bool.{false≢true, true≢false}
-use Rattle.object_history.proofs.Names.{StampParts, TimeParts, lt, lt-irreflexive, lt-asymmetric, lt-split, lt-trans, ObjectId, Value, Mark, Put, Stretch, Settle, Floor, same_object, Seen, settle_of, alive, version_count, sees, newest, place_of, same_place, top, stretched, floor_of, latest, reach, write_step, Starts, IsVersion, Distinct, Fits}
-use Rattle.pseudo_time.proofs.OrderLemmas.{lt-total}
+use Rattle.object_history.proofs.Names.{StampParts, TimeParts, lt, lt-irreflexive, lt-asymmetric, lt-split, lt-trans, ObjectId, Value, Mark, Put, Stretch, Settle, Floor, same_object, Seen, settle_of, alive, version_count, sees, newest, place_of, same_place, top, stretched, floor_of, latest, reach, write_step, Starts, IsVersion, Distinct, Fits, ◌≡◌, ℕ, ◌+◌, ◌<◌, Bool, true, false, List, [], ◌∷◌, refl, sym, ◌∙◌, ap, subst, Option, Some, None, ◌&&◌, if◌then◌else◌, inl, inr, arith, false≢true, true≢false, lt-total, Grown}
 use Rattle.object_history.specs.declared.steps.WriteStep.TheVariants as write
-use Rattle.object_history.specs.Views.{Grown}
 use Rattle.object_history.proofs.Words.{Passes, Ends, Low, AtMost}
 use Rattle.object_history.proofs.BoolLemmas.{and-both, and-right, not-false}
 use Rattle.object_history.proofs.ObjectLemmas.{same_object-of, eq-from}

@@ -1,9 +1,5 @@
 -- Where the starts of versions rise, a walk from the newest on may end early.
-use Rattle.std.proofs.Common.{◌≡◌, ◌==◌, ℕ, length, Bool, true, false, List, [], ◌∷◌, ◌++◌, reverse, refl, sym, ◌∙◌, ap, subst, Option, Some, None, ◌&&◌, ◌||◌, if◌then◌else◌}
-use Rattle.std.specs.List.{push}
-use Rattle.std.proofs.lemmas.Bool.{true≢false}
-use Rattle.std.proofs.lemmas.List.{reverse-append}
-use Rattle.object_history.proofs.Names.{TimeParts, same_time, lt, lt-trans, lt-asymmetric, lt-irreflexive, same_time-is, Value, Mark, Version, same_value, Settled, TrackParts, takes_over, joined, last_of, is_past, is_firm, some_version, value_under, tops, rising, read_up_to, ended_at, with_end}
+use Rattle.object_history.proofs.Names.{TimeParts, same_time, lt, lt-trans, lt-asymmetric, lt-irreflexive, same_time-is, Value, Mark, Version, same_value, Settled, TrackParts, takes_over, joined, last_of, is_past, is_firm, some_version, value_under, tops, rising, read_up_to, ended_at, with_end, ◌≡◌, ◌==◌, ℕ, length, Bool, true, false, List, [], ◌∷◌, ◌++◌, reverse, refl, sym, ◌∙◌, ap, subst, Option, Some, None, ◌&&◌, ◌||◌, if◌then◌else◌, push, true≢false, reverse-append}
 use Rattle.object_history.proofs.BoolLemmas.{and-left, and-right, not-false}
 use Rattle.object_history.proofs.LookLemmas.{reverse-push, is_written}
 

@@ -1,7 +1,5 @@
 -- What a scan finds.
-use Rattle.std.proofs.Common.{◌≡◌, ◌≢◌, Bool, true, false, List, [], ◌∷◌, refl, sym, ◌∙◌, ap, subst, Option, Some, None, ◌&&◌, not, if◌then◌else◌, inl, inr}
-use Rattle.std.proofs.lemmas.Bool.{true≢false}
-use Rattle.object_history.proofs.Names.{StampParts, TimeParts, ObjectId, Value, Mark, Put, Stretch, Settle, Floor, lt, same_object, version_count, newest, reach, Seen, settle_of, is_alive, alive, starts_above, pick, scan, Starts, IsVersion, Distinct, Fits, lt-irreflexive, write_step, Has}
+use Rattle.object_history.proofs.Names.{StampParts, TimeParts, ObjectId, Value, Mark, Put, Stretch, Settle, Floor, lt, same_object, version_count, newest, reach, Seen, settle_of, is_alive, alive, starts_above, pick, scan, Starts, IsVersion, Distinct, Fits, lt-irreflexive, write_step, Has, ◌≡◌, ◌≢◌, Bool, true, false, List, [], ◌∷◌, refl, sym, ◌∙◌, ap, subst, Option, Some, None, ◌&&◌, not, if◌then◌else◌, inl, inr, true≢false}
 use Rattle.object_history.proofs.Words.{Passes, Ends, AtMost}
 use Rattle.object_history.proofs.ObjectLemmas.{same_object-is}
 use Rattle.object_history.specs.declared.steps.WriteStep.TheVariants as write

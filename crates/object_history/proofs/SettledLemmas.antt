@@ -1,11 +1,8 @@
 -- Each mark that a call may add leaves the settled versions a prefix.
-use Rattle.std.proofs.Common.{◌≡◌, Bool, true, false, List, [], ◌∷◌, ◌++◌, refl, sym, ◌∙◌, ap, subst, Option, Some, None, ◌&&◌, ◌||◌, not, if◌then◌else◌, inl, inr}
-use Rattle.std.proofs.lemmas.Bool.{false≢true, true≢false}
-use Rattle.object_history.proofs.Names.{StampParts, TimeParts, ObjectId, Value, Mark, Put, Stretch, Settle, Floor, lt, same_object, version_count, Seen, settle_of, is_alive, is_settled, is_committed, alive, some_put, Starts, HasPut, lt-split, lt-asymmetric, write_step}
+use Rattle.object_history.proofs.Names.{StampParts, TimeParts, ObjectId, Value, Mark, Put, Stretch, Settle, Floor, lt, same_object, version_count, Seen, settle_of, is_alive, is_settled, is_committed, alive, some_put, Starts, HasPut, lt-split, lt-asymmetric, write_step, ◌≡◌, Bool, true, false, List, [], ◌∷◌, ◌++◌, refl, sym, ◌∙◌, ap, subst, Option, Some, None, ◌&&◌, ◌||◌, not, if◌then◌else◌, inl, inr, false≢true, true≢false, Every}
 use Rattle.object_history.proofs.BoolLemmas.{and-both, and-left, and-right, not-false, not-true}
 use Rattle.object_history.proofs.ObjectLemmas.{same_object-is, same_object-of}
 use Rattle.object_history.specs.declared.steps.WriteStep.TheVariants as write
-use Rattle.pseudo_time.specs.Lists.{Every}
 use Rattle.object_history.specs.Settled.{insert, listed, is_blocked, settled_versions, Adds}
 use Rattle.object_history.proofs.StableLemmas.{starts-map, settled-stays}
 use Rattle.object_history.proofs.ScanLemmas.{puts-below}

@@ -1,10 +1,7 @@
 -- What was seen stays seen under each mark that fits.
-use Rattle.std.proofs.Common.{◌≡◌, Bool, true, false, List, [], ◌∷◌, refl, sym, ◌∙◌, ap, subst, Option, Some, None, ◌&&◌, ◌||◌, not, if◌then◌else◌, inl, inr}
-use Rattle.std.proofs.lemmas.Bool.{false≢true, true≢false}
-use Rattle.object_history.proofs.Names.{StampParts, TimeParts, ObjectId, Value, Mark, Put, Stretch, Settle, Floor, same_stamp, lt, same_object, version_count, Seen, or_else, settle_of, is_alive, alive, starts_above, pick, scan, newest, reach, Starts, HasPut, shows, views, Covers, Firm, Shut, Fits, same_stamp-is, lt-trans, lt-split, lt-fall, write_reach, write_newest, write_step, stands_written, WriteStep}
+use Rattle.object_history.proofs.Names.{StampParts, TimeParts, ObjectId, Value, Mark, Put, Stretch, Settle, Floor, same_stamp, lt, same_object, version_count, Seen, or_else, settle_of, is_alive, alive, starts_above, pick, scan, newest, reach, Starts, HasPut, shows, views, Covers, Firm, Shut, Fits, same_stamp-is, lt-trans, lt-split, lt-fall, write_reach, write_newest, write_step, stands_written, WriteStep, ◌≡◌, Bool, true, false, List, [], ◌∷◌, refl, sym, ◌∙◌, ap, subst, Option, Some, None, ◌&&◌, ◌||◌, not, if◌then◌else◌, inl, inr, false≢true, true≢false, same_stamp-of, between}
 use Rattle.object_history.proofs.Words.{Passes, Ends, Low}
 use Rattle.object_history.proofs.BoolLemmas.{and-both, and-left}
-use Rattle.pseudo_time.proofs.OrderLemmas.{same_stamp-of, between}
 use Rattle.object_history.proofs.ObjectLemmas.{same_object-is, same_object-of}
 use Rattle.object_history.specs.declared.steps.WriteStep.TheVariants as write
 use Rattle.object_history.proofs.TestLemmas.{two-tests}

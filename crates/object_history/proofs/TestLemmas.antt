@@ -1,7 +1,5 @@
 -- Two tests that find the same version.
-use Rattle.std.proofs.Common.{◌≡◌, Bool, true, false, List, [], ◌∷◌, refl, sym, ◌∙◌, ap, Option, Some, None, ◌&&◌, ◌||◌, not, if◌then◌else◌}
-use Rattle.std.proofs.lemmas.Bool.{false≢true, true≢false}
-use Rattle.object_history.proofs.Names.{TimeParts, ObjectId, Mark, Put, Stretch, Settle, Floor, lt, same_object, version_count, Seen, starts_above, pick, scan, Starts, lt-trans, lt-split}
+use Rattle.object_history.proofs.Names.{TimeParts, ObjectId, Mark, Put, Stretch, Settle, Floor, lt, same_object, version_count, Seen, starts_above, pick, scan, Starts, lt-trans, lt-split, ◌≡◌, Bool, true, false, List, [], ◌∷◌, refl, sym, ◌∙◌, ap, Option, Some, None, ◌&&◌, ◌||◌, not, if◌then◌else◌, false≢true, true≢false}
 use Rattle.object_history.proofs.Words.{Passes}
 use Rattle.object_history.proofs.ObjectLemmas.{same_object-is}
 

@@ -1,11 +1,6 @@
 -- A track, and the map of all tracks, after a change.
-use Rattle.std.proofs.Common.{◌≡◌, ℕ, zero, suc, ◌+◌, ◌≤◌, ◌<◌, Bool, true, false, List, [], ◌∷◌, ◌++◌, length, reverse, refl, sym, ◌∙◌, ap, subst, Option, Some, ◌==◌, if◌then◌else◌, cond, slice_set, slice_index_or, arith}
-use Rattle.std.specs.Prelude.{Result, Ok, Err, OnOk, OnErr, unwrap_or}
-use Rattle.std.specs.Ordering.{is_eq}
 use Rattle.std.specs.FinMap as finite
-use Rattle.std.proofs.lemmas.Grind.{common_steps}
-use Rattle.std.proofs.lemmas.List.{reverse-append, length-reverse}
-use Rattle.object_history.proofs.Names.{TimeParts, ObjectId, object_cmp, Version, top, same_object, TrackParts, Tracked, track_at, empty_track, read_up_to, ended_at, with_end, object_cmp-total, object_cmp-exact}
+use Rattle.object_history.proofs.Names.{TimeParts, ObjectId, object_cmp, Version, top, same_object, TrackParts, Tracked, track_at, empty_track, read_up_to, ended_at, with_end, object_cmp-total, object_cmp-exact, ◌≡◌, ℕ, zero, suc, ◌+◌, ◌≤◌, ◌<◌, Bool, true, false, List, [], ◌∷◌, ◌++◌, length, reverse, refl, sym, ◌∙◌, ap, subst, Option, Some, ◌==◌, if◌then◌else◌, cond, slice_set, slice_index_or, arith, Result, Ok, Err, OnOk, OnErr, unwrap_or, is_eq, common_steps, reverse-append, length-reverse}
 use Rattle.object_history.proofs.ObjectLemmas.{same_object-is}
 use Rattle.object_history.proofs.MapLemmas.{found_at, Puts, get-entries_of}
 

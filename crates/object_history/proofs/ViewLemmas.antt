@@ -1,7 +1,5 @@
 -- What is viewed stays viewed, and what a reader sees is its view.
-use Rattle.std.proofs.Common.{◌≡◌, ◌≢◌, Bool, true, false, List, [], ◌∷◌, refl, sym, ◌∙◌, ap, subst, Option, Some, None, ◌&&◌, ◌||◌, not, if◌then◌else◌, ◌⊎◌, inl, inr}
-use Rattle.std.proofs.lemmas.Bool.{false≢true, true≢false}
-use Rattle.object_history.proofs.Names.{TimeParts, ObjectId, Value, Mark, Put, Stretch, Settle, Floor, same_stamp, lt, same_object, version_count, Seen, settle_of, is_alive, alive, starts_above, pick, scan, sees, place_of, same_place, top, stretched, floor_of, latest, read_to, reach, Starts, HasPut, shows, views, Covers, Firm, Shut, value_of, Viewed, Fits, same_stamp-is, lt-trans, lt-fall, lt-asymmetric, lt-irreflexive}
+use Rattle.object_history.proofs.Names.{TimeParts, ObjectId, Value, Mark, Put, Stretch, Settle, Floor, same_stamp, lt, same_object, version_count, Seen, settle_of, is_alive, alive, starts_above, pick, scan, sees, place_of, same_place, top, stretched, floor_of, latest, read_to, reach, Starts, HasPut, shows, views, Covers, Firm, Shut, value_of, Viewed, Fits, same_stamp-is, lt-trans, lt-fall, lt-asymmetric, lt-irreflexive, ◌≡◌, ◌≢◌, Bool, true, false, List, [], ◌∷◌, refl, sym, ◌∙◌, ap, subst, Option, Some, None, ◌&&◌, ◌||◌, not, if◌then◌else◌, ◌⊎◌, inl, inr, false≢true, true≢false}
 use Rattle.object_history.proofs.Words.{Passes, AtMost}
 use Rattle.object_history.proofs.BoolLemmas.{and-both, not-false}
 use Rattle.object_history.proofs.ObjectLemmas.{same_object-of}

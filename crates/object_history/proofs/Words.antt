@@ -1,6 +1,5 @@
 -- Facts on what is seen, which the lemmas on histories share.
-use Rattle.std.specs.Prelude.{◌≡◌, Bool, true, false, Option, Some, None}
-use Rattle.object_history.proofs.Names.{TimeParts, lt, Seen}
+use Rattle.object_history.proofs.Names.{TimeParts, lt, Seen, ◌≡◌, Bool, true, false, Option, Some, None}
 
 -- what is seen passes the test
 abbrev pub Passes : (TimeParts → Bool) → Option Seen → Type 0

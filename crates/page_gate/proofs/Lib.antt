@@ -1,2 +1,3 @@
 mod TornPages
 mod Puts
+pub mod Names

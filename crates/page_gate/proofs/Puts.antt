@@ -1,10 +1,5 @@
 -- What a crash leaves while a body is put on a blank page.
-use Rattle.std.proofs.Common.{◌≡◌, inl, ℕ, ◌-◌, ◌≤◌, ◌<◌, List, [], ◌∷◌, ◌++◌, length, drop, true, sym, ◌∙◌, ap, arith, slice_set}
-use Rattle.std.proofs.Math.ListN.{replicate}
-use Rattle.std.proofs.lemmas.List.{get_or-set_same, set-set, set-get_or}
-use Rattle.medium_port.specs.Image.{Image, IsImage, page_of, splice, Written, Torn}
-use Rattle.page_gate.specs.States.{is_blank, gated_page}
-use Rattle.page_gate.specs.Steps.{PutStep}
+use Rattle.page_gate.proofs.Names.{◌≡◌, inl, ℕ, ◌-◌, ◌≤◌, ◌<◌, List, [], ◌∷◌, ◌++◌, length, drop, true, sym, ◌∙◌, ap, arith, slice_set, replicate, get_or-set_same, set-set, set-get_or, Image, IsImage, page_of, splice, Written, Torn, is_blank, gated_page, PutStep}
 use Rattle.page_gate.proofs.TornPages.{blank_state, not_gated, torn_body, torn_gate, staged_page, body_page}
 
 module _ (n page : ℕ) (body : List ℕ) (within : page < n) (most : length body ≤ 4095) where

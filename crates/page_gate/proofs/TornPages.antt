@@ -1,12 +1,7 @@
 -- What torn pages are.
-use Rattle.std.proofs.Common.{◌≡◌, ◌≢◌, ◌⊎◌, inl, inr, ℕ, suc, ◌+◌, ◌-◌, ◌≤◌, List, [], ◌∷◌, ◌++◌, length, get_or, take, drop, true, false, refl, sym, ◌∙◌, ap, arith}
-use Rattle.std.proofs.Math.ListN.{replicate}
-use Rattle.std.proofs.lemmas.List.{drop-replicate}
+use Rattle.page_gate.proofs.Names.{◌≡◌, ◌≢◌, ◌⊎◌, inl, inr, ℕ, suc, ◌+◌, ◌-◌, ◌≤◌, List, [], ◌∷◌, ◌++◌, length, get_or, take, drop, true, false, refl, sym, ◌∙◌, ap, arith, replicate, drop-replicate, is_blank, state_of, IsPutPage, splice}
 use Rattle.std.proofs.lemmas.Bool.{cases_eq, cases_Bool, cond-true, cond-false, ne_eqb, eq-eqb, eqb-true, and_parts}
-use Rattle.page_gate.specs.States.{is_blank, state_of}
-use Rattle.page_gate.specs.Steps.{IsPutPage}
 use Rattle.page_gate.specs.declared.pages.PageState.TheVariants.{Blank, Spoiled, Gated}
-use Rattle.medium_port.specs.Image.{splice}
 
 pub blank_is : (xs : List ℕ) → is_blank xs ≡ true → xs ≡ replicate (length xs) 0
 blank_is [] h = refl

@@ -1,14 +1,5 @@
 -- Acts one after another.
-use Rattle.std.proofs.Common.{◌≡◌, ℕ, suc, ◌+◌, ◌<◌, ◌^◌, List, [], ◌∷◌, ◌++◌, length, refl, sym, ap, ◌∙◌, subst, arith}
-use Rattle.value_form.specs.declared.acts.ActSpec.{ActSpec}
-use Rattle.value_form.specs.declared.scripts.Script.{Script}
-use Rattle.value_form.specs.declared.scripts.Stmt.{Stmt}
-use Rattle.value_form.specs.Mirror.{block}
-use Rattle.value_form.specs.MirrorLaws.{made_all, made-block}
-use Rattle.script_form.specs.Scripts.{IsScriptLines}
-use Rattle.script_form.proofs.PrintLemmas.{one_script_of_lines}
-use Rattle.plan_form.specs.declared.act_lines.Terms.{Terms}
-use Rattle.plan_form.specs.Plans.{IsActLine, terms, before_done, behind_done, past_blanks, AreActs}
+use Rattle.plan_form.proofs.Names.{◌≡◌, ℕ, suc, ◌+◌, ◌<◌, ◌^◌, List, [], ◌∷◌, ◌++◌, length, refl, sym, ap, ◌∙◌, subst, arith, ActSpec, Script, Stmt, block, made_all, made-block, IsScriptLines, one_script_of_lines, Terms, IsActLine, terms, before_done, behind_done, past_blanks, AreActs}
 use Rattle.plan_form.proofs.LineListLemmas.{past_blanks-none, past_blanks-some, has_done-more, before_done-more, behind_done-more}
 use Rattle.plan_form.proofs.TermLemmas.{one_line}
 

@@ -1,16 +1,7 @@
 -- Acts read one after another, and the plan that they are.
-use Rattle.std.proofs.Common.{◌≡◌, ℕ, ◌+◌, ◌<◌, ◌≤◌, true, false, List, [], ◌∷◌, ◌++◌, length, refl, sym, ap, ◌∙◌, subst, append_assoc, append-nil, length-append, arith}
-use Rattle.std.specs.Prelude.{Err}
-use Rattle.value_form.specs.declared.acts.ActSpec.{ActSpec}
-use Rattle.value_form.specs.Mirror.{block}
-use Rattle.script_form.specs.Lines.{lines, is_blank}
-use Rattle.script_form.specs.Scripts.{IsScriptLines}
+use Rattle.plan_form.proofs.Names.{◌≡◌, ℕ, ◌+◌, ◌<◌, ◌≤◌, true, false, List, [], ◌∷◌, ◌++◌, length, refl, sym, ap, ◌∙◌, subst, append_assoc, append-nil, length-append, arith, Err, ActSpec, block, lines, is_blank, IsScriptLines, Fault, NoMemory, HasHead, IsActLine, terms, has_done, before_done, behind_done, past_blanks, AreActs, Reaches, BodyFault, Parses, IsActRead, ReadsAct, ReadsActs, ReadsHead}
 use Rattle.plan_form.specs.declared.plan_faults.PlanKind.TheVariants as kind
 use Rattle.plan_form.specs.declared.plan_faults.PlanFault.{PlanFault}
-use Rattle.plan_form.specs.declared.plan_faults.PlanFault.TheVariants.{Fault, NoMemory}
-use Rattle.plan_form.specs.Plans.{HasHead, IsActLine, terms, has_done, before_done, behind_done, past_blanks, AreActs}
-use Rattle.plan_form.specs.PlanFaults.{Reaches, BodyFault, Parses}
-use Rattle.plan_form.specs.Reads.{IsActRead, ReadsAct, ReadsActs, ReadsHead}
 use Rattle.plan_form.proofs.LineListLemmas.{past_blanks-line, past_blanks-blank, split_at_done}
 use Rattle.plan_form.proofs.ActLemmas.{acts_then}
 use Rattle.plan_form.proofs.ScriptReadLemmas.{Next}

@@ -1,24 +1,12 @@
 -- No line of a script is `done`.
-use Rattle.std.proofs.Common.{◌≡◌, ℕ, zero, suc, ◌+◌, inl, inr, true, false, Bool, cond, List, [], ◌∷◌, ◌++◌, length, take, drop, refl, sym, ap, ◌∙◌, subst}
-use Rattle.std.specs.Prelude.{◌==◌, codes}
-use Rattle.std.specs.Cmp.Lexicographic.{pointwise}
+use Rattle.plan_form.proofs.Names.{◌≡◌, ℕ, zero, suc, ◌+◌, inl, inr, true, false, Bool, cond, List, [], ◌∷◌, ◌++◌, length, take, drop, refl, sym, ap, ◌∙◌, subst, ◌==◌, codes, pointwise, Decides-eqb, take-append-drop, slice_eq-Decides, Ends, spaces, IsTokens, by_test, both, Block, Numbered, is_blank, LineRow, LinesRows, IsScriptLines, is_space, is_done_word, is_done, has_done}
 use Rattle.std.specs.List.{list_all}
-use Rattle.std.proofs.lemmas.Bool.Decides.{Decides-eqb}
-use Rattle.std.proofs.lemmas.List.{take-append-drop}
-use Rattle.std.proofs.lemmas.Slice.Eq.{slice_eq-Decides}
 use Rattle.token_form.specs.declared.tokens.Token.{Token}
 use Rattle.token_form.specs.declared.tokens.Token.TheVariants as t
 use Rattle.token_form.specs.declared.tokens.Word.TheVariants as w
-use Rattle.token_form.specs.Tokens.{Ends, spaces, IsTokens}
 use Rattle.token_form.proofs.LineLaws.{one_list}
-use Rattle.token_form.proofs.Runs.{by_test, both}
-use Rattle.value_form.specs.Mirror.{Block}
 use Rattle.script_form.specs.RowTokens.{SpellsRow}
 use Rattle.script_form.specs.Row.{Row}
-use Rattle.script_form.specs.Rows.{Numbered}
-use Rattle.script_form.specs.Lines.{is_blank}
-use Rattle.script_form.specs.Scripts.{LineRow, LinesRows, IsScriptLines}
-use Rattle.plan_form.specs.Plans.{is_space, is_done_word, is_done, has_done}
 
 spaces_are : (bytes : List ℕ) → list_all is_space bytes ≡ true → bytes ≡ spaces (length bytes)
 spaces_are [] e = refl

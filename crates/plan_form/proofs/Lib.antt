@@ -10,3 +10,4 @@ pub mod PlanRangeLemmas
 pub mod PlanTextLemmas
 pub mod ScriptReadLemmas
 pub mod TermLemmas
+pub mod Names

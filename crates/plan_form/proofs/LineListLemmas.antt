@@ -1,8 +1,5 @@
 -- Lines up to a `done`, and lines past blank ones, where more lines follow.
-use Rattle.std.proofs.Common.{◌≡◌, ℕ, true, false, cond, List, [], ◌∷◌, ◌++◌, refl, sym, ap, ◌∙◌, subst}
-use Rattle.token_form.proofs.Runs.{by_test}
-use Rattle.script_form.specs.Lines.{is_blank}
-use Rattle.plan_form.specs.Plans.{is_done, has_done, before_done, behind_done, past_blanks}
+use Rattle.plan_form.proofs.Names.{◌≡◌, ℕ, true, false, cond, List, [], ◌∷◌, ◌++◌, refl, sym, ap, ◌∙◌, subst, by_test, is_blank, is_done, has_done, before_done, behind_done, past_blanks}
 
 -- ---- past blank lines
 

@@ -1,28 +1,14 @@
 -- A generated plan is one of the language, and its text isn't too long.
-use Rattle.std.proofs.Common.{◌≡◌, ℕ, zero, suc, ◌+◌, ◌-◌, ◌*◌, ◌/◌, ◌%◌, ◌<◌, ◌≤◌, ◌^◌, true, cond, List, [], ◌∷◌, ◌++◌, length, refl, sym, ap, subst, arith, length-append}
-use Rattle.std.specs.Prelude.{◌==◌, decimal, codes, replicate}
-use Rattle.std.proofs.lemmas.Bool.{lt-ltb}
-use Rattle.std.proofs.lemmas.Fmt.{length-decimal-le}
-use Rattle.std.proofs.lemmas.List.{length-replicate}
+use Rattle.plan_form.proofs.Names.{◌≡◌, ℕ, zero, suc, ◌+◌, ◌-◌, ◌*◌, ◌/◌, ◌%◌, ◌<◌, ◌≤◌, ◌^◌, true, cond, List, [], ◌∷◌, ◌++◌, length, refl, sym, ap, subst, arith, length-append, ◌==◌, decimal, codes, replicate, lt-ltb, length-decimal-le, length-replicate, is_letter, word_spelling, IsReserved, IsToken, by_test, ActSpec, Number, Name, Between, Fixed, At, Block, block, block-made, Numbered, rows, spot_text, row_text, line_text, rows_text, script_text, InRange, act_front, terms, IsPlan, act_text, acts_text, head_text, plan_text, IsAct, EachAct, IsOfLanguage, step, drawn, account, balance, transfer, audit, act_of, target_of, transfer_act, drawn_act, after_act, transfers, made_plan}
 use Rattle.std.proofs.lemmas.Nat.{mod_below}
 use Rattle.token_form.specs.declared.tokens.Token.TheVariants as t
 use Rattle.token_form.specs.declared.tokens.Word.{Word}
 use Rattle.token_form.specs.declared.tokens.Word.TheVariants as w
-use Rattle.token_form.specs.Tokens.{is_letter, word_spelling, IsReserved, IsToken}
-use Rattle.token_form.proofs.Runs.{by_test}
-use Rattle.value_form.specs.declared.acts.ActSpec.{ActSpec}
 use Rattle.value_form.specs.declared.objects.ObjectId.{ObjectId}
 use Rattle.value_form.specs.declared.expressions.Infix.TheVariants as o
-use Rattle.value_form.specs.Mirror.{Number, Name, Between, Fixed, At, Block, block}
-use Rattle.value_form.specs.MirrorLaws.{block-made}
 use Rattle.expression_form.specs.Texts.{text}
 use Rattle.script_form.specs.Row as r
-use Rattle.script_form.specs.Rows.{Numbered, rows}
-use Rattle.script_form.specs.RowTexts.{spot_text, row_text, line_text, rows_text, script_text}
 use Rattle.script_form.specs.Printable.{IsPrintable}
-use Rattle.plan_form.specs.Plans.{InRange, act_front, terms, IsPlan}
-use Rattle.plan_form.specs.PlanTexts.{act_text, acts_text, head_text, plan_text, IsAct, EachAct, IsOfLanguage}
-use Rattle.plan_form.specs.Making.{step, drawn, account, balance, transfer, audit, act_of, target_of, transfer_act, drawn_act, after_act, transfers, made_plan}
 use Rattle.plan_form.proofs.PlanTextLemmas.{printed_is_plan}
 
 -- ---- names of one letter

@@ -1,9 +1,5 @@
 -- What a generated plan has, one part after another.
-use Rattle.std.proofs.Common.{◌≡◌, ℕ, suc, ◌+◌, ◌-◌, ◌*◌, ◌<◌, List, [], ◌∷◌, ◌++◌, sym, ap, ◌∙◌, arith, append_assoc}
-use Rattle.value_form.specs.declared.acts.ActSpec.{ActSpec}
-use Rattle.value_form.specs.declared.scripts.Stmt.{Stmt}
-use Rattle.value_form.specs.MirrorLaws.{made_all, made_step}
-use Rattle.plan_form.specs.Making.{sums, transfers, drawn_act, after_act, last_step, account_read, account_sum}
+use Rattle.plan_form.proofs.Names.{◌≡◌, ℕ, suc, ◌+◌, ◌-◌, ◌*◌, ◌<◌, List, [], ◌∷◌, ◌++◌, sym, ap, ◌∙◌, arith, append_assoc, ActSpec, Stmt, made_all, made_step, sums, transfers, drawn_act, after_act, last_step, account_read, account_sum}
 
 pub transfers_next : (count before state : ℕ) → before < count → transfers (count - before) state (before + 1) ≡ drawn_act state (before + 1) ∷ transfers (count - (before + 1)) (after_act state) (before + 1 + 1)
 transfers_next count before state h = ap (λ z. transfers z state (before + 1)) (let e : count - before ≡ suc (count - (before + 1)) = omega arith in e)

@@ -1,18 +1,8 @@
 -- Bytes with a fault are no plan.
-use Rattle.std.proofs.Common.{◌≡◌, ℕ, suc, ◌+◌, ◌-◌, ◌≤◌, ◌^◌, ◌⊎◌, inl, inr, true, false, List, [], ◌∷◌, ◌++◌, length, drop, refl, sym, ap, ◌∙◌, subst, arith}
-use Rattle.std.specs.Prelude.{decimal, codes}
-use Rattle.std.proofs.lemmas.Fmt.{decimal_injective}
-use Rattle.value_form.specs.declared.acts.ActSpec.{ActSpec}
-use Rattle.value_form.specs.Mirror.{block}
-use Rattle.script_form.specs.Lines.{lines, is_blank}
-use Rattle.script_form.specs.Scripts.{IsScriptLines}
+use Rattle.plan_form.proofs.Names.{◌≡◌, ℕ, suc, ◌+◌, ◌-◌, ◌≤◌, ◌^◌, ◌⊎◌, inl, inr, true, false, List, [], ◌∷◌, ◌++◌, length, drop, refl, sym, ap, ◌∙◌, subst, arith, decimal, codes, decimal_injective, ActSpec, block, lines, is_blank, IsScriptLines, Terms, Plan, InRange, title, run_line, repositories_line, brokers_line, HasHead, act_front, IsActLine, terms, has_done, before_done, AreActs, IsPlanLines, IsPlan, Lacks, IsNumbered, ScriptFault, Reaches, BodyFault, LinesFault, IsPlanFault}
 use Rattle.script_form.proofs.FaultLemmas.{fault_of_no_script, open_is_no_script}
-use Rattle.plan_form.specs.declared.act_lines.Terms.{Terms}
-use Rattle.plan_form.specs.declared.plans.Plan.{Plan}
 use Rattle.plan_form.specs.declared.plan_faults.PlanKind.{PlanKind}
 use Rattle.plan_form.specs.declared.plan_faults.PlanKind.TheVariants as kind
-use Rattle.plan_form.specs.Plans.{InRange, title, run_line, repositories_line, brokers_line, HasHead, act_front, IsActLine, terms, has_done, before_done, AreActs, IsPlanLines, IsPlan}
-use Rattle.plan_form.specs.PlanFaults.{Lacks, IsNumbered, ScriptFault, Reaches, BodyFault, LinesFault, IsPlanFault}
 use Rattle.plan_form.proofs.ActLemmas.{Left, acts_left, heads, one_acts}
 use Rattle.plan_form.proofs.LineListLemmas.{past_blanks-line}
 

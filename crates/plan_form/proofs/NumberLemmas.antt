@@ -1,22 +1,9 @@
 -- Numbers behind words are read as they are written.
-use Rattle.std.proofs.Common.{◌≡◌, ℕ, ◌<◌, ◌≤◌, ◌^◌, ◌⊎◌, inl, inr, true, false, Bool, cond, List, [], ◌∷◌, ◌++◌, length, get_or, take, drop, Option, Some, None, refl, sym, ap, ◌∙◌, subst, arith, append-nil}
-use Rattle.std.specs.Prelude.{MatchOption, ◌==◌, ◌&&◌, not, nat_le, decimal}
-use Rattle.std.specs.Char.{is_ascii_digit}
-use Rattle.std.specs.Cmp.Lexicographic.{pointwise}
+use Rattle.plan_form.proofs.Names.{◌≡◌, ℕ, ◌<◌, ◌≤◌, ◌^◌, ◌⊎◌, inl, inr, true, false, Bool, cond, List, [], ◌∷◌, ◌++◌, length, get_or, take, drop, Option, Some, None, refl, sym, ap, ◌∙◌, subst, arith, append-nil, MatchOption, ◌==◌, ◌&&◌, not, nat_le, decimal, is_ascii_digit, pointwise, le-leb, lt-ltb, nat_tests, Decides-eqb, decimal-digits_value, take-append-drop, slice_eq-Decides, AllPass, number_from, IsNumeral, by_test, split_if, both, Stops, front_of-run, rest_of-run, front_of-passes, front-rest, InRange, IsNumbered, ◌>>=◌, after_front, digits_of, behind_digits, is_numeral, number_first, number_behind, number_alone}
 use Rattle.std.proofs.Math.Seq.{take-append_seam, drop-append_seam}
-use Rattle.std.proofs.lemmas.Bool.{le-leb, lt-ltb}
-use Rattle.std.proofs.lemmas.Bool.Decides.{nat_tests, Decides-eqb}
-use Rattle.std.proofs.lemmas.Fmt.{decimal-digits_value}
-use Rattle.std.proofs.lemmas.List.{take-append-drop}
-use Rattle.std.proofs.lemmas.Slice.Eq.{slice_eq-Decides}
 use Rattle.std.proofs.lemmas.Str.Parse.{IsNumeralModel, IsDigitsTest, numerals_by_fold}
 use Rattle.token_form.specs.declared.tokens.Token.TheVariants as t
-use Rattle.token_form.specs.Tokens.{AllPass, number_from, IsNumeral}
-use Rattle.token_form.proofs.Runs.{by_test, split_if, both, Stops, front_of-run, rest_of-run, front_of-passes, front-rest}
 use Rattle.token_form.proofs.Spellings.{spells}
-use Rattle.plan_form.specs.Plans.{InRange}
-use Rattle.plan_form.specs.PlanFaults.{IsNumbered}
-use Rattle.plan_form.specs.Reading.{◌>>=◌, after_front, digits_of, behind_digits, is_numeral, number_first, number_behind, number_alone}
 
 -- ---- parts read one after another
 

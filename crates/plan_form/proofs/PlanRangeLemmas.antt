@@ -1,14 +1,9 @@
 -- What holds of each act of a plan: its script has a text, and its broker and home are those of a stamp.
-use Rattle.std.proofs.Common.{ℕ, ◌+◌, ◌≤◌, List, [], ◌∷◌, length, arith}
+use Rattle.plan_form.proofs.Names.{ℕ, ◌+◌, ◌≤◌, List, [], ◌∷◌, length, arith, ActSpec, block, Plan, IsPlan, IsAct, IsOfLanguage, EachAct}
 use Rattle.pseudo_time.specs.Lists.{Every}
 use Rattle.pseudo_time.specs.StampParts.{IsInRange}
-use Rattle.value_form.specs.declared.acts.ActSpec.{ActSpec}
-use Rattle.value_form.specs.Mirror.{block}
 use Rattle.value_form.specs.Ranges.{IsScript}
 use Rattle.script_form.proofs.RangeLemmas.{printable-range}
-use Rattle.plan_form.specs.declared.plans.Plan.{Plan}
-use Rattle.plan_form.specs.Plans.{IsPlan}
-use Rattle.plan_form.specs.PlanTexts.{IsAct, IsOfLanguage, EachAct}
 use Rattle.plan_form.proofs.PlanTextLemmas.{plan_is_whole}
 
 -- indices count from n

@@ -1,22 +1,8 @@
 -- The canonical text of a plan is that plan.
-use Rattle.std.proofs.Common.{◌≡◌, ℕ, ◌+◌, ◌-◌, ◌<◌, ◌≤◌, ◌^◌, ◌⊎◌, inl, inr, cond, List, [], ◌∷◌, ◌++◌, length, refl, sym, ap, ◌∙◌, subst, arith, append_assoc, append-nil}
-use Rattle.std.specs.Prelude.{◌==◌, decimal, codes, replicate}
+use Rattle.plan_form.proofs.Names.{◌≡◌, ℕ, ◌+◌, ◌-◌, ◌<◌, ◌≤◌, ◌^◌, ◌⊎◌, inl, inr, cond, List, [], ◌∷◌, ◌++◌, length, refl, sym, ap, ◌∙◌, subst, arith, append_assoc, append-nil, ◌==◌, decimal, codes, replicate, Decides-eqb, by_test, AllPass-from, ActSpec, block, Numbered, rows, row_text, line_text, rows_text, script_text, lines_from, lines, IsScriptLines, Shown, shown-append, shown_number, line_ends, shown_stays, printed_is_script, Terms, Plan, InRange, title, run_line, repositories_line, brokers_line, act_front, IsActLine, terms, before_done, behind_done, AreActs, IsPlan, act_line, act_text, acts_text, head_text, plan_text, IsAct, EachAct, IsOfLanguage}
 use Rattle.std.specs.Int.{is_in_range}
 use Rattle.std.specs.Str.Lines.{strip_carriage_return}
-use Rattle.std.proofs.lemmas.Bool.Decides.{Decides-eqb}
-use Rattle.token_form.proofs.Runs.{by_test, AllPass-from}
-use Rattle.value_form.specs.declared.acts.ActSpec.{ActSpec}
-use Rattle.value_form.specs.Mirror.{block}
-use Rattle.script_form.specs.Rows.{Numbered, rows}
-use Rattle.script_form.specs.RowTexts.{row_text, line_text, rows_text, script_text}
-use Rattle.script_form.specs.Lines.{lines_from, lines}
-use Rattle.script_form.specs.Scripts.{IsScriptLines}
-use Rattle.script_form.proofs.PrintLemmas.{Shown, shown-append, shown_number, line_ends, shown_stays, printed_is_script}
 use Rattle.script_form.proofs.ReadLimitLemmas.{script_is_printable}
-use Rattle.plan_form.specs.declared.act_lines.Terms.{Terms}
-use Rattle.plan_form.specs.declared.plans.Plan.{Plan}
-use Rattle.plan_form.specs.Plans.{InRange, title, run_line, repositories_line, brokers_line, act_front, IsActLine, terms, before_done, behind_done, AreActs, IsPlan}
-use Rattle.plan_form.specs.PlanTexts.{act_line, act_text, acts_text, head_text, plan_text, IsAct, EachAct, IsOfLanguage}
 use Rattle.plan_form.proofs.DoneLemmas.{script_without_done}
 use Rattle.plan_form.proofs.LineListLemmas.{past_blanks-line, has_done-behind, before_done-behind, behind_done-behind}
 use Rattle.plan_form.proofs.NoPlanLemmas.{line_is_no_blank}

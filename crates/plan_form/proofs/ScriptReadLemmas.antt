@@ -1,20 +1,12 @@
 -- The lines of an act's script, fed one after another.
-use Rattle.std.proofs.Common.{◌≡◌, ℕ, ◌+◌, ◌<◌, ◌≤◌, inl, inr, true, false, cond, List, [], ◌∷◌, ◌++◌, length, refl, sym, ap, ◌∙◌, subst, append_assoc, append-nil, length-append, arith}
-use Rattle.std.specs.Prelude.{Ok, Err}
-use Rattle.value_form.specs.declared.scripts.Script.{Script}
-use Rattle.value_form.specs.Mirror.{block}
+use Rattle.plan_form.proofs.Names.{◌≡◌, ℕ, ◌+◌, ◌<◌, ◌≤◌, inl, inr, true, false, cond, List, [], ◌∷◌, ◌++◌, length, refl, sym, ap, ◌∙◌, subst, append_assoc, append-nil, length-append, arith, Ok, Err, Script, block, lines, LineFault, IsScriptLines, BeginScript, LeftOpen, FaultBehind, Fault, is_done, has_done, before_done, behind_done, script_fault, IsScriptRead, ReadsScript}
 use Rattle.script_form.specs.Building.{rows_so_far}
-use Rattle.script_form.specs.Lines.{lines}
-use Rattle.script_form.specs.Scripts.{LineFault, IsScriptLines, BeginScript, LeftOpen, FaultBehind}
 use Rattle.script_form.specs.Feeds.{HoldsLines, FeedsLine, EndsLines}
 use Rattle.script_form.specs.declared.readers.ScriptReader.{ScriptReader}
 use Rattle.script_form.specs.declared.parse_faults.ParseFault.{ParseFault}
 use Rattle.script_form.specs.declared.parse_faults.ParseFault.TheVariants as parse
 use Rattle.script_form.proofs.ProgressLemmas.{holds_begin}
 use Rattle.plan_form.specs.declared.plan_faults.PlanKind.TheVariants as kind
-use Rattle.plan_form.specs.declared.plan_faults.PlanFault.TheVariants.{Fault}
-use Rattle.plan_form.specs.Plans.{is_done, has_done, before_done, behind_done}
-use Rattle.plan_form.specs.Reads.{script_fault, IsScriptRead, ReadsScript}
 use Rattle.plan_form.proofs.LineListLemmas.{has_done-behind, before_done-behind, behind_done-behind, has_done-snoc}
 
 -- the reader has the lines behind the line before, up to the line at, and none of them is `done`

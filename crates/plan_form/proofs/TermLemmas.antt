@@ -1,11 +1,5 @@
 -- Act lines are read as they are written.
-use Rattle.std.proofs.Common.{◌≡◌, ℕ, ◌-◌, ◌<◌, ◌^◌, ◌⊎◌, inl, inr, List, [], ◌∷◌, ◌++◌, Option, Some, None, refl, sym, ap, ◌∙◌, subst, arith, append_assoc, append-nil}
-use Rattle.std.specs.Prelude.{MatchOption, decimal, codes}
-use Rattle.std.specs.Char.{is_ascii_digit}
-use Rattle.token_form.proofs.Runs.{Stops}
-use Rattle.plan_form.specs.declared.act_lines.Terms.{Terms}
-use Rattle.plan_form.specs.Plans.{InRange, act_front, IsActLine}
-use Rattle.plan_form.specs.Reading.{number_behind, clock_at, terms_at}
+use Rattle.plan_form.proofs.Names.{◌≡◌, ℕ, ◌-◌, ◌<◌, ◌^◌, ◌⊎◌, inl, inr, List, [], ◌∷◌, ◌++◌, Option, Some, None, refl, sym, ap, ◌∙◌, subst, arith, append_assoc, append-nil, MatchOption, decimal, codes, is_ascii_digit, Stops, Terms, InRange, act_front, IsActLine, number_behind, clock_at, terms_at}
 use Rattle.plan_form.proofs.NumberLemmas.{bind_some, bind_is, number_behind-written, number_behind-is, number_alone-written, number_alone-is}
 
 -- an act line up to its number of tries, and what follows

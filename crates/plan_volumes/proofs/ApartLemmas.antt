@@ -1,17 +1,11 @@
 -- The volumes of one node more are taken, opened, and set aside.
-use Rattle.std.proofs.Common.{◌≡◌, ◌⊎◌, ◌≤◌, ◌<◌, ◌+◌, inl, inr, ℕ, zero, suc, Bool, true, false, List, [], ◌∷◌, ◌++◌, length, length-append, map, append_assoc, append-nil, get_or, slice_get, slice_set, if◌then◌else◌, Option, Some, None, refl, ap, sym, subst, ◌∙◌, arith}
-use Rattle.plan_volumes.proofs.Names.{length-map, length_push, map-append, map-set, AllZip, Every, Has, NodeId, MediumName, Plan, Opening, Open, Shut, Wanting, Media, HasOpened, IsWanting, medium_in, node_at, ShelfSight, first_names, volume_name, AreNodes, IsNodes, NodeVolumes, all_taken, names_from, work_taken, working, AreApart, IsAside, Aside}
+use Rattle.plan_volumes.proofs.Names.{length-map, length_push, map-append, map-set, AllZip, Every, Has, NodeId, MediumName, Plan, Opening, Open, Shut, Wanting, Media, HasOpened, IsWanting, medium_in, node_at, ShelfSight, first_names, volume_name, AreNodes, IsNodes, NodeVolumes, all_taken, names_from, work_taken, working, AreApart, IsAside, Aside, ◌≡◌, ◌⊎◌, ◌≤◌, ◌<◌, ◌+◌, inl, inr, ℕ, zero, suc, Bool, true, false, List, [], ◌∷◌, ◌++◌, length, length-append, map, append_assoc, append-nil, get_or, slice_get, slice_set, if◌then◌else◌, Option, Some, None, refl, ap, sym, subst, ◌∙◌, arith, kind_place, WereTaken, names-below, taken-both, taken-none, KeepsLog, is_open, unopened_from, IsApart}
 use Rattle.std.specs.Option.{unwrap_or}
 use Rattle.effect_form.specs.declared.effects.Effect.{Effect}
-use Rattle.run_volumes.specs.Places.{kind_place}
 use Rattle.run_volumes.proofs.OrderLemmas.{place-at}
 use Rattle.forward_copy.specs.Currents.{current, current_from}
 use Rattle.forward_copy.specs.Wholes.{has_whole}
-use Rattle.run_volumes.specs.Shelves.{WereTaken}
 use Rattle.run_volumes.specs.Volumes.{AreVolumes, EndRightly, logs_of}
-use Rattle.run_volumes.proofs.ShelfLemmas.{names-below, taken-both, taken-none}
-use Rattle.plan_volumes.specs.Volumes.{KeepsLog, is_open, unopened_from}
-use Rattle.plan_volumes.specs.Asides.{IsApart}
 
 -- ---- the volume that a run is given is there
 

@@ -1,8 +1,5 @@
 -- The volumes of all nodes are handed back.
-use Rattle.std.proofs.Common.{◌≡◌, ◌+◌, ℕ, zero, suc, List, [], ◌∷◌, ◌++◌, length, length-append, map, append_assoc, append-nil, get_or, slice_set, Option, Some, None, refl, ap, sym, subst, ◌∙◌, arith}
-use Rattle.plan_volumes.proofs.Names.{length-map, map-append, AllZip, NodeId, MediumName, Plan, Opening, Open, Shut, Wanting, Media, HasOpened, medium_in, node_at, kept_as, kept_under, first_names, volume_name, Kept, names-long, AreNodes, NodeVolumes, all_left, all_taken, left_of, names_from, work_taken, working, IsAside, Aside}
-use Rattle.run_volumes.specs.Media.{IsBack}
-use Rattle.run_volumes.proofs.ShelfLemmas.{keep-joined}
+use Rattle.plan_volumes.proofs.Names.{length-map, map-append, AllZip, NodeId, MediumName, Plan, Opening, Open, Shut, Wanting, Media, HasOpened, medium_in, node_at, kept_as, kept_under, first_names, volume_name, Kept, names-long, AreNodes, NodeVolumes, all_left, all_taken, left_of, names_from, work_taken, working, IsAside, Aside, ◌≡◌, ◌+◌, ℕ, zero, suc, List, [], ◌∷◌, ◌++◌, length, length-append, map, append_assoc, append-nil, get_or, slice_set, Option, Some, None, refl, ap, sym, subst, ◌∙◌, arith, IsBack, keep-joined}
 use Rattle.plan_volumes.proofs.ApartLemmas.{names-more, set-long, zip-long}
 
 -- ---- lists that end with one more

@@ -1,10 +1,7 @@
 -- The volumes of one node among those of all.
-use Rattle.std.proofs.Common.{◌≡◌, ◌<◌, ◌+◌, ◌==◌, inl, inr, ℕ, zero, suc, Bool, true, false, List, [], ◌∷◌, ◌++◌, length, map, slice_get, slice_set, Option, Some, refl, ap, sym, subst, ◌∙◌, arith}
-use Rattle.plan_volumes.proofs.Names.{length-map, AllZip, Has, NodeId, MediumName, Plan, Media, HasOpened, medium_in, node_at, kept_under, ShelfSight, first_names, volume_name, Kept, names-long, AreNodes, IsNodes, NodeVolumes, all_left, all_taken, left_of, names_from, working}
+use Rattle.plan_volumes.proofs.Names.{length-map, AllZip, Has, NodeId, MediumName, Plan, Media, HasOpened, medium_in, node_at, kept_under, ShelfSight, first_names, volume_name, Kept, names-long, AreNodes, IsNodes, NodeVolumes, all_left, all_taken, left_of, names_from, working, ◌≡◌, ◌<◌, ◌+◌, ◌==◌, inl, inr, ℕ, zero, suc, Bool, true, false, List, [], ◌∷◌, ◌++◌, length, map, slice_get, slice_set, Option, Some, refl, ap, sym, subst, ◌∙◌, arith, IsGiven, kept-has}
 use Rattle.std.proofs.lemmas.Bool.Decides.{nat_tests}
 use Rattle.std.proofs.lemmas.Option.{slice_get_within}
-use Rattle.run_volumes.specs.Shelves.{IsGiven}
-use Rattle.run_volumes.proofs.ShelfLemmas.{kept-has}
 use Rattle.plan_volumes.proofs.ApartLemmas.{set-long, zip-long}
 use Rattle.plan_volumes.proofs.KeepLemmas.{kept-append}
 

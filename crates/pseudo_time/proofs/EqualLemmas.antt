@@ -1,12 +1,5 @@
 -- The tests of equality of stamps and pseudotimes, part by part.
-use Rattle.std.proofs.Common.{◌≡◌, ℕ, Bool, refl, ◌==◌, ◌&&◌, arith}
-use Rattle.std.specs.Ordering.{nat_cmp, ordering_then, is_eq}
-use Rattle.std.specs.declared.cmp.Ordering.{Ordering}
-use Rattle.std.specs.declared.cmp.Ordering.TheVariants.{Less, Equal, Greater}
-use Rattle.std.proofs.lemmas.Grind.{common_steps}
-use Rattle.pseudo_time.specs.StampParts.{StampParts, stamp_cmp}
-use Rattle.pseudo_time.specs.TimeParts.{TimeParts}
-use Rattle.pseudo_time.specs.Order.{same_stamp, same_time}
+use Rattle.pseudo_time.proofs.Names.{◌≡◌, ℕ, Bool, refl, ◌==◌, ◌&&◌, arith, nat_cmp, ordering_then, is_eq, Ordering, Less, Equal, Greater, common_steps, StampParts, stamp_cmp, TimeParts, same_stamp, same_time}
 
 level : (a b : ℕ) → (a == b) ≡ is_eq (nat_cmp a b)
 level a b = grind (arith, common_steps)

@@ -1,16 +1,7 @@
 -- Stamps and pseudotimes are in a total order.
-use Rattle.std.proofs.Common.{◌≡◌, ℕ, Bool, true, false, refl, sym, ap, ◌∙◌, subst, nat_lt, arith}
-use Rattle.std.proofs.lemmas.Grind.{common_steps}
-use Rattle.std.proofs.lemmas.Bool.{false≢true, true≢false}
-use Rattle.std.specs.Ordering.{nat_cmp, ordering_then, ordering_reverse, is_lt, is_eq}
-use Rattle.std.specs.declared.cmp.Ordering.{Ordering}
-use Rattle.std.specs.declared.cmp.Ordering.TheVariants.{Less, Equal, Greater}
-use Rattle.std.specs.Cmp.{IsTotalOrder, alike_right, tied_itself}
+use Rattle.pseudo_time.proofs.Names.{◌≡◌, ℕ, Bool, true, false, refl, sym, ap, ◌∙◌, subst, nat_lt, arith, common_steps, false≢true, true≢false, nat_cmp, ordering_then, ordering_reverse, is_lt, is_eq, Ordering, Less, Equal, Greater, IsTotalOrder, alike_right, tied_itself, StampParts, stamp_cmp, TimeParts, time_cmp, same_stamp, same_time, stamp_lt, lt}
 use Rattle.std.proofs.lemmas.Cmp.{nat_cmp_total, on_total, then_total}
 use Rattle.std.proofs.lemmas.Map.Lookups.{CmpEqualImpliesEq, exact_pairs, exact_unsigned}
-use Rattle.pseudo_time.specs.StampParts.{StampParts, stamp_cmp}
-use Rattle.pseudo_time.specs.TimeParts.{TimeParts, time_cmp}
-use Rattle.pseudo_time.specs.Order.{same_stamp, same_time, stamp_lt, lt}
 
 -- ---- answers of a comparison
 

@@ -1,36 +1,12 @@
 -- What a member keeps goes on to be that of its log.
-use Rattle.std.proofs.Common.{◌≡◌, ◌<◌, ◌+◌, ℕ, Bool, true, false, List, [], ◌∷◌, ◌++◌, length, take, get_or, map, refl, sym, ◌∙◌, ap, subst, cond}
-use Rattle.std.specs.Prelude.{Option, Some, None, T, ◌&&◌, reverse, if◌then◌else◌}
-use Rattle.std.specs.FinMap.Entries.{is_sorted, below_all}
-use Rattle.std.specs.List.{filter}
-use Rattle.std.specs.Ordering.{is_lt, is_eq}
+use Rattle.record_votes.proofs.Names.{◌≡◌, ◌<◌, ◌+◌, ℕ, Bool, true, false, List, [], ◌∷◌, ◌++◌, length, take, get_or, map, refl, sym, ◌∙◌, ap, subst, cond, Option, Some, None, T, ◌&&◌, reverse, if◌then◌else◌, is_sorted, below_all, filter, is_lt, is_eq, true≢false, false≢true, Every, is_due, expiry_of, expiries, sorted-expiries, option_copied, reverse-append, map-append, append-nil, append_assoc, take_more, StampParts, stamp_cmp, same_stamp, same_stamp-is, Decision, Effect, RecordState, Unknown, Decided, States, begun, settled, listed_at, begin_step, or_else, marks, first_begin, decision_of, record_from, record_of, known, begun_stamps, began, began_by, IsUnknown, BooksShow, restored, early_or, from-begin, from-none, from-unknown, record-decide, own, book, decides, IsBook, settled_all}
 use Rattle.std.specs.declared.cmp.Ordering.{Ordering}
 use Rattle.std.specs.declared.cmp.Ordering.TheVariants.{Less, Equal, Greater}
-use Rattle.std.proofs.lemmas.Bool.{true≢false, false≢true}
-use Rattle.pseudo_time.specs.Lists.{Every}
-use Rattle.repository_log.specs.Expiries.{is_due, expiry_of, expiries}
-use Rattle.repository_log.proofs.ExpiryLemmas.{sorted-expiries}
 use Rattle.std.specs.Borrow.{Bor}
-use Rattle.std.specs.Option.{option_copied}
 use Rattle.std.specs.declared.snapshot.Snapshot.{Snapshot}
-use Rattle.std.proofs.lemmas.List.{reverse-append, map-append, append-nil, append_assoc, take_more}
-use Rattle.pseudo_time.specs.StampParts.{StampParts, stamp_cmp}
-use Rattle.pseudo_time.specs.Order.{same_stamp}
-use Rattle.pseudo_time.proofs.OrderLemmas.{same_stamp-is}
-use Rattle.pseudo_time.specs.declared.decisions.Decision.{Decision}
-use Rattle.effect_form.specs.declared.effects.Effect.{Effect}
 use Rattle.effect_form.specs.declared.effects.Effect.TheVariants as effect
-use Rattle.commit_record.specs.declared.states.RecordState.{RecordState}
-use Rattle.commit_record.specs.declared.states.RecordState.TheVariants.{Unknown, Decided}
-use Rattle.commit_record.specs.States.{States, begun, settled, listed_at, begin_step}
-use Rattle.object_history.specs.History.{or_else}
-use Rattle.repository_log.specs.Logs.{marks, first_begin, decision_of, record_from, record_of, known, begun as begun_stamps, began, began_by, IsUnknown}
-use Rattle.repository_log.specs.Lookups.{BooksShow, restored, early_or}
-use Rattle.repository_log.proofs.LogLemmas.{from-begin, from-none, from-unknown, record-decide}
 use Rattle.repository_log.proofs.AgreeLemmas.{opened-agrees, agree-begin, agree-decide}
-use Rattle.record_votes.specs.Members.{own, book, decides}
 use Rattle.repository_log.specs.Opening.{AreRecords, AreEarly}
-use Rattle.record_votes.specs.Books.{IsBook, settled_all}
 
 abbrev Entries : Type 0
 Entries = List (StampParts × Decision)

@@ -3,3 +3,4 @@ pub mod LogLemmas
 pub mod MemberLemmas
 pub mod PollLemmas
 pub mod WorldLemmas
+pub mod Names

@@ -1,19 +1,6 @@
 -- What a member's log, oldest first, says of a stamp: its first Decide.
-use Rattle.std.proofs.Common.{◌≡◌, Bool, true, false, List, [], ◌∷◌, ◌++◌, inl, inr, refl, sym, ◌∙◌, ap}
-use Rattle.std.specs.Prelude.{Option, Some, None, reverse, if◌then◌else◌}
-use Rattle.std.proofs.lemmas.List.{reverse-append}
-use Rattle.std.proofs.lemmas.Bool.{true≢false}
-use Rattle.pseudo_time.specs.Lists.{Has}
-use Rattle.pseudo_time.proofs.ListLemmas.{has-either, has-left}
-use Rattle.pseudo_time.specs.StampParts.{StampParts}
-use Rattle.pseudo_time.specs.Order.{same_stamp}
-use Rattle.pseudo_time.proofs.OrderLemmas.{same_stamp-is, same_stamp-of}
-use Rattle.pseudo_time.specs.declared.decisions.Decision.{Decision}
-use Rattle.effect_form.specs.declared.effects.Effect.{Effect}
+use Rattle.record_votes.proofs.Names.{◌≡◌, Bool, true, false, List, [], ◌∷◌, ◌++◌, inl, inr, refl, sym, ◌∙◌, ap, Option, Some, None, reverse, if◌then◌else◌, reverse-append, true≢false, Has, has-either, has-left, StampParts, same_stamp, same_stamp-is, same_stamp-of, Decision, Effect, or_else, decision_of, own, book}
 use Rattle.effect_form.specs.declared.effects.Effect.TheVariants.{Decide}
-use Rattle.object_history.specs.History.{or_else}
-use Rattle.repository_log.specs.Logs.{decision_of}
-use Rattle.record_votes.specs.Members.{own, book}
 
 abbrev pub voted : List Effect → StampParts → Option Decision
 voted [] s = None

@@ -1,33 +1,11 @@
 -- What a member's turn adds and says, by its log.
-use Rattle.std.proofs.Common.{◌≡◌, ℕ, Bool, true, false, List, [], ◌∷◌, ◌++◌, map, inl, inr, refl, sym, ◌∙◌, ap, subst, cond}
-use Rattle.std.specs.Prelude.{Option, Some, None, T, if◌then◌else◌}
-use Rattle.std.specs.List.{filter}
-use Rattle.std.proofs.lemmas.List.{append-nil}
-use Rattle.std.proofs.lemmas.Bool.{true≢false, false≢true}
-use Rattle.pseudo_time.specs.Lists.{Has}
-use Rattle.pseudo_time.specs.StampParts.{StampParts, stamp_cmp}
-use Rattle.pseudo_time.specs.declared.decisions.Decision.{Decision}
+use Rattle.record_votes.proofs.Names.{◌≡◌, ℕ, Bool, true, false, List, [], ◌∷◌, ◌++◌, map, inl, inr, refl, sym, ◌∙◌, ap, subst, cond, Option, Some, None, T, if◌then◌else◌, filter, append-nil, true≢false, false≢true, Has, StampParts, stamp_cmp, Decision, NodeId, Effect, Message, Out, RecordState, Unknown, Decided, is_broker, is_due, expiry_of, expiries, from-unknown, from-decided, book, Given, quiet, owed, begin_by, close_by, row, on_message, on_moment, decides, sorted-expiries, same_stamp, same_stamp-is, same_stamp-self, is_sorted, below_all, is_lt}
 use Rattle.pseudo_time.specs.declared.decisions.Decision.TheVariants.{Committed, Withdrawn}
-use Rattle.pseudo_time.specs.declared.nodes.NodeId.{NodeId}
-use Rattle.effect_form.specs.declared.effects.Effect.{Effect}
 use Rattle.effect_form.specs.declared.effects.Effect.TheVariants as effect
-use Rattle.message_form.specs.declared.messages.Message.{Message}
 use Rattle.message_form.specs.declared.messages.Message.TheVariants as message
-use Rattle.message_form.specs.declared.turns.Out.{Out}
-use Rattle.commit_record.specs.declared.states.RecordState.{RecordState}
-use Rattle.commit_record.specs.declared.states.RecordState.TheVariants.{Unknown, Decided}
 use Rattle.repository_log.specs.Logs.{record_of, record_from, first_begin, decision_of, begun}
-use Rattle.pseudo_time.specs.Nodes.{is_broker}
-use Rattle.repository_log.specs.Expiries.{is_due, expiry_of, expiries}
-use Rattle.repository_log.proofs.LogLemmas.{from-unknown, from-decided}
-use Rattle.record_votes.specs.Members.{book, Given, quiet, owed, begin_by, close_by, row, on_message, on_moment, decides}
 use Rattle.record_votes.proofs.LogLemmas.{voted, book-voted, IsNew, new-voted, Single}
 use Rattle.record_votes.proofs.BookLemmas.{first-of, second-of, apart-stamps}
-use Rattle.repository_log.proofs.ExpiryLemmas.{sorted-expiries}
-use Rattle.pseudo_time.specs.Order.{same_stamp}
-use Rattle.pseudo_time.proofs.OrderLemmas.{same_stamp-is, same_stamp-self}
-use Rattle.std.specs.FinMap.Entries.{is_sorted, below_all}
-use Rattle.std.specs.Ordering.{is_lt}
 
 abbrev pub said : NodeId → StampParts → Decision → Out
 said to x d = record { to = to; message = message.Decided x d }

@@ -1,20 +1,8 @@
 -- A poll's ballots and what it holds.
-use Rattle.std.proofs.Common.{◌≡◌, ℕ, Bool, true, false, inl, inr, refl, sym, ◌∙◌, ap}
-use Rattle.std.specs.Prelude.{◌⊎◌, ◌≢◌, Option, Some, None, ◌==◌, if◌then◌else◌}
-use Rattle.std.proofs.lemmas.Bool.{eqb-true}
-use Rattle.pseudo_time.specs.Order.{same_stamp}
-use Rattle.pseudo_time.proofs.OrderLemmas.{same_stamp-is}
-use Rattle.pseudo_time.specs.declared.decisions.Decision.{Decision}
-use Rattle.pseudo_time.specs.declared.nodes.NodeId.{NodeId}
-use Rattle.pseudo_time.specs.declared.nodes.NodeKind.{NodeKind}
+use Rattle.record_votes.proofs.Names.{◌≡◌, ℕ, Bool, true, false, inl, inr, refl, sym, ◌∙◌, ap, ◌⊎◌, ◌≢◌, Option, Some, None, ◌==◌, if◌then◌else◌, eqb-true, same_stamp, same_stamp-is, Decision, NodeId, NodeKind, Message, is_commit, MemberNumber, First, Second, Third, number_of, member, voter_by, voter_of, PollState, ballot, with_ballot, held, held_of, heard_from, heard_by, begun_heard, vote_heard, poll_takes, PollGiven, ignored}
 use Rattle.pseudo_time.specs.declared.nodes.NodeKind.TheVariants as kind
-use Rattle.message_form.specs.declared.messages.Message.{Message}
 use Rattle.message_form.specs.declared.messages.Message.TheVariants as message
-use Rattle.repository_log.specs.Logs.{is_commit}
-use Rattle.record_votes.specs.declared.member_numbers.MemberNumber.{MemberNumber}
-use Rattle.record_votes.specs.declared.member_numbers.MemberNumber.TheVariants.{First, Second, Third}
 use Rattle.record_votes.specs.declared.ballots.Ballot.{Ballot}
-use Rattle.record_votes.specs.Polls.{number_of, member, voter_by, voter_of, PollState, ballot, with_ballot, held, held_of, heard_from, heard_by, begun_heard, vote_heard, poll_takes, PollGiven, ignored}
 
 -- ---- voters
 

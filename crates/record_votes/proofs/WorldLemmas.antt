@@ -1,27 +1,9 @@
 -- What holds at each place of a vote world.
-use Rattle.std.proofs.Common.{◌≡◌, ℕ, zero, suc, Bool, true, false, List, [], ◌∷◌, ◌++◌, take, drop, inl, inr, refl, sym, ◌∙◌, ap, subst}
-use Rattle.std.specs.Prelude.{Option, Some, None, ◌==◌, if◌then◌else◌}
-use Rattle.std.proofs.lemmas.List.{append-nil, append_assoc, take-append-drop}
-use Rattle.std.proofs.lemmas.Bool.{eqb-true}
-use Rattle.pseudo_time.specs.Lists.{Has}
-use Rattle.pseudo_time.proofs.ListLemmas.{has-either, has-left}
-use Rattle.pseudo_time.specs.StampParts.{StampParts}
-use Rattle.pseudo_time.specs.declared.decisions.Decision.{Decision}
-use Rattle.pseudo_time.specs.declared.nodes.NodeId.{NodeId}
-use Rattle.pseudo_time.specs.declared.nodes.NodeKind.{NodeKind}
+use Rattle.record_votes.proofs.Names.{◌≡◌, ℕ, zero, suc, Bool, true, false, List, [], ◌∷◌, ◌++◌, take, drop, inl, inr, refl, sym, ◌∙◌, ap, subst, Option, Some, None, ◌==◌, if◌then◌else◌, append-nil, append_assoc, take-append-drop, eqb-true, Has, has-either, has-left, StampParts, Decision, NodeId, NodeKind, Effect, Message, Out, is_commit, broker, MemberNumber, First, Second, Third, Given, on_message, on_moment, member, voter_at, voter_of, PollState, ballot, held, poll_goes, poll_hears, poll_takes, PollGiven}
 use Rattle.pseudo_time.specs.declared.nodes.NodeKind.TheVariants as kind
-use Rattle.effect_form.specs.declared.effects.Effect.{Effect}
 use Rattle.effect_form.specs.declared.effects.Effect.TheVariants as effect
-use Rattle.message_form.specs.declared.messages.Message.{Message}
 use Rattle.message_form.specs.declared.messages.Message.TheVariants as message
-use Rattle.message_form.specs.declared.turns.Out.{Out}
 use Rattle.message_form.specs.Posts.{Post, post, posts}
-use Rattle.repository_log.specs.Logs.{is_commit}
-use Rattle.pseudo_time.specs.Nodes.{broker}
-use Rattle.record_votes.specs.declared.member_numbers.MemberNumber.{MemberNumber}
-use Rattle.record_votes.specs.declared.member_numbers.MemberNumber.TheVariants.{First, Second, Third}
-use Rattle.record_votes.specs.Members.{Given, on_message, on_moment}
-use Rattle.record_votes.specs.Polls.{member, voter_at, voter_of, PollState, ballot, held, poll_goes, poll_hears, poll_takes, PollGiven}
 use Rattle.record_votes.specs.Voting.{Member, World, all_effects, opened, turned, took, heard, shut, crashed, Event, Goes, Delivered, Gates, Crashes, Hears, Polled, is_same_voter, with_member, with_poll, with_sent, post_at, to_poll, to_voter, delivered_to, delivered, after, run, Line, new_poll, founded, reached, gated, IsDecided, TwoDecided, Logs, entered, no_logs, Call, ended, left, logs_after}
 use Rattle.record_votes.proofs.LogLemmas.{voted, voted-more, voted-has, Once, Single, Tidy, tidy-front, tidy-more, tidy-none, tidy-apart, single-front, some-same}
 use Rattle.record_votes.proofs.MemberLemmas.{said, Says, message-says, moment-says}

@@ -1,19 +1,6 @@
 -- Versions that fall: what a read sees is the first of them that passes, and no two have one place.
-use Rattle.std.proofs.Common.{◌≡◌, ℕ, ◌+◌, ◌<◌, Bool, true, false, List, [], ◌∷◌, refl, sym, ◌∙◌, ap, Option, Some, None, ◌==◌, ◌&&◌, not, if◌then◌else◌, arith}
-use Rattle.std.proofs.lemmas.Bool.{true≢false}
-use Rattle.std.proofs.lemmas.Grind.{common_steps}
-use Rattle.pseudo_time.specs.TimeParts.{TimeParts}
-use Rattle.pseudo_time.specs.Order.{lt}
-use Rattle.pseudo_time.specs.Lists.{Every}
-use Rattle.pseudo_time.proofs.OrderLemmas.{lt-asymmetric, lt-fall}
+use Rattle.report_writer.proofs.Names.{◌≡◌, ℕ, ◌+◌, ◌<◌, Bool, true, false, List, [], ◌∷◌, refl, sym, ◌∙◌, ap, Option, Some, None, ◌==◌, ◌&&◌, not, if◌then◌else◌, arith, true≢false, common_steps, TimeParts, lt, Every, lt-asymmetric, lt-fall, ObjectId, Mark, Put, Stretch, Settle, Floor, same_object, Seen, version_count, starts_above, pick, scan, place_of, same_place, not-false, version_in, falling}
 use Rattle.pseudo_time.proofs.ListLemmas.{every-map}
-use Rattle.value_form.specs.declared.objects.ObjectId.{ObjectId}
-use Rattle.object_history.specs.declared.marks.Mark.{Mark}
-use Rattle.object_history.specs.declared.marks.Mark.TheVariants.{Put, Stretch, Settle, Floor}
-use Rattle.object_history.specs.Objects.{same_object}
-use Rattle.object_history.specs.History.{Seen, version_count, starts_above, pick, scan, place_of, same_place}
-use Rattle.object_history.proofs.BoolLemmas.{not-false}
-use Rattle.report_writer.specs.Histories.{version_in, falling}
 
 -- ---- facts on all versions
 

@@ -1,30 +1,13 @@
 -- What the code keeps of an object stays what the marks say when one more is read.
-use Rattle.std.proofs.Common.{◌≡◌, ℕ, zero, suc, ◌≤◌, ◌<◌, length, Bool, true, false, List, [], ◌∷◌, ◌++◌, map, take, drop, refl, sym, ◌∙◌, ap, subst, Option, Some, None, ◌==◌, ◌&&◌, if◌then◌else◌, cond, slice_set, slice_index_or, arith}
-use Rattle.std.specs.Option.{option_map, is_some}
+use Rattle.report_writer.proofs.Names.{◌≡◌, ℕ, zero, suc, ◌≤◌, ◌<◌, length, Bool, true, false, List, [], ◌∷◌, ◌++◌, map, take, drop, refl, sym, ◌∙◌, ap, subst, Option, Some, None, ◌==◌, ◌&&◌, if◌then◌else◌, cond, slice_set, slice_index_or, arith, option_map, is_some, true≢false, false≢true, common_steps, TimeParts, lt, same_stamp, Every, stamp_cmp-total, same_stamp-is, ObjectId, Mark, Put, Stretch, Settle, Floor, same_object, Seen, or_else, settle_of, is_alive, alive, version_count, sees, place_of, same_place, top, stretched, Settled, not-false, Version, version_in, falling, is_visible, first_place, count_above, told_of, Holds}
 use Rattle.std.specs.Ordering.{is_eq}
 use Rattle.std.specs.FinMap as finite
 use Rattle.std.specs.FinMap.{get-empty, get-insert}
-use Rattle.std.proofs.lemmas.Bool.{true≢false, false≢true}
 use Rattle.std.proofs.lemmas.Cmp.{eq_by_cmp_equiv}
-use Rattle.std.proofs.lemmas.Grind.{common_steps}
 use Rattle.pseudo_time.specs.StampParts.{StampParts, stamp_cmp}
-use Rattle.pseudo_time.specs.TimeParts.{TimeParts}
-use Rattle.pseudo_time.specs.Order.{lt, same_stamp}
-use Rattle.pseudo_time.specs.Lists.{Every}
-use Rattle.pseudo_time.proofs.OrderLemmas.{stamp_cmp-total, same_stamp-is}
-use Rattle.value_form.specs.declared.objects.ObjectId.{ObjectId}
 use Rattle.value_form.specs.declared.values.Value.{Value}
-use Rattle.object_history.specs.declared.marks.Mark.{Mark}
-use Rattle.object_history.specs.declared.marks.Mark.TheVariants.{Put, Stretch, Settle, Floor}
-use Rattle.object_history.specs.Objects.{same_object}
-use Rattle.object_history.specs.History.{Seen, or_else, settle_of, is_alive, alive, version_count, sees, place_of, same_place, top, stretched}
-use Rattle.object_history.specs.Kept.{Settled}
-use Rattle.object_history.proofs.BoolLemmas.{not-false}
 use Rattle.object_history.proofs.ObjectLemmas.{same_object-is, same_object-of}
 use Rattle.object_history.proofs.KeptLemmas.{stretched-new}
-use Rattle.report_writer.specs.declared.versions.Version.{Version}
-use Rattle.report_writer.specs.Histories.{version_in, falling}
-use Rattle.report_writer.specs.Tellings.{is_visible, first_place, count_above, told_of, Holds}
 use Rattle.report_writer.proofs.FallingLemmas.{Differ, Apart, first_seen, scan-first, apart, first-differs}
 
 -- ---- nothing was read

@@ -1,16 +1,7 @@
 -- The lines of versions.
-use Rattle.std.proofs.Common.{◌≡◌, List, [], ◌∷◌, ◌++◌, map, reverse, refl, sym, ◌∙◌, ap, Some, None}
-use Rattle.std.specs.List.{flat_map}
+use Rattle.report_writer.proofs.Names.{◌≡◌, List, [], ◌∷◌, ◌++◌, map, reverse, refl, sym, ◌∙◌, ap, Some, None, flat_map, ObjectId, TimeParts, Mark, Seen, top, floor_of, latest, stretched, Settled, Version, falling, version_line, version_text, versions, head_text, marks_text, told_of, told_line, Holds}
 use Rattle.std.proofs.lemmas.List.{reverse-append}
-use Rattle.value_form.specs.declared.objects.ObjectId.{ObjectId}
-use Rattle.pseudo_time.specs.TimeParts.{TimeParts}
 use Rattle.std.specs.Prelude.{ℕ, Option}
-use Rattle.object_history.specs.declared.marks.Mark.{Mark}
-use Rattle.object_history.specs.History.{Seen, top, floor_of, latest, stretched}
-use Rattle.object_history.specs.Kept.{Settled}
-use Rattle.report_writer.specs.declared.versions.Version.{Version}
-use Rattle.report_writer.specs.Histories.{falling, version_line, version_text, versions, head_text, marks_text}
-use Rattle.report_writer.specs.Tellings.{told_of, told_line, Holds}
 
 map-append : (f : Seen → Version) (xs ys : List Seen) → map f (xs ++ ys) ≡ map f xs ++ map f ys
 map-append f [] ys = refl

@@ -1,25 +1,10 @@
 -- What is looked up goes on to agree with the log.
-use Rattle.std.proofs.Common.{◌≡◌, ℕ, ◌≤◌, true, false, List, ◌∷◌, sym, ◌∙◌, ap, subst, arith}
-use Rattle.pseudo_time.specs.StampParts.{StampParts}
-use Rattle.pseudo_time.specs.TimeParts.{TimeParts}
-use Rattle.pseudo_time.specs.declared.decisions.Decision.{Decision}
-use Rattle.value_form.specs.declared.objects.ObjectId.{ObjectId}
-use Rattle.value_form.specs.declared.values.Value.{Value}
-use Rattle.effect_form.specs.declared.effects.Effect.{Effect}
+use Rattle.repository_core.proofs.Names.{◌≡◌, ℕ, ◌≤◌, true, false, List, ◌∷◌, sym, ◌∙◌, ap, subst, arith, StampParts, TimeParts, Decision, ObjectId, Value, Effect, States, Mark, ReadStep, WriteStep, settle_of, after_read, after_write, read_by, wrote, first_begin, decision_of, BooksShow}
 use Rattle.effect_form.specs.declared.effects.Effect.TheVariants.{Put, Stretch}
-use Rattle.commit_record.specs.States.{States}
-use Rattle.object_history.specs.declared.marks.Mark.{Mark}
 use Rattle.object_history.specs.declared.marks.Mark.TheVariants as mark
-use Rattle.object_history.specs.declared.steps.ReadStep.{ReadStep}
 use Rattle.object_history.specs.declared.steps.ReadStep.TheVariants as read
-use Rattle.object_history.specs.declared.steps.WriteStep.{WriteStep}
 use Rattle.object_history.specs.declared.steps.WriteStep.TheVariants as write
-use Rattle.object_history.specs.History.{settle_of}
-use Rattle.object_history.specs.Answers.{after_read, after_write}
-use Rattle.repository_core.specs.Logs.{read_by, wrote}
-use Rattle.repository_log.specs.Logs.{first_begin, decision_of}
 use Rattle.repository_core.specs.Calls.{Begins, Since}
-use Rattle.repository_log.specs.Lookups.{BooksShow}
 
 -- ---- the histories in a call
 

@@ -1,38 +1,13 @@
 -- The records that expire in a hearing are still unknown, each in its turn.
-use Rattle.std.proofs.Common.{◌≡◌, ℕ, ◌<◌, ◌+◌, Bool, true, false, List, [], ◌∷◌, map, length, drop, get_or, cond, refl, sym, ◌∙◌, ap, subst}
-use Rattle.std.specs.Prelude.{Option, Some, None, T, nat_le, not, ◌&&◌, if◌then◌else◌}
-use Rattle.std.specs.List.{filter}
-use Rattle.std.specs.Ordering.{is_lt, is_eq}
-use Rattle.std.specs.declared.cmp.Ordering.{Ordering}
-use Rattle.std.specs.declared.cmp.Ordering.TheVariants.{Less, Equal, Greater}
+use Rattle.repository_core.proofs.Names.{◌≡◌, ℕ, ◌<◌, ◌+◌, Bool, true, false, List, [], ◌∷◌, map, length, drop, get_or, cond, refl, sym, ◌∙◌, ap, subst, Option, Some, None, T, nat_le, not, ◌&&◌, if◌then◌else◌, filter, is_lt, is_eq, Ordering, Less, Equal, Greater, drop_more, StampParts, stamp_cmp, TimeParts, same_stamp, Every, Decision, NodeId, ObjectId, Effect, listed_at, read_step, HeldRead, first_begin, decision_of, record_of, marks, known, begun, IsUnknown, HasSameRecords, Hand, now, note, send, HasSameLog, repository, unhold, read_as, read_known, on_read, reread, release, tell_askers, expired, expire_as, expire, expire_all, waited, asks, ask_again, on_moment, is_due, due, expiry_of, expiries, unknown-unsettled, sorted-expiries}
 use Rattle.std.specs.FinMap.Entries.{is_sorted, below_all}
 use Rattle.std.proofs.lemmas.Bool.{false≢true, true≢false}
-use Rattle.std.proofs.lemmas.List.{drop_more}
-use Rattle.pseudo_time.specs.StampParts.{StampParts, stamp_cmp}
-use Rattle.pseudo_time.specs.TimeParts.{TimeParts}
-use Rattle.pseudo_time.specs.Order.{same_stamp}
-use Rattle.pseudo_time.specs.Lists.{Every}
-use Rattle.pseudo_time.specs.declared.decisions.Decision.{Decision}
 use Rattle.pseudo_time.specs.declared.decisions.Decision.TheVariants as decision
-use Rattle.pseudo_time.specs.declared.nodes.NodeId.{NodeId}
-use Rattle.value_form.specs.declared.objects.ObjectId.{ObjectId}
-use Rattle.effect_form.specs.declared.effects.Effect.{Effect}
 use Rattle.effect_form.specs.declared.effects.Effect.TheVariants as effect
 use Rattle.message_form.specs.declared.messages.Message.TheVariants as message
 use Rattle.commit_record.specs.declared.states.RecordState.{RecordState}
 use Rattle.commit_record.specs.declared.states.RecordState.TheVariants.{Unknown, Decided}
-use Rattle.commit_record.specs.States.{listed_at}
-use Rattle.object_history.specs.Answers.{read_step}
-use Rattle.repository_core.specs.declared.waits.HeldRead.{HeldRead}
-use Rattle.repository_log.specs.Logs.{first_begin, decision_of, record_of, marks, known, begun, IsUnknown, HasSameRecords}
-use Rattle.repository_core.specs.Hands.{Hand, now, note, send, HasSameLog}
-use Rattle.pseudo_time.specs.Nodes.{repository}
-use Rattle.repository_core.specs.Rows.{unhold, read_as, read_known, on_read, reread, release, tell_askers}
-use Rattle.repository_core.specs.Hearing.{expired, expire_as, expire, expire_all, waited, asks, ask_again, on_moment}
-use Rattle.repository_log.specs.Expiries.{is_due, due, expiry_of, expiries}
-use Rattle.repository_log.proofs.LogLemmas.{unknown-unsettled}
 use Rattle.repository_core.proofs.RowLemmas.{now-read, record-by, tell-now}
-use Rattle.repository_log.proofs.ExpiryLemmas.{sorted-expiries}
 
 -- ---- a read, and all that is set free, changes no record
 

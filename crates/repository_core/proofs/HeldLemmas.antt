@@ -1,18 +1,8 @@
 -- What holds of each held read stays true of those that are left, and of one more.
-use Rattle.std.proofs.Common.{◌≡◌, Bool, true, false, List, [], ◌∷◌, refl, sym, ap, subst, inl, inr}
-use Rattle.std.specs.declared.cmp.Ordering.{Ordering}
-use Rattle.std.specs.declared.cmp.Ordering.TheVariants.{Less, Equal, Greater}
-use Rattle.std.specs.Ordering.{match_ordering}
-use Rattle.std.specs.List.{filter}
+use Rattle.repository_core.proofs.Names.{◌≡◌, Bool, true, false, List, [], ◌∷◌, refl, sym, ap, subst, inl, inr, Ordering, Less, Equal, Greater, match_ordering, filter, cond, Every, Has, TimeParts, time_cmp, HeldRead, Asker, Hand}
 use Rattle.std.specs.Map.{remove_entry}
 use Rattle.std.specs.BTreeMap.{insert_entry}
-use Rattle.std.specs.Prelude.{cond}
-use Rattle.pseudo_time.specs.Lists.{Every, Has}
-use Rattle.pseudo_time.specs.TimeParts.{TimeParts, time_cmp}
 use Rattle.pseudo_time.proofs.OrderLemmas.{time_cmp-exact}
-use Rattle.repository_core.specs.declared.waits.HeldRead.{HeldRead}
-use Rattle.repository_core.specs.declared.waits.Asker.{Asker}
-use Rattle.repository_core.specs.Hands.{Hand}
 
 -- the hand with these held reads, or these askers
 abbrev pub with_held : Hand → List (TimeParts × HeldRead) → Hand

@@ -3,3 +3,4 @@ pub mod HearLemmas
 pub mod HeldLemmas
 pub mod RowLemmas
 pub mod TurnLemmas
+pub mod Names

@@ -1,30 +1,9 @@
 -- What a row of the rules makes of the log.
-use Rattle.std.proofs.Common.{◌≡◌, ◌≤◌, ◌<◌, ◌+◌, subst, get_or, length, drop, ℕ, Bool, true, false, List, [], ◌∷◌, refl, sym, ◌∙◌, ap}
-use Rattle.std.specs.Prelude.{Some, None, ◌==◌, ◌||◌, if◌then◌else◌, not}
-use Rattle.pseudo_time.specs.StampParts.{StampParts}
-use Rattle.pseudo_time.specs.TimeParts.{TimeParts}
-use Rattle.pseudo_time.specs.declared.nodes.NodeId.{NodeId}
-use Rattle.value_form.specs.declared.objects.ObjectId.{ObjectId}
-use Rattle.value_form.specs.declared.values.Value.{Value}
-use Rattle.effect_form.specs.declared.effects.Effect.{Effect}
+use Rattle.repository_core.proofs.Names.{◌≡◌, ◌≤◌, ◌<◌, ◌+◌, subst, get_or, length, drop, ℕ, Bool, true, false, List, [], ◌∷◌, refl, sym, ◌∙◌, ap, Some, None, ◌==◌, ◌||◌, if◌then◌else◌, not, StampParts, TimeParts, NodeId, ObjectId, Value, Effect, ReadStep, WriteStep, HeldRead, Asker, drop_all, drop_more, filter, same_stamp, read_step, AreHeld, read_by, wrote, first_begin, decision_of, marks, known, HasSameRecords, Hand, now, note, send, HasSameLog, repository, unhold, hold, waits_for, read_as, read_known, on_read, write_as, reread, release, learn_as, on_learn, tells, tell_askers}
 use Rattle.message_form.specs.declared.messages.Message.TheVariants as message
-use Rattle.object_history.specs.declared.steps.ReadStep.{ReadStep}
 use Rattle.object_history.specs.declared.steps.ReadStep.TheVariants as read
-use Rattle.object_history.specs.declared.steps.WriteStep.{WriteStep}
 use Rattle.object_history.specs.declared.steps.WriteStep.TheVariants as write
-use Rattle.repository_core.specs.declared.waits.HeldRead.{HeldRead}
-use Rattle.repository_core.specs.declared.waits.Asker.{Asker}
-use Rattle.std.proofs.lemmas.List.{drop_all, drop_more}
-use Rattle.std.specs.List.{filter}
-use Rattle.pseudo_time.specs.Order.{same_stamp}
 use Rattle.effect_form.specs.declared.effects.Effect.TheVariants as effect
-use Rattle.object_history.specs.Answers.{read_step}
-use Rattle.repository_core.specs.Ranges.{AreHeld}
-use Rattle.repository_core.specs.Logs.{read_by, wrote}
-use Rattle.repository_log.specs.Logs.{first_begin, decision_of, marks, known, HasSameRecords}
-use Rattle.repository_core.specs.Hands.{Hand, now, note, send, HasSameLog}
-use Rattle.pseudo_time.specs.Nodes.{repository}
-use Rattle.repository_core.specs.Rows.{unhold, hold, waits_for, read_as, read_known, on_read, write_as, reread, release, learn_as, on_learn, tells, tell_askers}
 
 now-if : (b : Bool) (x y : Hand) (l : List Effect) → now x ≡ l → now y ≡ l → now (if b then x else y) ≡ l
 now-if true x y l h k = h

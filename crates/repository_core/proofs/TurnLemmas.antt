@@ -1,17 +1,8 @@
 -- A whole turn, from its beginning to its end, is what the rules give.
-use Rattle.std.proofs.Common.{◌≡◌, List, [], ◌++◌, reverse, sym, ◌∙◌, ap, subst}
-use Rattle.std.proofs.lemmas.List.{reverse-reverse}
-use Rattle.pseudo_time.specs.StampParts.{StampParts}
-use Rattle.pseudo_time.specs.declared.decisions.Decision.{Decision}
-use Rattle.effect_form.specs.declared.effects.Effect.{Effect}
-use Rattle.object_history.specs.declared.marks.Mark.{Mark}
+use Rattle.repository_core.proofs.Names.{◌≡◌, List, [], ◌++◌, reverse, sym, ◌∙◌, ap, subst, reverse-reverse, StampParts, Decision, Effect, Mark, AgreeBut, AgreeWith, IsOpen, Mind, Hand, now, given, Input, Given, hand_turn, hand_at, mind_of, gives}
 use Rattle.message_form.specs.declared.turns.Out.{Out}
 use Rattle.message_form.specs.declared.turns.Turn.{Turn}
 use Rattle.repository_core.specs.declared.books.Books.{Books}
-use Rattle.repository_core.specs.Accounts.{AgreeBut, AgreeWith, IsOpen}
-use Rattle.repository_core.specs.Hands.{Mind, Hand, now}
-use Rattle.repository_core.specs.Cores.{given}
-use Rattle.repository_core.specs.Turns.{Input, Given, hand_turn, hand_at, mind_of, gives}
 
 abbrev given_as : List Effect → List Out → Mind → Given
 given_as effects outs mind = record { effects = effects; outs = outs; mind = mind }

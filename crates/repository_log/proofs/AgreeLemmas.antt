@@ -1,24 +1,9 @@
 -- What is looked up agrees with the log as that was read, and after a Begin, a Decide, a Learn and an expiry.
-use Rattle.std.proofs.Common.{◌≡◌, ◌≢◌, ℕ, Bool, true, false, List, [], ◌∷◌, refl, sym, ◌∙◌, ap, subst, cond}
-use Rattle.std.specs.Prelude.{Option, Some, None, if◌then◌else◌}
+use Rattle.repository_log.proofs.Names.{◌≡◌, ◌≢◌, ℕ, Bool, true, false, List, [], ◌∷◌, refl, sym, ◌∙◌, ap, subst, cond, Option, Some, None, if◌then◌else◌, eq_by_cmp_equiv, StampParts, same_stamp, stamp_cmp-total, same_stamp-is, same_stamp-self, Decision, Effect, Decide, Learn, RecordState, Unknown, Decided, States, begin_step, begun, begun_at, settled, settled_at, listed_at, Mark, or_else, settle_of, is_commit, as_decision, known, first_begin, decision_of, record_from, record_of, marks, began, began_by, AreRecords, AreEarly}
 use Rattle.std.specs.FinMap as finite
-use Rattle.std.proofs.lemmas.Cmp.{eq_by_cmp_equiv}
-use Rattle.pseudo_time.specs.StampParts.{StampParts}
-use Rattle.pseudo_time.specs.Order.{same_stamp}
-use Rattle.pseudo_time.proofs.OrderLemmas.{stamp_cmp-total, same_stamp-is, same_stamp-self}
-use Rattle.pseudo_time.specs.declared.decisions.Decision.{Decision}
-use Rattle.effect_form.specs.declared.effects.Effect.{Effect}
-use Rattle.effect_form.specs.declared.effects.Effect.TheVariants.{Decide, Learn}
-use Rattle.commit_record.specs.declared.states.RecordState.{RecordState}
-use Rattle.commit_record.specs.declared.states.RecordState.TheVariants.{Unknown, Decided}
 use Rattle.commit_record.specs.declared.states.BeginStep.TheVariants as begins
-use Rattle.commit_record.specs.States.{States, begin_step, begun, begun_at, settled, settled_at, listed_at}
-use Rattle.object_history.specs.declared.marks.Mark.{Mark}
 use Rattle.object_history.specs.declared.marks.Mark.TheVariants.{Settle}
-use Rattle.object_history.specs.History.{or_else, settle_of}
-use Rattle.repository_log.specs.Logs.{is_commit, as_decision, known, first_begin, decision_of, record_from, record_of, marks, began, began_by}
 use Rattle.repository_log.specs.Lookups.{BooksShow, early_or, pending_or, restored}
-use Rattle.repository_log.specs.Opening.{AreRecords, AreEarly}
 use Rattle.repository_log.proofs.OpenLemmas.{get-put}
 use Rattle.repository_log.proofs.LogLemmas.{known-decision, commits, undecided, from-unknown, from-begin, from-none, record-begin, record-decide, record-learn}
 

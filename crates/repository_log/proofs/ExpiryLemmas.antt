@@ -1,26 +1,15 @@
 -- The records that expire, as a list in the order of their stamps.
-use Rattle.std.proofs.Common.{◌≡◌, ℕ, Bool, true, false, List, [], ◌∷◌, map, refl, sym, ◌∙◌, ap, subst, cond}
-use Rattle.std.specs.Prelude.{Option, Some, None, T, is_some, nat_le, ◌&&◌, ◌||◌, if◌then◌else◌}
+use Rattle.repository_log.proofs.Names.{◌≡◌, ℕ, Bool, true, false, List, [], ◌∷◌, map, refl, sym, ◌∙◌, ap, subst, cond, Option, Some, None, T, is_some, nat_le, ◌&&◌, ◌||◌, if◌then◌else◌, is_at, eq_by_cmp_equiv, StampParts, stamp_cmp, same_stamp, stamp_cmp-total, stamp_cmp-exact, is_equal, Decision, Effect, Begin, listed_at, expiry, or_else}
 use Rattle.std.specs.List.{filter, list_any, AllByRecursion}
 use Rattle.std.specs.List.Sorted.{IsStrictlySortedBy}
 use Rattle.std.specs.Ordering.{is_lt, is_eq, match_ordering, ordering_reverse}
 use Rattle.std.specs.declared.cmp.Ordering.{Ordering}
 use Rattle.std.specs.declared.cmp.Ordering.TheVariants.{Less, Equal, Greater}
-use Rattle.std.specs.BTreeMap.{is_at}
 use Rattle.std.specs.BTreeSet.{insert_key}
 use Rattle.std.specs.FinMap.{find}
 use Rattle.std.specs.FinMap.Entries.{is_sorted, below_all, same_entries}
 use Rattle.std.proofs.lemmas.Map.Views.{any-filter_same}
-use Rattle.std.proofs.lemmas.Cmp.{eq_by_cmp_equiv}
-use Rattle.pseudo_time.specs.StampParts.{StampParts, stamp_cmp}
-use Rattle.pseudo_time.specs.Order.{same_stamp}
-use Rattle.pseudo_time.proofs.OrderLemmas.{stamp_cmp-total, stamp_cmp-exact, is_equal}
-use Rattle.pseudo_time.specs.declared.decisions.Decision.{Decision}
 use Rattle.pseudo_time.specs.declared.decisions.Decision.TheVariants.{Expired}
-use Rattle.effect_form.specs.declared.effects.Effect.{Effect}
-use Rattle.effect_form.specs.declared.effects.Effect.TheVariants.{Begin}
-use Rattle.commit_record.specs.States.{listed_at, expiry}
-use Rattle.object_history.specs.History.{or_else}
 use Rattle.repository_log.specs.Logs.{first_begin, decision_of, record_from, record_of, begun}
 use Rattle.repository_log.specs.Expiries.{is_due, due, expiry_of, expiries}
 

@@ -3,3 +3,4 @@ pub mod ExpiryLemmas
 pub mod LogLemmas
 pub mod MarkLemmas
 pub mod OpenLemmas
+pub mod Names

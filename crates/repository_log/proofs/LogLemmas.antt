@@ -1,15 +1,5 @@
 -- What a log says of an attempt, and how one effect more changes it.
-use Rattle.std.proofs.Common.{◌≡◌, ℕ, Bool, true, false, List, [], ◌∷◌, refl, sym, ◌∙◌, ap, subst}
-use Rattle.std.specs.Prelude.{Option, Some, None, if◌then◌else◌}
-use Rattle.pseudo_time.specs.StampParts.{StampParts}
-use Rattle.pseudo_time.specs.Order.{same_stamp}
-use Rattle.pseudo_time.proofs.OrderLemmas.{same_stamp-is}
-use Rattle.pseudo_time.specs.declared.decisions.Decision.{Decision}
-use Rattle.effect_form.specs.declared.effects.Effect.{Effect}
-use Rattle.effect_form.specs.declared.effects.Effect.TheVariants.{Begin, Decide, Learn}
-use Rattle.commit_record.specs.declared.states.RecordState.TheVariants.{Unknown, Decided}
-use Rattle.object_history.specs.History.{or_else, settle_of}
-use Rattle.repository_log.specs.Logs.{is_commit, as_decision, known, first_begin, decision_of, record_from, record_of}
+use Rattle.repository_log.proofs.Names.{◌≡◌, ℕ, Bool, true, false, List, [], ◌∷◌, refl, sym, ◌∙◌, ap, subst, Option, Some, None, if◌then◌else◌, StampParts, same_stamp, same_stamp-is, Decision, Effect, Begin, Decide, Learn, Unknown, Decided, or_else, settle_of, is_commit, as_decision, known, first_begin, decision_of, record_from, record_of}
 
 -- ---- whether it is settled
 

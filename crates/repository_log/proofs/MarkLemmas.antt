@@ -1,19 +1,8 @@
 -- The marks of a log, part by part.
-use Rattle.std.proofs.Common.{◌≡◌, ◌≢◌, ℕ, Bool, true, false, ◌||◌, ◌+◌, ◌<◌, List, [], ◌∷◌, ◌++◌, length, take, get_or, reverse, refl, sym, ◌∙◌, ap}
-use Rattle.std.specs.Prelude.{Option, Some, None, is_some, if◌then◌else◌}
-use Rattle.pseudo_time.specs.StampParts.{StampParts}
+use Rattle.repository_log.proofs.Names.{◌≡◌, ◌≢◌, ℕ, Bool, true, false, ◌||◌, ◌+◌, ◌<◌, List, [], ◌∷◌, ◌++◌, length, take, get_or, reverse, refl, sym, ◌∙◌, ap, Option, Some, None, is_some, if◌then◌else◌, StampParts, same_stamp, option_to_list, append_assoc, reverse-append, take_more, Effect, Put, Stretch, Begin, Decide, Learn, Run, Act, Try, Got, Acked, End, Mark, or_else, settle_of, top, floor_of, AreMarks, mark_of, marks, known, knows}
 use Rattle.pseudo_time.specs.TimeParts.{TimeParts}
-use Rattle.pseudo_time.specs.Order.{same_stamp}
-use Rattle.std.specs.Option.{option_to_list}
-use Rattle.std.proofs.lemmas.List.{append_assoc, reverse-append, take_more}
-use Rattle.effect_form.specs.declared.effects.Effect.{Effect}
-use Rattle.effect_form.specs.declared.effects.Effect.TheVariants.{Put, Stretch, Begin, Decide, Learn, Run, Act, Try, Got, Acked, End}
 use Rattle.effect_form.specs.declared.effects.Effect.TheVariants as effect
-use Rattle.object_history.specs.declared.marks.Mark.{Mark}
-use Rattle.object_history.specs.History.{or_else, settle_of, top, floor_of}
-use Rattle.object_history.specs.Ranges.{AreMarks}
 use Rattle.message_form.specs.Ranges.{AreEffects}
-use Rattle.repository_log.specs.Logs.{mark_of, marks, known, knows}
 
 pub marks-append : (l m : List Effect) → marks (l ++ m) ≡ marks l ++ marks m
 marks-append [] m = refl

@@ -1,26 +1,9 @@
 -- What is gathered from a log as it is read.
-use Rattle.std.proofs.Common.{◌≡◌, ◌<◌, ◌+◌, ◌++◌, length, take, get_or, reverse, ℕ, Bool, true, false, List, [], ◌∷◌, refl, sym, ◌∙◌, ap, cond}
-use Rattle.std.specs.Prelude.{Option, Some, None, is_some, if◌then◌else◌}
+use Rattle.repository_log.proofs.Names.{◌≡◌, ◌<◌, ◌+◌, ◌++◌, length, take, get_or, reverse, ℕ, Bool, true, false, List, [], ◌∷◌, refl, sym, ◌∙◌, ap, cond, Option, Some, None, is_some, if◌then◌else◌, option_copied, is_at, eq_by_cmp_equiv, reverse-append, take_more, StampParts, stamp_cmp, same_stamp, stamp_cmp-total, same_stamp-is, Decision, Effect, RecordState, Unknown, Decided, States, begun, begun_at, settled, settled_at, listed_at, or_else, as_decision, first_begin, decision_of, record_from, begun_by, decided_by, kept_after, AreBegun, AreDecided, AreKept}
 use Rattle.std.specs.FinMap as finite
 use Rattle.std.specs.Borrow.{Bor}
-use Rattle.std.specs.Option.{option_copied}
-use Rattle.std.specs.BTreeMap.{is_at}
-use Rattle.std.proofs.lemmas.Cmp.{eq_by_cmp_equiv}
 use Rattle.std.proofs.lemmas.Bool.{false≢true, true≢false}
-use Rattle.std.proofs.lemmas.List.{reverse-append, take_more}
-use Rattle.pseudo_time.specs.StampParts.{StampParts, stamp_cmp}
-use Rattle.pseudo_time.specs.Order.{same_stamp}
-use Rattle.pseudo_time.proofs.OrderLemmas.{stamp_cmp-total, same_stamp-is}
-use Rattle.pseudo_time.specs.declared.decisions.Decision.{Decision}
-use Rattle.effect_form.specs.declared.effects.Effect.{Effect}
 use Rattle.effect_form.specs.declared.effects.Effect.TheVariants.{Put, Stretch, Begin, Decide, Learn, Run, Act, Try, Got, Acked, End, Mark, Whole}
-use Rattle.commit_record.specs.declared.states.RecordState.{RecordState}
-use Rattle.commit_record.specs.declared.states.RecordState.TheVariants.{Unknown, Decided}
-use Rattle.commit_record.specs.States.{States, begun, begun_at, settled, settled_at, listed_at}
-use Rattle.object_history.specs.History.{or_else}
-use Rattle.repository_log.specs.Logs.{as_decision, first_begin, decision_of, record_from}
-use Rattle.repository_log.specs.Logs.{begun_by, decided_by}
-use Rattle.repository_log.specs.Opening.{kept_after, AreBegun, AreDecided, AreKept}
 
 -- ---- the map of records
 

@@ -1,25 +1,17 @@
 -- What a repository's core and the store beside it say of a life.
-use Rattle.std.proofs.Common.{◌≡◌, ℕ, ◌++◌, Bool, true, false, not, List, reverse, Option, Some, is_some, Result, Ok, Err, IfOk, OnOk, is_err, refl, sym, ap, subst, ◌∙◌, append_assoc}
-use Rattle.std.proofs.lemmas.List.{append-nil}
+use Rattle.repository_node.proofs.Names.{◌≡◌, ℕ, ◌++◌, Bool, true, false, not, List, reverse, Option, Some, is_some, Result, Ok, Err, IfOk, OnOk, is_err, refl, sym, ap, subst, ◌∙◌, append_assoc, append-nil, repository, Image, knows, known, Stage, MediumParts, told_medium, Base, Life, all_effects, opened_life, gated_life, after_input, HasTurn, IsReady, given_for}
 use Rattle.pseudo_time.specs.StampParts.{StampParts}
-use Rattle.pseudo_time.specs.Nodes.{repository}
 use Rattle.pseudo_time.specs.declared.nodes.NodeId.{NodeId}
-use Rattle.medium_port.specs.Image.{Image}
 use Rattle.effect_form.specs.declared.effects.Effect.{Effect}
 use Rattle.message_form.specs.declared.turns.Turn.{Turn}
 use Rattle.object_history.specs.declared.steps.HistoryFault.{HistoryFault}
-use Rattle.repository_log.specs.Logs.{knows, known}
 use Rattle.repository_log.proofs.MarkLemmas.{knows-known}
-use Rattle.medium_port.specs.Moment.{Stage}
-use Rattle.object_header.specs.Ledgers.{MediumParts, told_medium}
 use Rattle.repository_core.specs.Cores.{Core, CoreState, given}
 use Rattle.repository_core.specs.Turns as turns
 use Rattle.world_core.specs.Cores.{IsRepository, RepositoryGave}
 use Rattle.world_core.specs.Nodes.{Input, repository_gives, with_hands, opened_mind, is_ready}
-use Rattle.world_core.specs.Walks.{Base, Life, all_effects, opened_life, gated_life, after_input}
 use Rattle.world_core.proofs.CoreTurns.{repository-answers}
 use Rattle.trace_logs.proofs.MarkLemmas.{knows-reverse}
-use Rattle.node_turn.specs.Cores.{HasTurn, IsReady, given_for}
 
 -- ---- turns
 

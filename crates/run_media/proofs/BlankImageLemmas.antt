@@ -1,9 +1,6 @@
 -- A blank image has an empty log, and all of its pages are blank.
-use Rattle.std.proofs.Common.{◌≡◌, ◌+◌, ◌≤◌, ◌∙◌, ◌==◌, ℕ, suc, Bool, true, List, [], ◌∷◌, Ok, drop, length, refl, ap, arith, if◌then◌else◌}
-use Rattle.std.specs.Prelude.{cond, slice_index, slice_index_or}
+use Rattle.run_media.proofs.Names.{◌≡◌, ◌+◌, ◌≤◌, ◌∙◌, ◌==◌, ℕ, suc, Bool, true, List, [], ◌∷◌, Ok, drop, length, refl, ap, arith, if◌then◌else◌, cond, slice_index, slice_index_or, count_by, sum_by-cons}
 use Rattle.std.proofs.lemmas.Bool.{eq-eqb}
-use Rattle.std.specs.List.{count_by}
-use Rattle.std.proofs.lemmas.List.Sums.{sum_by-cons}
 use Rattle.medium_port.specs.Image.{Image, IsBlankImage, page_of}
 use Rattle.page_gate.specs.States.{is_blank, state_of}
 use Rattle.page_gate.specs.declared.pages.PageState.{PageState}

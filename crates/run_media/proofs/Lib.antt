@@ -1,3 +1,4 @@
 pub mod BlankImageLemmas
 pub mod OpeningLemmas
 pub mod OrderLemmas
+pub mod Names

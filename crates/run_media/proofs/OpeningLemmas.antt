@@ -1,38 +1,20 @@
 -- Opened media, and nodes that can go on from their logs.
 use Rattle.std.specs.declared.vec.Vec.{Vec}
 use Rattle.std.specs.declared.alloc.Global.{Global}
-use Rattle.std.proofs.Common.{◌≡◌, ◌≢◌, ◌≤◌, ◌<◌, ◌==◌, zero, slice_index_or, take, drop, nat_lt, if◌then◌else◌, ◌+◌, ℕ, suc, Bool, true, false, List, [], ◌∷◌, ◌++◌, length, Option, Some, None, is_some, Err, reverse, refl, ap, sym, subst, ◌∙◌, arith, cond}
-use Rattle.std.specs.Prelude.{is_none, filter}
-use Rattle.std.proofs.lemmas.Bool.Decides.{nat_tests}
-use Rattle.std.proofs.lemmas.List.{take_more}
-use Rattle.std.proofs.lemmas.List.{length-take-le}
-use Rattle.std.specs.List.{AllZip}
+use Rattle.run_media.proofs.Names.{◌≡◌, ◌≢◌, ◌≤◌, ◌<◌, ◌==◌, zero, slice_index_or, take, drop, nat_lt, if◌then◌else◌, ◌+◌, ℕ, suc, Bool, true, false, List, [], ◌∷◌, ◌++◌, length, Option, Some, None, is_some, Err, reverse, refl, ap, sym, subst, ◌∙◌, arith, cond, is_none, filter, nat_tests, take_more, length-take-le, AllZip, NodeId, NodeKind, Repository, Broker, Effect, ActSpec, Plan, keep, resume_fault, other_plan, plan_fault, reading, Task, Scripted, tasks, acts_of, is_ready, kind_ready, Opening, kind_fault, fault_in, IsReadyFor, IsRefusalFor, RefusesLog, Refuses, AreReady, FirstRefusal, node_at}
 use Rattle.pseudo_time.specs.Lists.{Every}
-use Rattle.pseudo_time.specs.declared.nodes.NodeId.{NodeId}
-use Rattle.pseudo_time.specs.declared.nodes.NodeKind.{NodeKind}
-use Rattle.pseudo_time.specs.declared.nodes.NodeKind.TheVariants.{Repository, Broker}
 use Rattle.pseudo_time.specs.declared.down_causes.DownCause.{DownCause}
-use Rattle.effect_form.specs.declared.effects.Effect.{Effect}
-use Rattle.value_form.specs.declared.acts.ActSpec.{ActSpec}
 use Rattle.version_store.specs.declared.stores.Store.{Store}
-use Rattle.plan_form.specs.declared.plans.Plan.{Plan}
 use Rattle.plan_form.specs.PlanTexts.{IsOfLanguage}
 use Rattle.serial_model.specs.Questions.{Tree}
 use Rattle.broker_core.specs.declared.resume_faults.ResumeFault.{ResumeFault}
 use Rattle.broker_core.specs.Book.{book}
 use Rattle.broker_core.specs.Brokers.{Opens}
 use Rattle.broker_core.specs.declared.resume_faults.ResumeFault.TheVariants as fault
-use Rattle.broker_core.specs.Fits.{keep, resume_fault, other_plan, plan_fault}
-use Rattle.broker_core.specs.Readings.{reading}
-use Rattle.broker_core.specs.Tasks.{Task, Scripted, tasks}
-use Rattle.world_core.specs.Nodes.{acts_of, is_ready, kind_ready}
 use Rattle.world_core.proofs.OneReading.{own-reading}
-use Rattle.run_media.specs.declared.openings.Opening.{Opening}
 use Rattle.run_media.specs.declared.openings.Opening.TheVariants.{Open, Shut}
 use Rattle.run_media.specs.declared.openings.Refusal.{Refusal}
 use Rattle.run_media.specs.declared.openings.Refusal.TheVariants as refusal
-use Rattle.run_media.specs.Openings.{kind_fault, fault_in, IsReadyFor, IsRefusalFor, RefusesLog, Refuses, AreReady, FirstRefusal}
-use Rattle.run_media.specs.Places.{node_at}
 
 -- ---- lists beside each other
 

@@ -1,22 +1,9 @@
 -- The nodes of a plan in their order.
-use Rattle.std.proofs.Common.{◌≡◌, ◌≢◌, ◌≤◌, ◌<◌, ◌+◌, ◌-◌, ◌&&◌, ◌==◌, nat_lt, nat_le, ℕ, zero, suc, Bool, true, false, List, [], ◌∷◌, ◌++◌, length, Option, Some, None, is_some, slice_get, slice_index_or, take, refl, ap, sym, subst, ◌∙◌, arith, if◌then◌else◌, cond}
-use Rattle.std.proofs.lemmas.Bool.Decides.{nat_tests}
-use Rattle.std.proofs.lemmas.List.{take_more, length-take-le}
-use Rattle.std.proofs.lemmas.List.Sums.{sum_by-cons}
-use Rattle.std.specs.List.{count_by}
-use Rattle.pseudo_time.specs.declared.nodes.NodeId.{NodeId}
-use Rattle.pseudo_time.specs.declared.nodes.NodeKind.{NodeKind}
-use Rattle.pseudo_time.specs.declared.nodes.NodeKind.TheVariants.{Repository, Broker}
+use Rattle.run_media.proofs.Names.{◌≡◌, ◌≢◌, ◌≤◌, ◌<◌, ◌+◌, ◌-◌, ◌&&◌, ◌==◌, nat_lt, nat_le, ℕ, zero, suc, Bool, true, false, List, [], ◌∷◌, ◌++◌, length, Option, Some, None, is_some, slice_get, slice_index_or, take, refl, ap, sym, subst, ◌∙◌, arith, if◌then◌else◌, cond, nat_tests, take_more, length-take-le, sum_by-cons, count_by, NodeId, NodeKind, Repository, Broker, Effect, Plan, JustNodes, in_plan, is_within, most_of, Opening, log_in, opened_from, node_count, node_at, kind_place, place_of}
 use Rattle.pseudo_time.specs.Nodes.{repository, broker, same_node}
-use Rattle.effect_form.specs.declared.effects.Effect.{Effect}
 use Rattle.message_core.proofs.NodeLemmas.{same_is, same_node-refl}
-use Rattle.plan_form.specs.declared.plans.Plan.{Plan}
 use Rattle.world_core.specs.declared.traces.Opened.{Opened}
 use Rattle.world_core.specs.Walks.{opened_log}
-use Rattle.world_core.specs.Legal.{JustNodes, in_plan, is_within, most_of}
-use Rattle.run_media.specs.declared.openings.Opening.{Opening}
-use Rattle.run_media.specs.Openings.{log_in, opened_from}
-use Rattle.run_media.specs.Places.{node_count, node_at, kind_place, place_of}
 
 -- ---- numbers
 

@@ -1,14 +1,10 @@
 -- How a run ends that doesn't begin, and what its wire began with.
-use Rattle.std.proofs.Common.{◌≡◌, ℕ, List, length, map, Option, Some, inl, refl, sym, subst}
-use Rattle.std.specs.List.{AllZip}
 use Rattle.seat_lock.specs.Words.{base_of}
-use Rattle.run_starts.specs.Starts.{HasPasses}
 use Rattle.run_rounds.specs.Begins.{HasBegun}
-use Rattle.run_rounds.proofs.Names.{Asked, Plan, View, Founding, LockTable, Entry, Origin, WireParts, Opening, Media, FirstRefusal, HasOpened, medium_in, node_count, IsSetUp, End, EndsAs, IsEndFor, tellers, Pass}
+use Rattle.run_rounds.proofs.Names.{Asked, Plan, View, Founding, LockTable, Entry, Origin, WireParts, Opening, Media, FirstRefusal, HasOpened, medium_in, node_count, IsSetUp, End, EndsAs, IsEndFor, tellers, Pass, ◌≡◌, ℕ, List, length, map, Option, Some, inl, refl, sym, subst, AllZip, HasPasses, Tellers}
 use Rattle.run_media.specs.declared.openings.Refusal.{Refusal}
 use Rattle.run_media.specs.declared.openings.Refusal.TheVariants as refusal
 use Rattle.run_rounds.specs.declared.ends.End.TheVariants as end
-use Rattle.run_rounds.specs.Finishes.{Tellers}
 use Rattle.run_rounds.proofs.BackLemmas.{first-fault, opened-alone, opened-back, opened-kept}
 
 module _ {M : Type 0} {g : _} (w : Media M) (most_ticks enough : ℕ) (plan : Plan) where

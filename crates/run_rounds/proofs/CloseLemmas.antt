@@ -1,11 +1,7 @@
 -- What the closing of a run's wire says, and what its calls ask.
-use Rattle.std.proofs.Common.{◌≡◌, ◌⊎◌, ◌<◌, ◌+◌, ◌++◌, ◌↔◌, ◌∙◌, ◌^◌, ℕ, Bool, true, IsTrue, List, [], ◌∷◌, Option, inl, inr, refl, ap, sym, subst, arith}
-use Rattle.std.specs.Prelude.{All}
-use Rattle.std.proofs.lemmas.List.Elements.{All-push}
-use Rattle.run_rounds.proofs.Names.{Asked, Plan, IsOfLanguage, View, Founding, LockTable, IsOneOf, CarriesOn, fresh, knows, Entry, Trace, Idle, fates_of, IsLegal, Origin, WireParts, owner_of, IsWirePass, Sight, owners_for, IsWhole, LeavesUntold, end_of, tick_count, NodeParts, Limits, Reason, Media, node_count, End, ClosedAs, HaveGone, IfRan, IfWanting, Pass}
+use Rattle.run_rounds.proofs.Names.{Asked, Plan, IsOfLanguage, View, Founding, LockTable, IsOneOf, CarriesOn, fresh, knows, Entry, Trace, Idle, fates_of, IsLegal, Origin, WireParts, owner_of, IsWirePass, Sight, owners_for, IsWhole, LeavesUntold, end_of, tick_count, NodeParts, Limits, Reason, Media, node_count, End, ClosedAs, HaveGone, IfRan, IfWanting, Pass, ◌≡◌, ◌⊎◌, ◌<◌, ◌+◌, ◌++◌, ◌↔◌, ◌∙◌, ◌^◌, ℕ, Bool, true, IsTrue, List, [], ◌∷◌, Option, inl, inr, refl, ap, sym, subst, arith, All, All-push, ToldFor}
 use Rattle.run_starts.specs.Reason.TheVariants as reason
 use Rattle.run_rounds.specs.declared.ends.End.TheVariants as end
-use Rattle.run_rounds.specs.Closings.{ToldFor}
 
 -- ---- what is told
 

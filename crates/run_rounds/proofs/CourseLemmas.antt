@@ -1,16 +1,7 @@
 -- How the nodes of shares have gone, told of them in one list.
-use Rattle.std.proofs.Common.{◌≡◌, ◌≤◌, ◌<◌, ℕ, Bool, IsTrue, List, [], ◌∷◌, ◌++◌, length, map, Option, Some, All, refl, ap, sym, subst, ◌∙◌, arith}
-use Rattle.std.specs.List.{AllZip}
-use Rattle.std.specs.declared.vec.Vec.{Vec}
-use Rattle.std.specs.declared.alloc.Global.{Global}
-use Rattle.std.proofs.lemmas.List.Elements.{All-append, All-cons, All-map, All-nil}
-use Rattle.std.proofs.lemmas.Slice.Zip.{AllZip-long}
 use Rattle.atomic_table.specs.declared.shared.Seat.{Seat}
-use Rattle.run_rounds.proofs.Names.{View, Founding, LockTable, knows, Entry, WireParts, IsWirePass, Sight, base_at, tick_count, NodeParts, IsAtRest, Limits, Reason, GoesOn, IsKeptThrough, IsUp, HasMemory, IsDone, IsLateAfter, TicksAreWanted, Media, HaveGone, ListEnds, Pass, IsDealt}
+use Rattle.run_rounds.proofs.Names.{View, Founding, LockTable, knows, Entry, WireParts, IsWirePass, Sight, base_at, tick_count, NodeParts, IsAtRest, Limits, Reason, GoesOn, IsKeptThrough, IsUp, HasMemory, IsDone, IsLateAfter, TicksAreWanted, Media, HaveGone, ListEnds, Pass, IsDealt, ◌≡◌, ◌≤◌, ◌<◌, ℕ, Bool, IsTrue, List, [], ◌∷◌, ◌++◌, length, map, Option, Some, All, refl, ap, sym, subst, ◌∙◌, arith, AllZip, Vec, Global, All-append, All-cons, All-map, All-nil, AllZip-long, EachNode, EachPlace, HasAllOf, HasPass, Shares, EndsFor, IsDown, dealt-along, each-listed, some-listed}
 use Rattle.run_starts.specs.Reason.TheVariants as reason
-use Rattle.run_starts.specs.Nodes.{EachNode, EachPlace, HasAllOf, HasPass, Shares}
-use Rattle.run_starts.specs.Reasons.{EndsFor, IsDown}
-use Rattle.run_starts.proofs.AlongLemmas.{dealt-along, each-listed, some-listed}
 
 module _ {M : Type 0} (W : ℕ) (pos : 0 < W) (nodes : List (NodeParts M)) (shares : List (Vec (NodeParts M) Global)) (d : IsDealt W nodes shares) (size : length shares ≡ W) where
   -- why the rounds ended

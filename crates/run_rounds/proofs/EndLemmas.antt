@@ -1,18 +1,6 @@
 -- What a node's own story says of the whole list of a run.
-use Rattle.std.proofs.Common.{◌≡◌, ◌≤◌, ◌+◌, ◌==◌, ◌∙◌, ◌++◌, ℕ, Bool, true, false, List, [], ◌∷◌, cond, length, length-append, map, inl, refl, ap, sym, subst, arith, if◌then◌else◌}
-use Rattle.std.specs.List.{list_any}
-use Rattle.std.proofs.lemmas.Bool.Decides.{nat_tests}
-use Rattle.std.proofs.lemmas.List.{length-map}
 use Rattle.std.proofs.lemmas.List.Sums.{sum_by-cons}
-use Rattle.run_rounds.proofs.Names.{Every, Has, NodeId, NodeKind, Repository, Broker, is_broker, same_node, same_is, same_node-refl, DownCause, CarriesOn, entries_of, Entry, Take, Go, Learn, Hear, Gate, Crash, Down, Tick, Trace, Base, is_down, names, own, walk, Plan, in_plan, is_within, most_of, Origin, base_from, owner_for, owner_of, Sight, IsOf, base_at, flags_at, life_at, end_of, tick_count, costs, is_over, is_done_at, life-whole, filter-has, in-range}
-use Rattle.pseudo_time.proofs.ListLemmas.{has-right}
-use Rattle.world_core.specs.Walks.{sent_by}
-use Rattle.world_core.specs.Legal.{post_of}
-use Rattle.world_core.proofs.Lives.{sent-grows}
-use Rattle.run_starts.specs.Boards.{owner_with}
-use Rattle.run_starts.specs.Sights.{Owns, world_at}
-use Rattle.run_starts.proofs.SightLemmas.{as-before}
-use Rattle.world_core.specs.Counts.{is_tick}
+use Rattle.run_rounds.proofs.Names.{Every, Has, NodeId, NodeKind, Repository, Broker, is_broker, same_node, same_is, same_node-refl, DownCause, CarriesOn, entries_of, Entry, Take, Go, Learn, Hear, Gate, Crash, Down, Tick, Trace, Base, is_down, names, own, walk, Plan, in_plan, is_within, most_of, Origin, base_from, owner_for, owner_of, Sight, IsOf, base_at, flags_at, life_at, end_of, tick_count, costs, is_over, is_done_at, life-whole, filter-has, in-range, ◌≡◌, ◌≤◌, ◌+◌, ◌==◌, ◌∙◌, ◌++◌, ℕ, Bool, true, false, List, [], ◌∷◌, cond, length, length-append, map, inl, refl, ap, sym, subst, arith, if◌then◌else◌, list_any, nat_tests, length-map, has-right, sent_by, post_of, sent-grows, owner_with, Owns, world_at, as-before, is_tick}
 use Rattle.run_rounds.proofs.ListLemmas.{any-has}
 
 -- ---- flags

@@ -1,11 +1,7 @@
 -- Nodes that went down: what the entries alone say of them.
-use Rattle.std.proofs.Common.{◌≡◌, ◌⊎◌, ◌∙◌, ◌++◌, ◌&&◌, Bool, true, false, List, [], ◌∷◌, Option, Some, None, is_some, if◌then◌else◌, inl, inr, refl, ap, sym, subst}
-use Rattle.std.proofs.lemmas.Option.{same_Some}
 use Rattle.std.proofs.lemmas.Bool.{and_from}
-use Rattle.run_rounds.proofs.Names.{Every, Has, NodeId, DownCause, same_node, same_is, same_node-refl, Entry, Take, Go, Learn, Hear, Gate, Crash, Down, Tick, Base, Flags, World, is_down, names, opened_log, step, walk_from, down_cause}
+use Rattle.run_rounds.proofs.Names.{Every, Has, NodeId, DownCause, same_node, same_is, same_node-refl, Entry, Take, Go, Learn, Hear, Gate, Crash, Down, Tick, Base, Flags, World, is_down, names, opened_log, step, walk_from, down_cause, ◌≡◌, ◌⊎◌, ◌∙◌, ◌++◌, ◌&&◌, Bool, true, false, List, [], ◌∷◌, Option, Some, None, is_some, if◌then◌else◌, inl, inr, refl, ap, sym, subst, same_Some, flagged, Meets, Rule}
 use Rattle.stream_port.specs.declared.fates.Fate.{Fate}
-use Rattle.world_core.specs.Walks.{flagged}
-use Rattle.world_core.specs.Legal.{Meets, Rule}
 use Rattle.kill_law.proofs.Steps.{step-known}
 
 -- ---- the first Down of a node

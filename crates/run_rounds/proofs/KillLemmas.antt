@@ -1,24 +1,8 @@
 -- What crashes leave of a node's medium at each place of a run.
-use Rattle.std.proofs.Common.{◌≡◌, ◌<◌, ◌+◌, ◌++◌, ◌∙◌, ℕ, suc, true, IsTrue, List, [], ◌∷◌, Option, Some, None, cond, length, map, slice_get, refl, ap, sym, subst, arith}
-use Rattle.std.specs.Prelude.{All}
-use Rattle.std.specs.List.{AllZip}
-use Rattle.std.specs.Option.{unwrap_or}
-use Rattle.std.specs.declared.vec.Vec.{Vec}
-use Rattle.std.specs.declared.alloc.Global.{Global}
-use Rattle.std.proofs.lemmas.List.{append-nil, length-map}
-use Rattle.std.proofs.lemmas.List.Elements.{filter-append}
-use Rattle.std.proofs.lemmas.Option.{same_Some}
-use Rattle.run_rounds.proofs.Names.{NodeId, Asked, Image, LeftNow, Goes, goes_nowhere, Effect, medium_of, Plan, View, Founding, LockTable, fresh, knows, reading, Entry, Trace, base_of, in_plan, Base, Life, names, opened_life, opened_log, own, walk, walk_from, WireParts, base_from, owner_for, Sight, base_at, life_at, IsKept, NodeParts, sight, Passes, cuts_of, kept-none, IsKeptThrough, HasMemory, Opening, Open, Shut, Wanting, Media, HasOpened, IsOpen, log_in, node_at, node_count, place_of, at-place, Along, IsNewNode, IsSetUp, fresh_for, zip-at, all-at, Pass, KeepsThroughout, SurvivesKills, Became, inner}
-use Rattle.medium_port.specs.Moment.{Stage}
+use Rattle.run_rounds.proofs.Names.{NodeId, Asked, Image, LeftNow, Goes, goes_nowhere, Effect, medium_of, Plan, View, Founding, LockTable, fresh, knows, reading, Entry, Trace, base_of, in_plan, Base, Life, names, opened_life, opened_log, own, walk, walk_from, WireParts, base_from, owner_for, Sight, base_at, life_at, IsKept, NodeParts, sight, Passes, cuts_of, kept-none, IsKeptThrough, HasMemory, Opening, Open, Shut, Wanting, Media, HasOpened, IsOpen, log_in, node_at, node_count, place_of, at-place, Along, IsNewNode, IsSetUp, fresh_for, zip-at, all-at, Pass, KeepsThroughout, SurvivesKills, Became, inner, ◌≡◌, ◌<◌, ◌+◌, ◌++◌, ◌∙◌, ℕ, suc, true, IsTrue, List, [], ◌∷◌, Option, Some, None, cond, length, map, slice_get, refl, ap, sym, subst, arith, All, AllZip, unwrap_or, Vec, Global, append-nil, length-map, filter-append, same_Some, Stage, lock_base, looked-of, IsNext, KeptAlong, Mark, PassesOn, entries_in, IsKeptNow, IsOpened, KeepsPlaces}
 use Rattle.version_store.specs.declared.stores.Store.{Store}
-use Rattle.seat_lock.specs.Words.{base_of as lock_base}
-use Rattle.run_starts.proofs.SightLemmas.{looked-of}
-use Rattle.run_starts.specs.Windows.{IsNext, KeptAlong, Mark, PassesOn, entries_in}
 use Rattle.run_starts.proofs.PhaseLemmas.{kept-on, passes-beside, passes-on}
 use Rattle.run_starts.proofs.WindowLemmas.{place-of}
-use Rattle.run_starts.specs.Nodes.{IsKeptNow}
-use Rattle.run_media.specs.Openings.{IsOpened}
-use Rattle.run_rounds.specs.Kills.{KeepsPlaces}
 use Rattle.run_rounds.proofs.ListLemmas.{along-at, along-unmapped, get-mapped}
 use Rattle.run_rounds.proofs.KnownLemmas.{HaveStood, Known, base}
 use Rattle.run_rounds.proofs.LogLemmas.{opened-at}

@@ -1,8 +1,5 @@
 -- What a run's closing leaves known of each node.
-use Rattle.std.proofs.Common.{◌≡◌, ◌≢◌, ◌∙◌, ◌++◌, ℕ, Bool, true, false, IsTrue, List, [], ◌∷◌, Option, Some, None, is_some, length, map, refl, ap, sym, subst}
-use Rattle.std.specs.Prelude.{All}
-use Rattle.run_rounds.proofs.Names.{Has, NodeId, DownCause, Asked, Plan, View, Founding, LockTable, CarriesOn, knows, reading, Entry, Down, Opened, Trace, Base, Flags, Life, opened_log, start_world, walk, base_of, in_plan, WasNotOpened, life_after, Origin, WireParts, base_from, owner_of, IsOf, IsWirePass, base_at, flags_at, life_at, pass-origin, down_cause, Condition, IsCause, NodeParts, Stands, sight, HasMemory, Opening, Media, node_count, Along, IsSetUp, Pass, life-whole}
-use Rattle.seat_lock.specs.Words.{base_of as lock_base}
+use Rattle.run_rounds.proofs.Names.{Has, NodeId, DownCause, Asked, Plan, View, Founding, LockTable, CarriesOn, knows, reading, Entry, Down, Opened, Trace, Base, Flags, Life, opened_log, start_world, walk, base_of, in_plan, WasNotOpened, life_after, Origin, WireParts, base_from, owner_of, IsOf, IsWirePass, base_at, flags_at, life_at, pass-origin, down_cause, Condition, IsCause, NodeParts, Stands, sight, HasMemory, Opening, Media, node_count, Along, IsSetUp, Pass, life-whole, ◌≡◌, ◌≢◌, ◌∙◌, ◌++◌, ℕ, Bool, true, false, IsTrue, List, [], ◌∷◌, Option, Some, None, is_some, length, map, refl, ap, sym, subst, All, lock_base}
 use Rattle.run_starts.specs.Condition.TheVariants as condition
 use Rattle.run_rounds.proofs.EndLemmas.{down-in, flags-whole}
 use Rattle.run_rounds.proofs.FlagLemmas.{down-ends, none-due, told-of}

@@ -1,9 +1,5 @@
 -- The logs of a run's trace are those of its media, before and after.
-use Rattle.std.proofs.Common.{◌≡◌, ◌∙◌, ℕ, true, IsTrue, List, [], length, Option, Some, None, Ok, ap, sym, subst}
-use Rattle.std.specs.Prelude.{All}
-use Rattle.std.proofs.lemmas.Option.{same_Some}
-use Rattle.run_rounds.proofs.Names.{NodeId, Image, Effect, storage, Plan, View, Founding, LockTable, Entry, Trace, in_plan, WasNotOpened, Life, opened_log, open_effects, WireParts, base_from, life_at, down_cause, IsKept, NodeParts, sight, HasMemory, Media, node_count, Along, Became, RestoresLogs, KeepsLog}
-use Rattle.run_rounds.specs.Media.{LeavesLife, WasHeld}
+use Rattle.run_rounds.proofs.Names.{NodeId, Image, Effect, storage, Plan, View, Founding, LockTable, Entry, Trace, in_plan, WasNotOpened, Life, opened_log, open_effects, WireParts, base_from, life_at, down_cause, IsKept, NodeParts, sight, HasMemory, Media, node_count, Along, Became, RestoresLogs, KeepsLog, ◌≡◌, ◌∙◌, ℕ, true, IsTrue, List, [], length, Option, Some, None, Ok, ap, sym, subst, All, same_Some, LeavesLife, WasHeld}
 use Rattle.run_rounds.proofs.SeenLemmas.{At, Seen, are-back, left, of-seen, seen}
 use Rattle.run_rounds.proofs.KnownLemmas.{HaveStood, Known, base, life-end, log-end, none-open, origin, was-opened}
 

@@ -1,8 +1,5 @@
 -- The passes of a run that begins, each in the place of its node.
-use Rattle.std.proofs.Common.{◌≡◌, ◌∙◌, ◌+◌, ℕ, zero, suc, List, [], ◌∷◌, length, map, Option, Some, slice_get, take, refl, ap, sym, subst, arith}
-use Rattle.std.proofs.lemmas.List.{length-map}
-use Rattle.std.proofs.Math.Seq.{take-length}
-use Rattle.run_rounds.proofs.Names.{NodeId, Effect, Asked, Plan, fresh, knows, Opened, opened_log, WireParts, owner_for, Sight, Opening, log_in, opened_from, node_at, log-at, Along, IsSetUp, IsUnseen, fresh_for, Pass}
+use Rattle.run_rounds.proofs.Names.{NodeId, Effect, Asked, Plan, fresh, knows, Opened, opened_log, WireParts, owner_for, Sight, Opening, log_in, opened_from, node_at, log-at, Along, IsSetUp, IsUnseen, fresh_for, Pass, ◌≡◌, ◌∙◌, ◌+◌, ℕ, zero, suc, List, [], ◌∷◌, length, map, Option, Some, slice_get, take, refl, ap, sym, subst, arith, length-map, take-length}
 
 first-same : {T : Type 0} {x y : T} {xs ys : List T} → x ∷ xs ≡ y ∷ ys → x ≡ y
 first-same e = cc

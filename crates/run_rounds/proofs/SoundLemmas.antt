@@ -1,10 +1,5 @@
 -- What was opened can be seated: what opening the run's nodes asks.
-use Rattle.std.proofs.Common.{◌≡◌, ◌≤◌, ◌<◌, ◌+◌, ◌∙◌, ℕ, suc, List, [], ◌∷◌, Option, Some, None, length, map, slice_get, refl, ap, sym, subst, arith}
-use Rattle.std.specs.Prelude.{All}
-use Rattle.std.specs.List.{AllZip}
-use Rattle.std.proofs.lemmas.List.Elements.{All-nil, All-cons, All-weaker}
-use Rattle.run_rounds.proofs.Names.{Asked, Plan, View, Founding, LockTable, fresh, knows, Entry, Opened, Origin, WireParts, owner_for, IsWirePass, Sight, NodeParts, IsReady, Opening, Open, Shut, Wanting, Media, AreReady, HasOpened, IsOpen, log_in, opened_from, node_at, Along, IsNewNode, IsSetUp, fresh_for, all-at, Pass}
-use Rattle.run_starts.specs.Seats.{CanOpen, CanSeat, IsSound}
+use Rattle.run_rounds.proofs.Names.{Asked, Plan, View, Founding, LockTable, fresh, knows, Entry, Opened, Origin, WireParts, owner_for, IsWirePass, Sight, NodeParts, IsReady, Opening, Open, Shut, Wanting, Media, AreReady, HasOpened, IsOpen, log_in, opened_from, node_at, Along, IsNewNode, IsSetUp, fresh_for, all-at, Pass, ◌≡◌, ◌≤◌, ◌<◌, ◌+◌, ◌∙◌, ℕ, suc, List, [], ◌∷◌, Option, Some, None, length, map, slice_get, refl, ap, sym, subst, arith, All, AllZip, All-nil, All-cons, All-weaker, CanOpen, CanSeat, IsSound}
 use Rattle.run_starts.proofs.SeatLemmas.{can-open}
 use Rattle.run_rounds.proofs.ListLemmas.{all-first, all-mapped, all-rest}
 use Rattle.run_rounds.proofs.PlaceLemmas.{fresh-along}

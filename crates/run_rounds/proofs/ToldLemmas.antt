@@ -1,11 +1,7 @@
 -- What the closing of a run's wire tells, of the plan that the run was set up for.
-use Rattle.std.proofs.Common.{◌≡◌, ◌∙◌, ℕ, true, IsTrue, List, length, Option, Some, refl, ap, sym, subst}
-use Rattle.run_rounds.proofs.Names.{NodeId, Effect, Asked, Plan, IsOfLanguage, reading, Opened, Trace, is_ready, opened_log, base_of, Origin, IsWhole, Opening, AreReady, node_count, IsSetUp, account_of, tellers, IsTold}
+use Rattle.run_rounds.proofs.Names.{NodeId, Effect, Asked, Plan, IsOfLanguage, reading, Opened, Trace, is_ready, opened_log, base_of, Origin, IsWhole, Opening, AreReady, node_count, IsSetUp, account_of, tellers, IsTold, ◌≡◌, ◌∙◌, ℕ, true, IsTrue, List, length, Option, Some, refl, ap, sym, subst, AllReady, JustNodes, IsRunOf, run-of}
 use Rattle.value_form.specs.declared.acts.ActSpec.{ActSpec}
-use Rattle.world_core.specs.Legal.{AllReady, JustNodes}
-use Rattle.run_starts.specs.Wires.{IsRunOf}
 use Rattle.run_starts.specs.Clocked.{IsClocked}
-use Rattle.run_starts.proofs.StartLemmas.{run-of}
 
 -- what is set up is so for what its wire began with
 pub set-up-own : {M : Type 0} {g : _} (plan : Plan) (os : List (Opening M g)) (asked : List Asked) (answers : Option (List ℕ)) (o : Origin) → IsSetUp plan os asked answers o → IsSetUp plan os o.asked o.answers o

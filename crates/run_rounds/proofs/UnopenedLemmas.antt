@@ -1,19 +1,10 @@
 -- A run of which a node couldn't be opened.
 use Rattle.std.proofs.Common.{◌≡◌, ◌≢◌, ◌≤◌, ◌<◌, ◌+◌, ◌⊎◌, inl, inr, ◌∙◌, ◌++◌, ℕ, zero, suc, Bool, true, false, IsTrue, List, [], ◌∷◌, length, map, Option, Some, None, Ok, Err, All, slice_get, take, refl, ap, sym, subst, arith, append-nil}
-use Rattle.std.specs.List.{AllZip}
-use Rattle.std.specs.Option.{option_map, unwrap_or}
-use Rattle.std.proofs.Math.Seq.{take-length}
-use Rattle.std.proofs.lemmas.Option.{slice_get-map, slice_get_within, same_Some}
-use Rattle.run_rounds.proofs.Names.{Every, Has, NodeId, DownCause, Asked, Rose, RoseBy, rose_by_none, Image, LeftNow, Goes, goes_nowhere, Effect, storage, Plan, IsOfLanguage, IsOneOf, entries_of, CarriesOn, fresh, knows, Entry, Down, Opened, Trace, Life, opened_life, opened_log, own, walk, base_of, in_plan, WasNotOpened, life_after, open_effects, reading, Origin, WireParts, owner_for, owner_of, Sight, owners_for, down_cause, IsIntact, costs, IsKept, kept-none, Reason, Opening, Open, Shut, Wanting, Media, Passes, cuts_of, AreReady, HasOpened, IsOpen, log_in, medium_in, opened_from, node_at, node_count, place_of, at-place, in-at, log-at, place-at, Along, HasFallen, IsSetUp, downs_of, zip-at, zip-back, End, Pass, ClosedAs, IfRan, EndsAs, account_of, tellers, KeepsThroughout, SurvivesKills, AreCounted, Became, HaveCauses, KeepsLog, RestoresLogs, inner, medium_at, Ran}
+use Rattle.run_rounds.proofs.Names.{Every, Has, NodeId, DownCause, Asked, Rose, RoseBy, rose_by_none, Image, LeftNow, Goes, goes_nowhere, Effect, storage, Plan, IsOfLanguage, IsOneOf, entries_of, CarriesOn, fresh, knows, Entry, Down, Opened, Trace, Life, opened_life, opened_log, own, walk, base_of, in_plan, WasNotOpened, life_after, open_effects, reading, Origin, WireParts, owner_for, owner_of, Sight, owners_for, down_cause, IsIntact, costs, IsKept, kept-none, Reason, Opening, Open, Shut, Wanting, Media, Passes, cuts_of, AreReady, HasOpened, IsOpen, log_in, medium_in, opened_from, node_at, node_count, place_of, at-place, in-at, log-at, place-at, Along, HasFallen, IsSetUp, downs_of, zip-at, zip-back, End, Pass, ClosedAs, IfRan, EndsAs, account_of, tellers, KeepsThroughout, SurvivesKills, AreCounted, Became, HaveCauses, KeepsLog, RestoresLogs, inner, medium_at, Ran, AllZip, option_map, unwrap_or, take-length, slice_get-map, slice_get_within, same_Some, Known, IsAsItWas, IsShutFor, one-place, some-within, all-front, all-last}
 use Rattle.pseudo_time.specs.declared.down_causes.DownCause.TheVariants as down
-use Rattle.seat_lock.specs.Words.{Known}
 use Rattle.run_starts.proofs.TurnPageLemmas.{whole-same}
 use Rattle.run_starts.proofs.StepLemmas.{passes-between}
 use Rattle.run_starts.specs.Reason.TheVariants as reason
-use Rattle.run_media.specs.Openings.{IsAsItWas, IsShutFor}
-use Rattle.run_media.proofs.OrderLemmas.{one-place}
-use Rattle.run_starts.proofs.DealLemmas.{some-within}
-use Rattle.run_starts.proofs.StartLemmas.{all-front, all-last}
 use Rattle.run_rounds.specs.declared.ends.End.TheVariants as end
 use Rattle.run_rounds.specs.Ends.{IsUnopened}
 use Rattle.run_rounds.proofs.BackLemmas.{opened-alone, opened-back, opened-in-range, opened-kept, ready-at}

@@ -1,13 +1,6 @@
 -- What becomes of a list while its shares go on.
-use Rattle.std.proofs.Common.{◌≡◌, ◌<◌, ◌+◌, ◌*◌, ◌/◌, ◌%◌, ℕ, zero, suc, List, [], ◌∷◌, ◌++◌, length, Option, Some, None, slice_get, slice_index_or, take, All, Any, refl, ap, sym, ◌∙◌, subst, arith}
-use Rattle.std.specs.List.{AllZip}
-use Rattle.std.proofs.Math.Nat.{mod-lt, mod-eq_of_lt, mul-add-mod_self_right}
+use Rattle.run_starts.proofs.Names.{◌≡◌, ◌<◌, ◌+◌, ◌*◌, ◌/◌, ◌%◌, ℕ, zero, suc, List, [], ◌∷◌, ◌++◌, length, Option, Some, None, slice_get, slice_index_or, take, All, Any, refl, ap, sym, ◌∙◌, subst, arith, AllZip, mod-lt, mod-eq_of_lt, mul-add-mod_self_right, slice_get-get_or, slice_get_within, get_or_from_slice_get, same_Some, take_more, length-take-le, Vec, IsDealt, Along}
 use Rattle.std.proofs.lemmas.Nat.{div-mul-add}
-use Rattle.std.proofs.lemmas.Option.{slice_get-get_or, slice_get_within, get_or_from_slice_get, same_Some}
-use Rattle.std.proofs.lemmas.List.{take_more, length-take-le}
-use Rattle.std.specs.declared.vec.Vec.{Vec}
-use Rattle.run_starts.specs.Deals.{IsDealt}
-use Rattle.run_starts.specs.Seats.{Along}
 use Rattle.run_starts.proofs.DealLemmas.{all-at, some-within}
 
 -- ---- lists beside each other

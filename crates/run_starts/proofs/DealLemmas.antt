@@ -1,14 +1,7 @@
 -- A list that is dealt to shares, with one element more or one fewer.
-use Rattle.std.proofs.Common.{◌≡◌, ◌≢◌, ◌≤◌, ◌<◌, ◌+◌, ◌*◌, ◌/◌, ◌%◌, ◌⊎◌, inl, inr, ◌-◌, ℕ, zero, suc, Bool, true, false, ◌==◌, List, [], ◌∷◌, ◌++◌, length, Some, None, slice_get, slice_set, slice_index_or, All, refl, ap, sym, ◌∙◌, subst, arith}
+use Rattle.run_starts.proofs.Names.{◌≡◌, ◌≢◌, ◌≤◌, ◌<◌, ◌+◌, ◌*◌, ◌/◌, ◌%◌, ◌⊎◌, inl, inr, ◌-◌, ℕ, zero, suc, Bool, true, false, ◌==◌, List, [], ◌∷◌, ◌++◌, length, Some, None, slice_get, slice_set, slice_index_or, All, refl, ap, sym, ◌∙◌, subst, arith, nat_tests, div-add-mod, mod-lt, mod-eq_of_lt, lt_of_mul-lt-mul_left, add-mul-div_right, mul-le-mul_left, add-mul-mod_self_right, length_push, slice_get_past, slice_get_within, slice_get_read, get_or_from_slice_get, same_Some, All-get_or, Vec, IsDealt, HaveRoom}
 use Rattle.std.proofs.lemmas.Bool.{cases_lt}
-use Rattle.std.proofs.lemmas.Bool.Decides.{nat_tests}
-use Rattle.std.proofs.Math.Nat.{div-add-mod, mod-lt, mod-eq_of_lt, lt_of_mul-lt-mul_left, add-mul-div_right, mul-le-mul_left, add-mul-mod_self_right}
-use Rattle.std.proofs.lemmas.List.{length_push}
 use Rattle.std.specs.Vec.{vec_len, vec_capacity}
-use Rattle.std.proofs.lemmas.Option.{slice_get_past, slice_get_within, slice_get_read, get_or_from_slice_get, same_Some}
-use Rattle.std.proofs.lemmas.List.Elements.{All-get_or}
-use Rattle.std.specs.declared.vec.Vec.{Vec}
-use Rattle.run_starts.specs.Deals.{IsDealt, HaveRoom}
 
 -- ---- lists
 

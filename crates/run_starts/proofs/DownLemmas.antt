@@ -1,22 +1,11 @@
 -- Passes that have seen nothing, and the Downs of nodes that can't be opened.
-use Rattle.std.proofs.Common.{◌≡◌, Bool, true, false, List, [], ◌∷◌, ◌++◌, Option, Some, is_some, Result, Ok, Err, is_err, OnOk, ap, sym, ◌∙◌, subst}
+use Rattle.run_starts.proofs.Names.{◌≡◌, Bool, true, false, List, [], ◌∷◌, ◌++◌, Option, Some, is_some, Result, Ok, Err, is_err, OnOk, ap, sym, ◌∙◌, subst, fresh, knows, NodeId, Effect, opened_log, walk_from, WireParts, owner_for, Sight, HadNothing, Falls, flags_at, Opening, Shut, log_in, IsUnseen, HasFallen, downs_of}
 use Rattle.std.specs.Option.{unwrap_or}
 use Rattle.atomic_table.specs.declared.shared.Seat.{Seat}
 use Rattle.seat_lock.specs.declared.views.View.{View}
-use Rattle.seat_lock.specs.Words.{fresh, knows}
-use Rattle.pseudo_time.specs.declared.nodes.NodeId.{NodeId}
 use Rattle.pseudo_time.specs.declared.down_causes.DownCause.{DownCause}
-use Rattle.effect_form.specs.declared.effects.Effect.{Effect}
 use Rattle.world_core.specs.declared.entries.Entry.{Entry}
 use Rattle.world_core.specs.declared.entries.Entry.TheVariants.{Down}
-use Rattle.world_core.specs.Walks.{opened_log, walk_from}
-use Rattle.node_rounds.specs.Wires.{WireParts}
-use Rattle.node_rounds.specs.Boards.{owner_for}
-use Rattle.node_rounds.specs.Sights.{Sight, HadNothing, Falls, flags_at}
-use Rattle.run_media.specs.declared.openings.Opening.{Opening}
-use Rattle.run_media.specs.declared.openings.Opening.TheVariants.{Shut}
-use Rattle.run_media.specs.Openings.{log_in}
-use Rattle.run_starts.specs.Starts.{IsUnseen, HasFallen, downs_of}
 
 pub not-err : {T E : Type 0} (r : Result T E) (P : Type 0) → is_err r ≡ false → OnOk r P → P
 not-err (Ok v) P e h = h

@@ -11,3 +11,4 @@ pub use Rattle.node_rounds.proofs.TrailLemmas
 pub use Rattle.node_rounds.proofs.TurnPageLemmas
 pub use Rattle.node_rounds.proofs.WantedLemmas
 pub use Rattle.node_rounds.proofs.WindowLemmas
+pub mod Names

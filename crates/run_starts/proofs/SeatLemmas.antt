@@ -1,38 +1,14 @@
 -- What opening a node asks, by what is known of its place.
-use Rattle.std.proofs.Common.{◌≡◌, ◌≤◌, ◌+◌, ◌^◌, ℕ, slice_get, zero, suc, true, List, [], ◌∷◌, ◌++◌, map, Option, Some, refl, ap, sym, subst, ◌∙◌, arith}
-use Rattle.std.proofs.lemmas.List.{map-append}
-use Rattle.pseudo_time.specs.declared.nodes.NodeId.{NodeId}
+use Rattle.run_starts.proofs.Names.{◌≡◌, ◌≤◌, ◌+◌, ◌^◌, ℕ, slice_get, zero, suc, true, List, [], ◌∷◌, ◌++◌, map, Option, Some, refl, ap, sym, subst, ◌∙◌, arith, map-append, NodeId, Vec, same_Some, Effect, Asked, Plan, IsOfLanguage, reading, Scripted, fresh, acts_of, is_ready, opened_log, WireParts, owner_for, Sight, IsOf, origin_at, base_at, NodeParts, Opening, Open, Shut, Wanting, IsReadyFor, AreReady, opened_from, log_in, medium_in, node_at, log-at, Along, CanOpen, IsSound, IsNewNode, IsSetUp}
 use Rattle.pseudo_time.specs.declared.nodes.NodeKind.{NodeKind}
 use Rattle.value_form.specs.declared.acts.ActSpec.{ActSpec}
-use Rattle.std.specs.declared.vec.Vec.{Vec}
 use Rattle.std.specs.declared.alloc.Global.{Global}
-use Rattle.std.proofs.lemmas.Option.{same_Some}
-use Rattle.effect_form.specs.declared.effects.Effect.{Effect}
 use Rattle.version_store.specs.declared.stores.Store.{Store}
-use Rattle.stream_port.specs.declared.fates.Asked.{Asked}
-use Rattle.plan_form.specs.declared.plans.Plan.{Plan}
-use Rattle.plan_form.specs.PlanTexts.{IsOfLanguage}
 use Rattle.broker_core.specs.Ledgers.{AreBrokerActs}
-use Rattle.broker_core.specs.Readings.{reading}
-use Rattle.broker_core.specs.Tasks.{Scripted}
-use Rattle.seat_lock.specs.Words.{fresh}
-use Rattle.world_core.specs.Nodes.{acts_of, is_ready}
-use Rattle.world_core.specs.Walks.{opened_log}
 use Rattle.world_core.proofs.PlanRangeLemmas.{plan-own_acts}
-use Rattle.node_rounds.specs.Wires.{WireParts}
-use Rattle.node_rounds.specs.Boards.{owner_for}
-use Rattle.node_rounds.specs.Sights.{Sight, IsOf, origin_at, base_at}
 use Rattle.node_rounds.specs.Cores.{IsReady}
-use Rattle.node_rounds.specs.TurnNodes.{NodeParts}
-use Rattle.run_media.specs.declared.openings.Opening.{Opening}
-use Rattle.run_media.specs.declared.openings.Opening.TheVariants.{Open, Shut, Wanting}
 use Rattle.run_media.specs.Media.{Media}
-use Rattle.run_media.specs.Openings.{IsReadyFor, AreReady, opened_from, log_in, medium_in}
-use Rattle.run_media.specs.Places.{node_at}
 use Rattle.run_media.proofs.OpeningLemmas.{reads-own}
-use Rattle.run_media.proofs.OrderLemmas.{log-at}
-use Rattle.run_starts.specs.Seats.{Along, CanOpen, IsSound, IsNewNode}
-use Rattle.run_starts.specs.Starts.{IsSetUp}
 
 -- one more of both
 pub map-pushed : {A B : Type 0} (f : A → B) (new done : List B) (all front : List A) (last : A) (y : B) → new ≡ done ++ y ∷ [] → done ≡ map f front → all ≡ front ++ last ∷ [] → y ≡ f last → new ≡ map f all

@@ -1,34 +1,10 @@
 -- The passes of a run's nodes, and its wire.
-use Rattle.std.proofs.Common.{◌≡◌, ◌≢◌, ◌≤◌, ◌<◌, ◌+◌, ◌-◌, nat_lt, ℕ, suc, Bool, true, false, List, [], ◌∷◌, ◌++◌, length, map, Option, Some, refl, ap, sym, subst, ◌∙◌, arith, if◌then◌else◌, All, slice_index_or}
-use Rattle.std.specs.List.{AllPairs}
-use Rattle.std.proofs.lemmas.Bool.Decides.{nat_tests}
-use Rattle.std.proofs.lemmas.List.{map-append, same_from_push, get_or_append_left, get_or_push, length_push}
-use Rattle.std.proofs.lemmas.List.Elements.{All-cons, All-nil, All-push}
+use Rattle.run_starts.proofs.Names.{◌≡◌, ◌≢◌, ◌≤◌, ◌<◌, ◌+◌, ◌-◌, nat_lt, ℕ, suc, Bool, true, false, List, [], ◌∷◌, ◌++◌, length, map, Option, Some, refl, ap, sym, subst, ◌∙◌, arith, if◌then◌else◌, All, slice_index_or, AllPairs, nat_tests, map-append, same_from_push, get_or_append_left, get_or_push, length_push, All-cons, All-nil, All-push, same_Some, NodeId, Effect, Asked, Plan, IsOfLanguage, reading, fresh, Opened, is_ready, opened_log, Scripted, Origin, WireParts, IsRunOf, owner_for, Sight, owners_for, Opening, opened_from, log_in, AreReady, node_count, node_at, just-nodes, IsSetUp, fresh_for}
 use Rattle.std.proofs.lemmas.List.Kept.{AllPairs-cons}
-use Rattle.std.proofs.lemmas.Option.{same_Some}
-use Rattle.pseudo_time.specs.declared.nodes.NodeId.{NodeId}
 use Rattle.pseudo_time.specs.Nodes.{repository, broker, same_node}
-use Rattle.effect_form.specs.declared.effects.Effect.{Effect}
 use Rattle.message_core.proofs.NodeLemmas.{same_is}
-use Rattle.stream_port.specs.declared.fates.Asked.{Asked}
-use Rattle.plan_form.specs.declared.plans.Plan.{Plan}
-use Rattle.plan_form.specs.PlanTexts.{IsOfLanguage}
-use Rattle.broker_core.specs.Readings.{reading}
-use Rattle.seat_lock.specs.Words.{fresh}
-use Rattle.world_core.specs.declared.traces.Opened.{Opened}
-use Rattle.world_core.specs.Nodes.{is_ready}
-use Rattle.world_core.specs.Walks.{opened_log}
 use Rattle.world_core.specs.Legal.{JustNodes}
 use Rattle.world_core.proofs.OneReading.{own-reading}
-use Rattle.broker_core.specs.Tasks.{Scripted}
-use Rattle.node_rounds.specs.Wires.{Origin, WireParts, IsRunOf}
-use Rattle.node_rounds.specs.Boards.{owner_for}
-use Rattle.node_rounds.specs.Sights.{Sight, owners_for}
-use Rattle.run_media.specs.declared.openings.Opening.{Opening}
-use Rattle.run_media.specs.Openings.{opened_from, log_in, AreReady}
-use Rattle.run_media.specs.Places.{node_count, node_at}
-use Rattle.run_media.proofs.OrderLemmas.{just-nodes}
-use Rattle.run_starts.specs.Starts.{IsSetUp, fresh_for}
 
 -- ---- owners
 

@@ -1,20 +1,12 @@
 -- Volumes that are taken one after another, and handed back under their names.
-use Rattle.std.proofs.Common.{◌≡◌, ◌≢◌, ◌↔◌, ◌⊎◌, ◌≤◌, ◌<◌, ◌+◌, ◌==◌, inl, inr, ℕ, zero, suc, Bool, true, false, cond, IsTrue, List, [], ◌∷◌, ◌++◌, length, length-append, append-nil, append_assoc, Option, Some, None, slice_get, refl, ap, sym, subst, ◌∙◌, arith}
-use Rattle.std.specs.List.{AllZip, count_by}
-use Rattle.pseudo_time.specs.Lists.{Has}
-use Rattle.std.proofs.lemmas.Bool.Decides.{nat_tests}
+use Rattle.run_volumes.proofs.Names.{◌≡◌, ◌≢◌, ◌↔◌, ◌⊎◌, ◌≤◌, ◌<◌, ◌+◌, ◌==◌, inl, inr, ℕ, zero, suc, Bool, true, false, cond, IsTrue, List, [], ◌∷◌, ◌++◌, length, length-append, append-nil, append_assoc, Option, Some, None, slice_get, refl, ap, sym, subst, ◌∙◌, arith, AllZip, count_by, Has, nat_tests, NodeId, NodeKind, Repository, Broker, AreBack, IsBack, IsUsable, Media, ShelfSight, IsLeft, IsGiven, IsTaken, TakesOne, WereTaken, first_names, is_missing, volume_name}
 use Rattle.std.proofs.lemmas.List.Sums.{sum_by-append}
-use Rattle.pseudo_time.specs.declared.nodes.NodeId.{NodeId}
-use Rattle.pseudo_time.specs.declared.nodes.NodeKind.{NodeKind}
-use Rattle.pseudo_time.specs.declared.nodes.NodeKind.TheVariants.{Repository, Broker}
 use Rattle.stream_port.specs.Causes.{Rose, RoseBy, rises_add, rose_by_none}
 use Rattle.medium_port.specs.Image.{Image}
 use Rattle.medium_port.specs.Names.{IsJustSo}
 use Rattle.medium_port.specs.declared.shelves.MediumName.{MediumName}
-use Rattle.run_media.specs.Media.{AreBack, IsBack, IsUsable, Media}
 use Rattle.run_volumes.specs.declared.kept.Kept.{Kept}
 use Rattle.run_volumes.specs.Kept.{AllKept, kept_as, kept_under, node_of}
-use Rattle.run_volumes.specs.Shelves.{ShelfSight, IsLeft, IsGiven, IsTaken, TakesOne, WereTaken, first_names, is_missing, volume_name}
 
 -- ---- names
 

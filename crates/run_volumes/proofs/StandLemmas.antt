@@ -1,16 +1,8 @@
 -- How a node's volumes stand, and what is left of those that aren't written to.
-use Rattle.std.proofs.Common.{◌≡◌, ◌<◌, ℕ, zero, suc, List, [], ◌∷◌, ◌++◌, length, map, take, drop, slice_index_or, refl, ap, sym, subst, arith, Option, Some, None}
-use Rattle.std.specs.List.{AllZip}
-use Rattle.pseudo_time.specs.Lists.{Every}
+use Rattle.run_volumes.proofs.Names.{◌≡◌, ◌<◌, ℕ, zero, suc, List, [], ◌∷◌, ◌++◌, length, map, take, drop, slice_index_or, refl, ap, sym, subst, arith, Option, Some, None, AllZip, Every, Opening, Open, Shut, Wanting, AreBack, IsBack, Media, HasOpened, log_in, medium_in, current, log_at, node_log, logs_of}
 use Rattle.pseudo_time.specs.declared.down_causes.DownCause.{DownCause}
 use Rattle.effect_form.specs.Effects.{AreEffects}
-use Rattle.run_media.specs.declared.openings.Opening.{Opening}
-use Rattle.run_media.specs.declared.openings.Opening.TheVariants.{Open, Shut, Wanting}
-use Rattle.run_media.specs.Media.{AreBack, IsBack, Media}
-use Rattle.run_media.specs.Openings.{HasOpened, log_in, medium_in}
 use Rattle.run_volumes.specs.Standings.{HasShut, KeepsIts, Stands, WritesNothing}
-use Rattle.forward_copy.specs.Currents.{current, log_at, node_log}
-use Rattle.run_volumes.specs.Volumes.{logs_of}
 
 module _ {M : Type 0} (w : Media M) {g : _} where
   -- each volume that was opened holds its log

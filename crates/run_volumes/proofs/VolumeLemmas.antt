@@ -1,19 +1,7 @@
 -- Volumes that are opened one after another.
-use Rattle.std.proofs.Common.{◌≡◌, ◌≤◌, ◌<◌, ◌+◌, ℕ, zero, suc, Bool, true, false, ◌==◌, ◌&&◌, ◌||◌, not, nat_lt, if◌then◌else◌, List, [], ◌∷◌, ◌++◌, length, length-append, refl, ap, sym, subst, ◌∙◌, arith, slice_index_or, Option, Some, None, ◌⊎◌, inl, inr}
-use Rattle.std.specs.List.{AllZip}
+use Rattle.run_volumes.proofs.Names.{◌≡◌, ◌≤◌, ◌<◌, ◌+◌, ℕ, zero, suc, Bool, true, false, ◌==◌, ◌&&◌, ◌||◌, not, nat_lt, if◌then◌else◌, List, [], ◌∷◌, ◌++◌, length, length-append, refl, ap, sym, subst, ◌∙◌, arith, slice_index_or, Option, Some, None, ◌⊎◌, inl, inr, AllZip, nat_tests, NodeId, NodeKind, Repository, Broker, Opening, Open, Shut, Wanting, Media, HasOpened, log_in, ShelfSight, TakesOne, WereTaken, first_names, volume_name, log_at, AreVolumes, EndRightly, GoOn, fresh_from, goes_on, is_empty_log, logs_of}
 use Rattle.std.proofs.lemmas.Bool.{true≢false, false≢true}
-use Rattle.std.proofs.lemmas.Bool.Decides.{nat_tests}
-use Rattle.pseudo_time.specs.declared.nodes.NodeId.{NodeId}
-use Rattle.pseudo_time.specs.declared.nodes.NodeKind.{NodeKind}
-use Rattle.pseudo_time.specs.declared.nodes.NodeKind.TheVariants.{Repository, Broker}
 use Rattle.effect_form.specs.declared.effects.Effect.{Effect}
-use Rattle.run_media.specs.declared.openings.Opening.{Opening}
-use Rattle.run_media.specs.declared.openings.Opening.TheVariants.{Open, Shut, Wanting}
-use Rattle.run_media.specs.Media.{Media}
-use Rattle.run_media.specs.Openings.{HasOpened, log_in}
-use Rattle.run_volumes.specs.Shelves.{ShelfSight, TakesOne, WereTaken, first_names, volume_name}
-use Rattle.forward_copy.specs.Currents.{log_at}
-use Rattle.run_volumes.specs.Volumes.{AreVolumes, EndRightly, GoOn, fresh_from, goes_on, is_empty_log, logs_of}
 use Rattle.run_volumes.proofs.ShelfLemmas.{taken-more, taken-none}
 
 -- ---- no volume follows behind volume 999

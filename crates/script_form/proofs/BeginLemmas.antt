@@ -1,23 +1,9 @@
 -- Rows that can be fed begin a script, and only these.
-use Rattle.std.proofs.Common.{◌≡◌, ℕ, zero, suc, ◌<◌, ◌≤◌, max, Bool, true, false, List, [], ◌∷◌, ◌++◌, length, Some, None, Result, Ok, Err, refl, sym, ap, ◌∙◌, subst, arith, append_assoc, append-nil}
-use Rattle.std.specs.Prelude.{option_and_then}
-use Rattle.value_form.specs.declared.scripts.Stmt.{Stmt}
-use Rattle.value_form.specs.Mirror.{Block, block}
-use Rattle.value_form.specs.MirrorLaws.{made_all}
-use Rattle.script_form.specs.declared.flats.Flat.{Flat}
+use Rattle.script_form.proofs.Names.{◌≡◌, ℕ, zero, suc, ◌<◌, ◌≤◌, max, Bool, true, false, List, [], ◌∷◌, ◌++◌, length, Some, None, Result, Ok, Err, refl, sym, ap, ◌∙◌, subst, arith, append_assoc, append-nil, option_and_then, Stmt, Block, block, made_all, Flat, Level, Building, Numbered, on, rows, block_depth, row_of, Begins, BeginsShallow, at, rows_so_far, whole, opens, feed, Feeds, Fed, IsErr, IsErrAnd, row_feed, feeds, open_by, open_after, peak}
 use Rattle.script_form.specs.declared.flats.Flat.TheVariants as f
-use Rattle.script_form.specs.declared.levels.Level.{Level}
-use Rattle.script_form.specs.declared.buildings.Building.{Building}
 use Rattle.script_form.specs.Row as r
-use Rattle.script_form.specs.Rows.{Numbered, on, rows, block_depth}
-use Rattle.script_form.specs.Flats.{row_of}
-use Rattle.script_form.specs.Begins.{Begins, BeginsShallow}
-use Rattle.script_form.specs.Building.{at, rows_so_far, whole, opens, feed, Feeds}
-use Rattle.script_form.specs.Fed.{Fed}
 use Rattle.script_form.specs.declared.block_faults.BlockFault.{BlockFault}
 use Rattle.script_form.specs.declared.block_faults.BlockFault.TheVariants as fault
-use Rattle.std.specs.Result.{IsErr, IsErrAnd}
-use Rattle.script_form.specs.RowFeeds.{row_feed, feeds, open_by, open_after, peak}
 use Rattle.script_form.specs.Sound.{IsSound}
 use Rattle.script_form.proofs.BlockLemmas.{made_flat-row, feeds-rows, feeds-so_far, fed_rows}
 use Rattle.script_form.proofs.PeakLemmas.{open_le-peak, open_after-append, peak-append, open_after-rows, block_depth-peak, open_after-so_far}

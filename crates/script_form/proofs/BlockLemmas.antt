@@ -1,26 +1,12 @@
 -- A script is built from its rows, and from no others.
-use Rattle.std.proofs.Common.{◌≡◌, ℕ, List, [], ◌∷◌, ◌++◌, Option, Some, None, refl, sym, ap, ◌∙◌, subst, append_assoc, append-nil}
-use Rattle.std.specs.Prelude.{unwrap_or}
-use Rattle.value_form.specs.declared.scripts.Target.{Target}
+use Rattle.script_form.proofs.Names.{◌≡◌, ℕ, List, [], ◌∷◌, ◌++◌, Option, Some, None, refl, sym, ap, ◌∙◌, subst, append_assoc, append-nil, unwrap_or, Target, Stmt, Spot, Fixed, At, Step, Let, Read, Write, Print, If, IfElse, Repeat, Withdraw, Block, End, Then, term, spot, plain, block, step_layer, made, made_place, made_step, made_all, made-term, term-made, made-block, block-made, plain-if, plain-if_else, plain-repeat, Flat, Opening, Level, Building, Row, Numbered, on, step_rows, rows, row_of, at, opening_rows, stack_rows, rows_so_far, added, opened, other_in, other_at, whole, shut_at, feed, made_flat, feeds}
 use Rattle.value_form.specs.declared.scripts.Target.TheVariants as p
-use Rattle.value_form.specs.declared.scripts.Stmt.{Stmt}
 use Rattle.value_form.specs.declared.scripts.Stmt.TheVariants as s
 use Rattle.value_form.specs.declared.scripts.Stmt.TheOpen.{Stmt-F}
 use Rattle.value_form.specs.declared.scripts.Stmt.TheFolds.{fold-roll-Stmt}
-use Rattle.value_form.specs.Mirror.{Spot, Fixed, At, Step, Let, Read, Write, Print, If, IfElse, Repeat, Withdraw, Block, End, Then, term, spot, plain, block, step_layer}
-use Rattle.value_form.specs.MirrorLaws.{made, made_place, made_step, made_all, made-term, term-made, made-block, block-made, plain-if, plain-if_else, plain-repeat}
-use Rattle.script_form.specs.declared.flats.Flat.{Flat}
 use Rattle.script_form.specs.declared.flats.Flat.TheVariants as f
-use Rattle.script_form.specs.declared.levels.Opening.{Opening}
 use Rattle.script_form.specs.declared.levels.Opening.TheVariants as o
-use Rattle.script_form.specs.declared.levels.Level.{Level}
-use Rattle.script_form.specs.declared.buildings.Building.{Building}
-use Rattle.script_form.specs.Row.{Row}
 use Rattle.script_form.specs.Row as r
-use Rattle.script_form.specs.Rows.{Numbered, on, step_rows, rows}
-use Rattle.script_form.specs.Flats.{row_of}
-use Rattle.script_form.specs.Building.{at, opening_rows, stack_rows, rows_so_far, added, opened, other_in, other_at, whole, shut_at, feed}
-use Rattle.script_form.specs.RowFeeds.{made_flat, feeds}
 
 -- ---- a row and its parsed line are the same
 

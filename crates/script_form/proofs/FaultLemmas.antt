@@ -1,18 +1,5 @@
 -- Lines that begin a script, and why a fault says that they begin none.
-use Rattle.std.proofs.Common.{◌≡◌, ℕ, ◌+◌, ◌<◌, ◌≤◌, inl, inr, true, false, List, [], ◌∷◌, ◌++◌, length, take, drop, refl, sym, ap, ◌∙◌, subst, arith, append_assoc, append-nil}
-use Rattle.std.proofs.lemmas.List.{length-append, take-append-le, take-append-drop}
-use Rattle.std.proofs.Math.Seq.{take-append_seam}
-use Rattle.token_form.specs.Tokens.{in_range}
-use Rattle.token_form.proofs.LineLaws.{one_list}
-use Rattle.value_form.specs.Mirror.{Block}
-use Rattle.script_form.specs.RowTokens.{SpellsRow}
-use Rattle.script_form.specs.Row.{Row}
-use Rattle.script_form.specs.Rows.{Numbered, on, rows, row_depth}
-use Rattle.script_form.specs.Begins.{Begins, BeginsShallow}
-use Rattle.script_form.specs.RowTexts.{line_text, row_text, rows_text}
-use Rattle.script_form.specs.Lines.{is_blank}
-use Rattle.script_form.specs.Scripts.{LineRow, LinesRows, ShallowRows, IsSmall, IsScriptLines, BeginScript, LineFault, FaultAt, FaultBehind, with_row}
-use Rattle.script_form.specs.declared.parse_faults.ParseKind.{ParseKind}
+use Rattle.script_form.proofs.Names.{◌≡◌, ℕ, ◌+◌, ◌<◌, ◌≤◌, inl, inr, true, false, List, [], ◌∷◌, ◌++◌, length, take, drop, refl, sym, ap, ◌∙◌, subst, arith, append_assoc, append-nil, length-append, take-append-le, take-append-drop, take-append_seam, in_range, one_list, Block, SpellsRow, Row, Numbered, on, rows, row_depth, Begins, BeginsShallow, line_text, row_text, rows_text, is_blank, LineRow, LinesRows, ShallowRows, IsSmall, IsScriptLines, BeginScript, LineFault, FaultAt, FaultBehind, with_row, ParseKind}
 use Rattle.script_form.specs.declared.parse_faults.ParseKind.TheVariants as kind
 use Rattle.script_form.proofs.PrintLemmas.{same_row, same_rows}
 use Rattle.script_form.proofs.RowLemmas.{same_line}

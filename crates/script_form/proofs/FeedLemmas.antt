@@ -1,29 +1,10 @@
 -- What a line does to a reader, by what was read in it.
-use Rattle.std.proofs.Common.{◌≡◌, ℕ, ◌+◌, ◌-◌, ◌<◌, ◌≤◌, inl, inr, List, [], ◌∷◌, ◌++◌, length, true, false, Option, Some, None, refl, sym, ap, ◌∙◌, subst, arith}
-use Rattle.std.specs.Prelude.{Result, Ok, Err, SomeIff}
-use Rattle.std.proofs.lemmas.Bool.{cases_lt}
-use Rattle.script_form.specs.declared.buildings.Building.{Building}
-use Rattle.script_form.specs.Row.{Row}
+use Rattle.script_form.proofs.Names.{◌≡◌, ℕ, ◌+◌, ◌-◌, ◌<◌, ◌≤◌, inl, inr, List, [], ◌∷◌, ◌++◌, length, true, false, Option, Some, None, refl, sym, ap, ◌∙◌, subst, arith, Result, Ok, Err, SomeIff, cases_lt, Building, Row, Numbered, on, row_depth, Begins, BeginsShallow, row_text, rows_so_far, made_flat, is_blank, ReadsLine, fault_of, LineRow, LineFault, HoldsLines, FeedsLine, Passes, Places, ScriptReader, ParseFault, Holds, ParseKind, RowFault, Kind, NoMemory}
 use Rattle.script_form.specs.Row as r
-use Rattle.script_form.specs.Rows.{Numbered, on, row_depth}
-use Rattle.script_form.specs.Begins.{Begins, BeginsShallow}
-use Rattle.script_form.specs.RowTexts.{row_text}
-use Rattle.script_form.specs.Building.{rows_so_far}
-use Rattle.script_form.specs.RowFeeds.{made_flat}
 use Rattle.script_form.proofs.BeginLemmas.{fed_begins}
 use Rattle.script_form.proofs.BlockLemmas.{row-made_flat}
-use Rattle.script_form.specs.Lines.{is_blank}
-use Rattle.script_form.specs.LineReads.{ReadsLine, fault_of}
-use Rattle.script_form.specs.Scripts.{LineRow, LineFault}
-use Rattle.script_form.specs.Feeds.{HoldsLines, FeedsLine, Passes, Places}
-use Rattle.script_form.specs.declared.readers.ScriptReader.{ScriptReader}
-use Rattle.script_form.specs.declared.parse_faults.ParseFault.{ParseFault}
 use Rattle.script_form.specs.declared.parse_faults.ParseFault.TheVariants.{Fault}
-use Rattle.script_form.specs.Progress.{Holds}
-use Rattle.script_form.specs.declared.parse_faults.ParseKind.{ParseKind}
 use Rattle.script_form.specs.declared.parse_faults.ParseKind.TheVariants as kind
-use Rattle.script_form.specs.declared.row_faults.RowFault.{RowFault}
-use Rattle.script_form.specs.declared.row_faults.RowFault.TheVariants.{Kind, NoMemory}
 use Rattle.script_form.proofs.ProgressLemmas.{holds_blank, blank_over, holds_row, row_over, row_of_no_block, row_too_deep}
 
 -- a row with a deep expression goes on any rows that begin a script

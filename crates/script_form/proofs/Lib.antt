@@ -16,3 +16,4 @@ pub mod RowLimitLemmas
 pub mod RowTextLemmas
 pub mod ScriptTextLemmas
 pub mod TargetLemmas
+pub mod Names

@@ -1,14 +1,6 @@
 -- A line's tokens and their row are the line's row.
-use Rattle.std.proofs.Common.{◌≡◌, ℕ, true, false, List}
-use Rattle.std.specs.Prelude.{Result, Ok, Err}
-use Rattle.token_form.specs.declared.tokens.Token.{Token}
-use Rattle.token_form.specs.Tokens.{IsTokens, in_range}
-use Rattle.script_form.specs.declared.flats.Flat.{Flat}
-use Rattle.script_form.specs.Lines.{is_blank}
-use Rattle.script_form.specs.LineReads.{ReadsRow, ReadsLine}
+use Rattle.script_form.proofs.Names.{◌≡◌, ℕ, true, false, List, Result, Ok, Err, Token, IsTokens, in_range, Flat, is_blank, ReadsRow, ReadsLine, RowFault, Kind, NoMemory}
 use Rattle.script_form.specs.declared.parse_faults.ParseKind.TheVariants as kind
-use Rattle.script_form.specs.declared.row_faults.RowFault.{RowFault}
-use Rattle.script_form.specs.declared.row_faults.RowFault.TheVariants.{Kind, NoMemory}
 
 pub line_is_read : (greatest : ℕ) (line : List ℕ) (tokens : List Token) (result : Result Flat RowFault) → is_blank line ≡ false → IsTokens line tokens × (in_range greatest tokens ≡ true) → ReadsRow tokens result → ReadsLine greatest line result
 line_is_read greatest line tokens (Ok flat) some (are, range) h = ((tokens, (some, are), range, h.0), h.1)

@@ -1,19 +1,10 @@
 -- Tokens spell at most one row, where its expressions are no deeper than 16.
-use Rattle.std.proofs.Common.{◌≡◌, ℕ, ◌≤◌, max, List, [], ◌∷◌, Some, refl, sym, ap, ◌∙◌, subst, arith}
-use Rattle.std.specs.Prelude.{unwrap_or}
-use Rattle.token_form.specs.declared.tokens.Token.{Token}
+use Rattle.script_form.proofs.Names.{◌≡◌, ℕ, ◌≤◌, max, List, [], ◌∷◌, Some, refl, sym, ap, ◌∙◌, subst, arith, unwrap_or, Token, ObjectId, Term, Spot, Fixed, At, depth, Spells, Row, row_depth, spot_depth, SpellsSpot, Follows, SpellsRow}
 use Rattle.token_form.specs.declared.tokens.Token.TheVariants as t
 use Rattle.token_form.specs.declared.tokens.Word.TheVariants as w
 use Rattle.token_form.specs.declared.tokens.Sign.TheVariants as g
-use Rattle.value_form.specs.declared.objects.ObjectId.{ObjectId}
-use Rattle.value_form.specs.Mirror.{Term, Spot, Fixed, At}
-use Rattle.expression_form.specs.Depth.{depth}
-use Rattle.expression_form.specs.Grammar.{Spells}
 use Rattle.expression_form.proofs.Readings.{one_expression}
-use Rattle.script_form.specs.Row.{Row}
 use Rattle.script_form.specs.Row as r
-use Rattle.script_form.specs.Rows.{row_depth, spot_depth}
-use Rattle.script_form.specs.RowTokens.{SpellsSpot, Follows, SpellsRow}
 use Rattle.script_form.proofs.TargetLemmas.{Found, spot_found, spot_alone}
 use Rattle.script_form.proofs.ReadLemmas.{none_some}
 

@@ -1,14 +1,5 @@
 -- Lines fed one after another.
-use Rattle.std.proofs.Common.{◌≡◌, ℕ, List, [], ◌∷◌, ◌++◌, inl, inr, refl, sym, ap, ◌∙◌, subst, append_assoc, append-nil}
-use Rattle.std.specs.Prelude.{Result, Ok, Err}
-use Rattle.value_form.specs.declared.scripts.Script.{Script}
-use Rattle.value_form.specs.Mirror.{block}
-use Rattle.script_form.specs.Building.{rows_so_far}
-use Rattle.script_form.specs.Scripts.{LineFault, IsScriptLines, BeginScript, LeftOpen, FaultBehind}
-use Rattle.script_form.specs.Feeds.{HoldsLines, FeedsLine, EndsLines}
-use Rattle.script_form.specs.Parses.{Parses}
-use Rattle.script_form.specs.declared.readers.ScriptReader.{ScriptReader}
-use Rattle.script_form.specs.declared.parse_faults.ParseFault.{ParseFault}
+use Rattle.script_form.proofs.Names.{◌≡◌, ℕ, List, [], ◌∷◌, ◌++◌, inl, inr, refl, sym, ap, ◌∙◌, subst, append_assoc, append-nil, Result, Ok, Err, Script, block, rows_so_far, LineFault, IsScriptLines, BeginScript, LeftOpen, FaultBehind, HoldsLines, FeedsLine, EndsLines, Parses, ScriptReader, ParseFault}
 use Rattle.script_form.specs.declared.parse_faults.ParseFault.TheVariants.{Fault, NoMemory}
 use Rattle.script_form.proofs.ProgressLemmas.{holds_begin}
 

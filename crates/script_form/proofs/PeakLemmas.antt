@@ -1,14 +1,7 @@
 -- The depth of blocks is the most that are open at a time.
-use Rattle.std.proofs.Common.{◌≡◌, ℕ, suc, ◌+◌, ◌≤◌, max, List, [], ◌∷◌, ◌++◌, length, refl, sym, ap, ◌∙◌, arith, append_assoc, append-nil}
-use Rattle.value_form.specs.Mirror.{Step, Let, Read, Write, Print, If, IfElse, Repeat, Withdraw, Block, End, Then, block}
-use Rattle.script_form.specs.declared.levels.Opening.{Opening}
+use Rattle.script_form.proofs.Names.{◌≡◌, ℕ, suc, ◌+◌, ◌≤◌, max, List, [], ◌∷◌, ◌++◌, length, refl, sym, ap, ◌∙◌, arith, append_assoc, append-nil, Step, Let, Read, Write, Print, If, IfElse, Repeat, Withdraw, Block, End, Then, block, Opening, Level, Building, Numbered, on, step_rows, rows, step_depth, block_depth, opening_rows, stack_rows, rows_so_far, open_by, open_after, peak}
 use Rattle.script_form.specs.declared.levels.Opening.TheVariants as o
-use Rattle.script_form.specs.declared.levels.Level.{Level}
-use Rattle.script_form.specs.declared.buildings.Building.{Building}
 use Rattle.script_form.specs.Row as r
-use Rattle.script_form.specs.Rows.{Numbered, on, step_rows, rows, step_depth, block_depth}
-use Rattle.script_form.specs.Building.{opening_rows, stack_rows, rows_so_far}
-use Rattle.script_form.specs.RowFeeds.{open_by, open_after, peak}
 
 pub peak_ge : (n : ℕ) (xs : List Numbered) → n ≤ peak n xs
 peak_ge n [] = omega arith

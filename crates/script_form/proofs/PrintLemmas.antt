@@ -1,32 +1,18 @@
 -- The canonical text of a script is that script.
-use Rattle.std.proofs.Common.{◌≡◌, ℕ, zero, suc, ◌+◌, ◌-◌, ◌<◌, ◌≤◌, inl, inr, true, false, cond, List, [], ◌∷◌, ◌++◌, length, get_or, take, refl, sym, ap, ◌∙◌, subst, arith, append_assoc, append-nil}
-use Rattle.std.specs.Prelude.{replicate, ◌==◌, nat_lt}
+use Rattle.script_form.proofs.Names.{◌≡◌, ℕ, zero, suc, ◌+◌, ◌-◌, ◌<◌, ◌≤◌, inl, inr, true, false, cond, List, [], ◌∷◌, ◌++◌, length, get_or, take, refl, sym, ap, ◌∙◌, subst, arith, append_assoc, append-nil, replicate, ◌==◌, nat_lt, nat_tests, length-append, length-replicate, Block, Token, by_test, one_list, SpellsRow, Row, Numbered, on, rows, row_depth, row_text, row_tokens, line_text, rows_text, next_line, script_text, lines_from, lines, is_blank, LineRow, LinesRows, ShallowRows, IsScriptLines, Rising, RowsInLimits, IsPrintable}
 use Rattle.std.specs.Char.{is_ascii_digit}
 use Rattle.std.specs.Int.{is_in_range}
 use Rattle.std.specs.Str.Lines.{strip_carriage_return}
-use Rattle.std.proofs.lemmas.Bool.Decides.{nat_tests}
-use Rattle.std.proofs.lemmas.List.{length-append, length-replicate}
-use Rattle.value_form.specs.Mirror.{Block}
 use Rattle.value_form.specs.TextForm.{hex_digit_of}
-use Rattle.token_form.specs.declared.tokens.Token.{Token}
 use Rattle.token_form.specs.declared.tokens.Token.TheVariants as t
 use Rattle.token_form.specs.declared.tokens.Sign.{Sign}
 use Rattle.token_form.specs.declared.tokens.Sign.TheVariants as g
 use Rattle.token_form.specs.Tokens.{word_spelling, sign_spelling, is_name_byte, AllPass, IsName, IsNumeral, Writes, itself, quote, backslash, line_end, by_digits, WritesAll, Spells, spaces, IsTokens}
-use Rattle.token_form.proofs.Runs.{by_test}
 use Rattle.token_form.proofs.NameLaws.{word_is_name}
-use Rattle.token_form.proofs.LineLaws.{one_list}
 use Rattle.script_form.proofs.OneRow.{one_row}
 use Rattle.script_form.proofs.RowTextLemmas.{row_tokens-spell, row_text-tokens, row_tokens-in_range}
 use Rattle.script_form.proofs.BlockLemmas.{one_script}
-use Rattle.script_form.specs.RowTokens.{SpellsRow}
-use Rattle.script_form.specs.Row.{Row}
 use Rattle.script_form.specs.Row as r
-use Rattle.script_form.specs.Rows.{Numbered, on, rows, row_depth}
-use Rattle.script_form.specs.RowTexts.{row_text, row_tokens, line_text, rows_text, next_line, script_text}
-use Rattle.script_form.specs.Lines.{lines_from, lines, is_blank}
-use Rattle.script_form.specs.Scripts.{LineRow, LinesRows, ShallowRows, IsScriptLines}
-use Rattle.script_form.specs.Printable.{Rising, RowsInLimits, IsPrintable}
 
 -- ---- the bytes of tokens
 

@@ -1,15 +1,6 @@
 -- One line more: the lines still begin a script, or this is what is wrong with it.
-use Rattle.std.proofs.Common.{◌≡◌, ℕ, ◌+◌, ◌-◌, ◌<◌, ◌≤◌, ◌⊎◌, inl, inr, true, List, [], ◌∷◌, ◌++◌, length, refl, sym, ap, ◌∙◌, subst, arith}
-use Rattle.std.proofs.lemmas.List.{length-append}
-use Rattle.value_form.specs.Mirror.{End}
-use Rattle.script_form.specs.Row.{Row}
-use Rattle.script_form.specs.Rows.{Numbered, on, row_depth}
-use Rattle.script_form.specs.Begins.{Begins, BeginsShallow}
-use Rattle.script_form.specs.RowTexts.{row_text, rows_text}
-use Rattle.script_form.specs.Lines.{is_blank}
-use Rattle.script_form.specs.Scripts.{LineRow, LinesRows, BeginScript, LineFault}
+use Rattle.script_form.proofs.Names.{◌≡◌, ℕ, ◌+◌, ◌-◌, ◌<◌, ◌≤◌, ◌⊎◌, inl, inr, true, List, [], ◌∷◌, ◌++◌, length, refl, sym, ap, ◌∙◌, subst, arith, length-append, End, Row, Numbered, on, row_depth, Begins, BeginsShallow, row_text, rows_text, is_blank, LineRow, LinesRows, BeginScript, LineFault, Holds}
 use Rattle.script_form.specs.declared.parse_faults.ParseKind.TheVariants as kind
-use Rattle.script_form.specs.Progress.{Holds}
 use Rattle.script_form.proofs.RowLemmas.{lines_with_row, lines_with_blank, shallow_with, next_line-with, text_with}
 
 -- no line at all

@@ -1,13 +1,7 @@
 -- The numbers of a script of the language are in the range that a run of it wants.
-use Rattle.std.proofs.Common.{ℕ, List, [], ◌∷◌, ◌++◌, arith}
-use Rattle.std.proofs.lemmas.Bool.Decides.{nat_tests}
-use Rattle.value_form.specs.Mirror.{Term, Number, Text, Nothing, Name, Before, Between, Applied, Given, Spot, Fixed, At, Step, Let, Read, Write, Print, If, IfElse, Repeat, Withdraw, Block, End, Then}
+use Rattle.script_form.proofs.Names.{ℕ, List, [], ◌∷◌, ◌++◌, arith, nat_tests, Term, Number, Text, Nothing, Name, Before, Between, Applied, Given, Spot, Fixed, At, Step, Let, Read, Write, Print, If, IfElse, Repeat, Withdraw, Block, End, Then, InLimits, Numbered, on, step_rows, rows, SpotInLimits, RowsInLimits, IsPrintable}
 use Rattle.value_form.specs.Ranges.{IsTerm, IsSpot, IsStep, IsBlock}
-use Rattle.expression_form.specs.Texts.{InLimits}
 use Rattle.script_form.specs.Row as r
-use Rattle.script_form.specs.Rows.{Numbered, on, step_rows, rows}
-use Rattle.script_form.specs.RowTexts.{SpotInLimits}
-use Rattle.script_form.specs.Printable.{RowsInLimits, IsPrintable}
 
 limits-left : (greatest : ℕ) (xs ys : List Numbered) → RowsInLimits greatest (xs ++ ys) → RowsInLimits greatest xs
 limits-left greatest [] ys h = tt

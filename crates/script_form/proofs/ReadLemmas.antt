@@ -1,28 +1,13 @@
 -- What reading the parts of a row says of the row.
-use Rattle.std.proofs.Common.{◌≡◌, ◌≢◌, ℕ, ◌<◌, true, false, List, [], ◌∷◌, ◌++◌, Some, None, Result, Ok, Err, refl, sym, ap, ◌∙◌, subst, arith, append-nil, length}
-use Rattle.std.specs.Prelude.{unwrap_or, ◌==◌}
-use Rattle.std.specs.Result.{IsErr, IsErrAnd}
-use Rattle.token_form.specs.declared.tokens.Token.{Token}
+use Rattle.script_form.proofs.Names.{◌≡◌, ◌≢◌, ℕ, ◌<◌, true, false, List, [], ◌∷◌, ◌++◌, Some, None, Result, Ok, Err, refl, sym, ap, ◌∙◌, subst, arith, append-nil, length, unwrap_or, ◌==◌, IsErr, IsErrAnd, Token, ObjectId, Expr, Target, Term, Spot, Fixed, At, term, spot, depth, Spells, Flat, row_of, Row, row_depth, spot_depth, SpellsSpot, Follows, fixed_of, indexed_of}
 use Rattle.token_form.specs.declared.tokens.Token.TheVariants as t
 use Rattle.token_form.specs.declared.tokens.Word.TheVariants as w
 use Rattle.token_form.specs.declared.tokens.Sign.TheVariants as g
-use Rattle.value_form.specs.declared.objects.ObjectId.{ObjectId}
-use Rattle.value_form.specs.declared.expressions.Expr.{Expr}
-use Rattle.value_form.specs.declared.scripts.Target.{Target}
-use Rattle.value_form.specs.Mirror.{Term, Spot, Fixed, At, term, spot}
 use Rattle.expression_form.specs.declared.read_faults.ReadFault.{ReadFault}
 use Rattle.expression_form.specs.declared.read_faults.ReadFault.TheVariants.{Syntax, Depth, NoMemory}
-use Rattle.expression_form.specs.Depth.{depth}
-use Rattle.expression_form.specs.Grammar.{Spells}
 use Rattle.expression_form.specs.Reads.{Reads}
-use Rattle.script_form.specs.declared.flats.Flat.{Flat}
-use Rattle.script_form.specs.Flats.{row_of}
-use Rattle.script_form.specs.Row.{Row}
 use Rattle.script_form.specs.Row as r
-use Rattle.script_form.specs.Rows.{row_depth, spot_depth}
-use Rattle.script_form.specs.RowTokens.{SpellsSpot, Follows}
 use Rattle.script_form.specs.Pairs.{ReadsBoth, both}
-use Rattle.script_form.specs.Targets.{fixed_of, indexed_of}
 use Rattle.script_form.proofs.TargetLemmas.{Found, spot_found, spot_alone, fixed_spells, indexed_spells}
 
 -- a result that hands this fault on

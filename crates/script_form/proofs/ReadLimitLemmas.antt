@@ -1,24 +1,9 @@
 -- Each script that lines are is a script of the language, so its canonical text is it again.
-use Rattle.std.specs.Prelude.{Result, Ok, Err}
-use Rattle.std.proofs.Common.{◌≡◌, ◌∙◌, ap, ℕ, ◌+◌, ◌≤◌, inl, inr, List, [], ◌∷◌, length, sym, subst, arith}
-use Rattle.token_form.specs.Tokens.{all_in_limits, objects_fit}
-use Rattle.token_form.proofs.Runs.{both}
-use Rattle.token_form.proofs.Spellings.{line_has_tokens}
-use Rattle.value_form.specs.declared.scripts.Script.{Script}
-use Rattle.value_form.specs.Mirror.{Block, block}
-use Rattle.value_form.specs.MirrorLaws.{made_all, made-block}
-use Rattle.script_form.specs.Row.{Row}
-use Rattle.script_form.specs.Rows.{Numbered}
-use Rattle.script_form.specs.RowTexts.{RowInLimits, RowUpTo, rows_text, next_line, script_text}
+use Rattle.script_form.proofs.Names.{Result, Ok, Err, ◌≡◌, ◌∙◌, ap, ℕ, ◌+◌, ◌≤◌, inl, inr, List, [], ◌∷◌, length, sym, subst, arith, all_in_limits, objects_fit, both, line_has_tokens, Script, Block, block, made_all, made-block, Row, Numbered, RowInLimits, RowUpTo, rows_text, next_line, script_text, LineRow, LinesRows, ShallowRows, IsScriptLines, ParseFault, lines, GivesAgain, Parses, Rising, RowsInLimits, IsPrintable}
 use Rattle.script_form.proofs.RowLimitLemmas.{spelled_row-in_limits, spelled_row-up_to}
-use Rattle.script_form.specs.Scripts.{LineRow, LinesRows, ShallowRows, IsScriptLines}
-use Rattle.script_form.specs.declared.parse_faults.ParseFault.{ParseFault}
 use Rattle.script_form.specs.declared.parse_faults.ParseFault.TheVariants.{Fault, NoMemory}
-use Rattle.script_form.specs.Lines.{lines}
-use Rattle.script_form.specs.Parses.{GivesAgain, Parses}
 use Rattle.script_form.proofs.FaultLemmas.{fault_of_no_script, open_is_no_script}
 use Rattle.script_form.proofs.PrintLemmas.{one_script_of_lines, printed_is_script}
-use Rattle.script_form.specs.Printable.{Rising, RowsInLimits, IsPrintable}
 
 -- ---- one line
 

@@ -1,12 +1,5 @@
 -- Rows of lines, and their text, with one line more.
-use Rattle.std.proofs.Common.{◌≡◌, ℕ, suc, ◌+◌, ◌-◌, ◌≤◌, inl, inr, true, List, [], ◌∷◌, ◌++◌, length, refl, ap, ◌∙◌, subst, arith, append-nil}
-use Rattle.std.proofs.lemmas.List.{length-append, length-replicate}
-use Rattle.std.specs.Prelude.{replicate}
-use Rattle.script_form.specs.Row.{Row}
-use Rattle.script_form.specs.Rows.{Numbered, on, row_depth}
-use Rattle.script_form.specs.RowTexts.{line_text, row_text, rows_text, next_line}
-use Rattle.script_form.specs.Lines.{is_blank}
-use Rattle.script_form.specs.Scripts.{LineRow, LinesRows, ShallowRows}
+use Rattle.script_form.proofs.Names.{◌≡◌, ℕ, suc, ◌+◌, ◌-◌, ◌≤◌, inl, inr, true, List, [], ◌∷◌, ◌++◌, length, refl, ap, ◌∙◌, subst, arith, append-nil, length-append, length-replicate, replicate, Row, Numbered, on, row_depth, line_text, row_text, rows_text, next_line, is_blank, LineRow, LinesRows, ShallowRows}
 
 pub same_line : (n : ℕ) (ls : List (List ℕ)) (l : List ℕ) → n + 1 + length ls ≡ n + length (l ∷ ls)
 same_line n ls l = let e : n + 1 + length ls ≡ n + suc (length ls) = omega arith in e

@@ -1,19 +1,10 @@
 -- A row that tokens of scripts spell is in its limits, and its object up to the greatest repository.
-use Rattle.std.proofs.Common.{◌≡◌, ℕ, true, List, [], ◌∷◌, ◌++◌, sym, subst, arith, append-nil}
-use Rattle.std.proofs.lemmas.Bool.Decides.{nat_tests}
-use Rattle.token_form.specs.declared.tokens.Token.{Token}
+use Rattle.script_form.proofs.Names.{◌≡◌, ℕ, true, List, [], ◌∷◌, ◌++◌, sym, subst, arith, append-nil, nat_tests, Token, AreTokens, next_fits, objects_fit, both, Spot, Fixed, At, AreTokens-append, spelled-in_limits, SpellsSpot, Follows, SpellsRow, Row, SpotInLimits, RowInLimits, SpotUpTo, RowUpTo}
 use Rattle.token_form.specs.declared.tokens.Token.TheVariants as t
 use Rattle.token_form.specs.declared.tokens.Word.{Word}
 use Rattle.token_form.specs.declared.tokens.Word.TheVariants as w
 use Rattle.token_form.specs.declared.tokens.Sign.TheVariants as g
-use Rattle.token_form.specs.Tokens.{AreTokens, next_fits, objects_fit}
-use Rattle.token_form.proofs.Runs.{both}
-use Rattle.value_form.specs.Mirror.{Spot, Fixed, At}
-use Rattle.expression_form.proofs.CanonicalLemmas.{AreTokens-append, spelled-in_limits}
-use Rattle.script_form.specs.RowTokens.{SpellsSpot, Follows, SpellsRow}
-use Rattle.script_form.specs.Row.{Row}
 use Rattle.script_form.specs.Row as r
-use Rattle.script_form.specs.RowTexts.{SpotInLimits, RowInLimits, SpotUpTo, RowUpTo}
 
 -- ---- limits
 

@@ -1,25 +1,14 @@
 -- The canonical text of a row is its canonical tokens, which spell it and are in their limits.
-use Rattle.std.proofs.Common.{◌≡◌, ℕ, ◌<◌, ◌^◌, true, false, List, [], ◌∷◌, ◌++◌, refl, ap, ◌∙◌, subst, arith, append-nil}
-use Rattle.std.specs.Prelude.{codes, not, ◌&&◌, ◌||◌, nat_lt, nat_le}
+use Rattle.script_form.proofs.Names.{◌≡◌, ℕ, ◌<◌, ◌^◌, true, false, List, [], ◌∷◌, ◌++◌, refl, ap, ◌∙◌, subst, arith, append-nil, codes, not, ◌&&◌, ◌||◌, nat_lt, nat_le, le-leb, lt-ltb, Token, Ends, IsTokens, IsToken, AreTokens, in_limits, all_in_limits, is_dot, opens_object, is_object_number, objects_fit, in_range, spells, Spot, Fixed, At, text, canonical-spells, AllFit, AllFit-append, AllFit-canonical, SpellsSpot, SpellsRow, Row, spot_tokens, row_tokens, spot_text, row_text, SpotInLimits, RowInLimits, SpotUpTo, RowUpTo}
 use Rattle.std.specs.Fmt.{decimal}
-use Rattle.std.proofs.lemmas.Bool.{le-leb, lt-ltb}
-use Rattle.token_form.specs.declared.tokens.Token.{Token}
 use Rattle.token_form.specs.declared.tokens.Token.TheVariants as t
 use Rattle.token_form.specs.declared.tokens.Word.TheVariants as w
 use Rattle.token_form.specs.declared.tokens.Sign.TheVariants as g
-use Rattle.token_form.specs.Tokens.{Ends, IsTokens, IsToken, AreTokens, in_limits, all_in_limits, is_dot, opens_object, is_object_number, objects_fit, in_range}
 use Rattle.token_form.specs.Tokens as tokens
 use Rattle.token_form.proofs.Seams.{quiet_ends, quiet_space, quiet_dot, quiet_open_bracket, quiet_close_bracket, after_space, seam, first, alone}
-use Rattle.token_form.proofs.Spellings.{spells}
-use Rattle.value_form.specs.Mirror.{Spot, Fixed, At}
 use Rattle.expression_form.specs.Canonical.{canonical}
-use Rattle.expression_form.specs.Texts.{text}
-use Rattle.expression_form.proofs.CanonicalLemmas.{canonical-spells, AllFit, AllFit-append, AllFit-canonical}
 use Rattle.expression_form.proofs.TextLemmas.{text-tokens}
-use Rattle.script_form.specs.RowTokens.{SpellsSpot, SpellsRow}
-use Rattle.script_form.specs.Row.{Row}
 use Rattle.script_form.specs.Row as r
-use Rattle.script_form.specs.RowTexts.{spot_tokens, row_tokens, spot_text, row_text, SpotInLimits, RowInLimits, SpotUpTo, RowUpTo}
 
 -- ---- they spell it
 

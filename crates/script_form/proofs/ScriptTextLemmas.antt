@@ -1,17 +1,8 @@
 -- The text of rows one behind another.
 use Rattle.std.proofs.Math.Numerals.{add-one}
-use Rattle.std.proofs.Math.Seq.{take-suc}
-use Rattle.std.proofs.Common.{◌≡◌, ℕ, ◌+◌, ◌<◌, length, take, get_or, List, [], ◌∷◌, ◌++◌, Result, Ok, Err, refl, sym, ap, ◌∙◌, subst, append_assoc, append-nil}
-use Rattle.std.specs.Prelude.{IfOk, OnOk, codes}
-use Rattle.value_form.specs.declared.expressions.Expr.{Expr}
-use Rattle.value_form.specs.declared.scripts.Stmt.{Stmt}
+use Rattle.script_form.proofs.Names.{take-suc, ◌≡◌, ℕ, ◌+◌, ◌<◌, length, take, get_or, List, [], ◌∷◌, ◌++◌, Result, Ok, Err, refl, sym, ap, ◌∙◌, subst, append_assoc, append-nil, IfOk, OnOk, codes, Expr, Stmt, plain, block, term, plain-if, plain-if_else, plain-repeat, Row, Numbered, on, step_rows, rows, row_text, line_text, rows_text, next_line, Prints}
 use Rattle.value_form.specs.declared.scripts.Stmt.TheVariants as s
-use Rattle.value_form.specs.Mirror.{plain, block, term}
-use Rattle.value_form.specs.MirrorLaws.{plain-if, plain-if_else, plain-repeat}
-use Rattle.script_form.specs.Row.{Row}
 use Rattle.script_form.specs.Row as r
-use Rattle.script_form.specs.Rows.{Numbered, on, step_rows, rows}
-use Rattle.script_form.specs.RowTexts.{row_text, line_text, rows_text, next_line, Prints}
 use Rattle.script_form.proofs.BlockLemmas.{push_rows}
 
 rows_text-append : (next : ℕ) (xs ys : List Numbered) → rows_text next (xs ++ ys) ≡ rows_text next xs ++ rows_text (next_line next xs) ys

@@ -1,17 +1,8 @@
 -- The object at the front of tokens is the one that is spelled there.
-use Rattle.std.proofs.Common.{◌≡◌, ℕ, suc, ◌<◌, ◌^◌, Bool, true, false, List, [], ◌∷◌, ◌++◌, length, take, drop, Option, Some, None, refl, sym, ap, ◌∙◌, subst, arith, append_assoc, append-nil}
-use Rattle.std.specs.Prelude.{nat_le, nat_lt, ◌&&◌, if◌then◌else◌}
-use Rattle.std.proofs.lemmas.Bool.{le-leb, lt-ltb, leb-true, ltb-true}
-use Rattle.token_form.specs.declared.tokens.Token.{Token}
+use Rattle.script_form.proofs.Names.{◌≡◌, ℕ, suc, ◌<◌, ◌^◌, Bool, true, false, List, [], ◌∷◌, ◌++◌, length, take, drop, Option, Some, None, refl, sym, ap, ◌∙◌, subst, arith, append_assoc, append-nil, nat_le, nat_lt, ◌&&◌, if◌then◌else◌, le-leb, lt-ltb, leb-true, ltb-true, Token, both, ObjectId, Term, Spot, Fixed, At, Spells, IsRepository, SpellsSpot, is_repository, object_at, fixed_of, bracket_at, indexed_of}
 use Rattle.token_form.specs.declared.tokens.Token.TheVariants as t
 use Rattle.token_form.specs.declared.tokens.Sign.TheVariants as g
-use Rattle.token_form.proofs.Runs.{both}
-use Rattle.value_form.specs.declared.objects.ObjectId.{ObjectId}
-use Rattle.value_form.specs.Mirror.{Term, Spot, Fixed, At}
-use Rattle.expression_form.specs.Grammar.{Spells}
 use Rattle.expression_form.proofs.BracketLemmas.{is_bracket, NoBracket, spelled_no_bracket}
-use Rattle.script_form.specs.RowTokens.{IsRepository, SpellsSpot}
-use Rattle.script_form.specs.Targets.{is_repository, object_at, fixed_of, bracket_at, indexed_of}
 
 -- ---- the number of a repository
 

@@ -1,20 +1,7 @@
 -- The answer to a request goes on with the script; without one it stops there.
-use Rattle.std.proofs.Common.{◌≡◌, ℕ, zero, suc, ◌+◌, ◌-◌, Bool, true, false, List, [], ◌∷◌, ◌++◌, Option, Some, None, Result, Ok, Err, refl, ap, ◌∙◌, arith}
-use Rattle.std.specs.Prelude.{slice_get, if◌then◌else◌}
-use Rattle.value_form.specs.declared.fail_kinds.FailKind.{FailKind}
-use Rattle.value_form.specs.declared.objects.ObjectId.{ObjectId}
-use Rattle.value_form.specs.declared.scripts.Stmt.{Stmt, out-Stmt}
-use Rattle.value_form.specs.declared.scripts.Stmt.TheOpen.{Stmt-F}
+use Rattle.script_run.proofs.Names.{◌≡◌, ℕ, zero, suc, ◌+◌, ◌-◌, Bool, true, false, List, [], ◌∷◌, ◌++◌, Option, Some, None, Result, Ok, Err, refl, ap, ◌∙◌, arith, slice_get, if◌then◌else◌, FailKind, ObjectId, Stmt, out-Stmt, Stmt-F, Value, with_name, term, spot, shape, Request, ToRead, ToWrite, Asks, Came, Answer, Got, Stored, by_answers, got_from, stored_from, valued, read_of, write_of, done, begun, value, object_at, condition, count, Frame, Standing, state_of, then_come, resume, inner, ahead, goes_to, Arrival, Onward, AtRead, AtWrite, AtEnd, on_value, repeating, chosen_part, begun_at, counted_at, left_from, at_end, step_at, step}
 use Rattle.value_form.specs.declared.transcripts.Line.TheVariants as line
-use Rattle.value_form.specs.declared.values.Value.{Value}
-use Rattle.script_meaning.specs.Names.{with_name}
-use Rattle.value_form.specs.Mirror.{term, spot}
-use Rattle.value_form.specs.MirrorLaws.{shape}
-use Rattle.script_meaning.specs.Meaning.{Request, ToRead, ToWrite, Asks, Came, Answer, Got, Stored, by_answers, got_from, stored_from, valued, read_of, write_of, done, begun, value, object_at, condition, count}
 use Rattle.script_run.specs.declared.frames.Part.TheVariants as part
-use Rattle.script_run.specs.declared.frames.Frame.{Frame}
-use Rattle.script_run.specs.Standings.{Standing, state_of, then_come, resume, inner, ahead, goes_to}
-use Rattle.script_run.specs.Steps.{Arrival, Onward, AtRead, AtWrite, AtEnd, on_value, repeating, chosen_part, begun_at, counted_at, left_from, at_end, step_at, step}
 use Rattle.script_run.proofs.KeepLemmas.{ahead_some}
 
 -- once a read or a write was answered

@@ -1,22 +1,10 @@
 -- A step that goes on leaves less to do.
-use Rattle.std.proofs.Common.{◌≡◌, ℕ, zero, suc, ◌<◌, ◌≤◌, Bool, true, false, List, [], ◌∷◌, Option, Some, None, Result, Ok, Err, refl, subst, arith}
-use Rattle.std.specs.Prelude.{slice_get, nat_le, pos, negsuc, if◌then◌else◌}
+use Rattle.script_run.proofs.Names.{◌≡◌, ℕ, zero, suc, ◌<◌, ◌≤◌, Bool, true, false, List, [], ◌∷◌, Option, Some, None, Result, Ok, Err, refl, subst, arith, slice_get, nat_le, pos, negsuc, if◌then◌else◌, FailKind, Stmt, out-Stmt, Stmt-F, Value, Names, Term, term, spot, value, object_at, condition, count, Part, Frame, Standing, inner, Arrival, Onward, AtRead, AtWrite, AtEnd, on_value, past, into_part, chosen, repeated, begun_at, counted_at, left_by, left_from, at_end, step_at, step, turns_in, weight}
 use Rattle.std.proofs.lemmas.Bool.{leb-true}
-use Rattle.value_form.specs.declared.fail_kinds.FailKind.{FailKind}
 use Rattle.value_form.specs.declared.fail_kinds.FailKind.TheVariants as fails
-use Rattle.value_form.specs.declared.scripts.Stmt.{Stmt, out-Stmt}
-use Rattle.value_form.specs.declared.scripts.Stmt.TheOpen.{Stmt-F}
-use Rattle.value_form.specs.declared.values.Value.{Value}
 use Rattle.value_form.specs.declared.values.Value.TheVariants as v
-use Rattle.script_meaning.specs.Names.{Names}
-use Rattle.value_form.specs.Mirror.{Term, term, spot}
 use Rattle.script_meaning.specs.Operations.{◌>>=◌, count_in}
-use Rattle.script_meaning.specs.Meaning.{value, object_at, condition, count}
-use Rattle.script_run.specs.declared.frames.Part.{Part}
 use Rattle.script_run.specs.declared.frames.Part.TheVariants as part
-use Rattle.script_run.specs.declared.frames.Frame.{Frame}
-use Rattle.script_run.specs.Standings.{Standing, inner}
-use Rattle.script_run.specs.Steps.{Arrival, Onward, AtRead, AtWrite, AtEnd, on_value, past, into_part, chosen, repeated, begun_at, counted_at, left_by, left_from, at_end, step_at, step, turns_in, weight}
 
 -- a part is repeated 1,000 times at most
 most_if : (n m : ℕ) (b : Bool) → nat_le m 1000 ≡ b → (if b then Ok m else Err fails.Count) ≡ Ok n → n ≤ 1000

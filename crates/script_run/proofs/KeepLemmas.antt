@@ -1,23 +1,9 @@
 -- A step of a run keeps where the script comes to.
-use Rattle.std.proofs.Common.{◌≡◌, ◌≢◌, ℕ, zero, suc, ◌+◌, ◌-◌, Bool, true, false, List, [], ◌∷◌, drop, Option, Some, None, Result, Ok, Err, ⊎_elim, refl, sym, ap, ◌∙◌, subst, arith, append-nil}
-use Rattle.std.specs.Prelude.{slice_get, if◌then◌else◌}
+use Rattle.script_run.proofs.Names.{◌≡◌, ◌≢◌, ℕ, zero, suc, ◌+◌, ◌-◌, Bool, true, false, List, [], ◌∷◌, drop, Option, Some, None, Result, Ok, Err, ⊎_elim, refl, sym, ap, ◌∙◌, subst, arith, append-nil, slice_get, if◌then◌else◌, FailKind, ObjectId, Stmt, out-Stmt, Stmt-F, Value, plain, block, term, spot, shape, plain-out, State, Came, Course, Goes, Stops, Over, Answer, by_answers, then_do, valued, turns, begun, done, all_done, value, object_at, condition, count, answers_of, Part, Frame, Standing, state_of, More, Again, then_come, resume, part_of, entered_in, further, inner, ahead, goes_to, Arrival, Onward, AtRead, AtWrite, AtEnd, on_value, into_part, repeating, chosen_part, begun_at, counted_at, left_by, left_from, at_end, step_at, step, counted, SameAhead}
 use Rattle.std.proofs.lemmas.List.{drop_more, drop_all}
 use Rattle.std.proofs.lemmas.Option.{slice_get_within, get_or_from_slice_get, slice_get_cases}
-use Rattle.value_form.specs.declared.fail_kinds.FailKind.{FailKind}
-use Rattle.value_form.specs.declared.objects.ObjectId.{ObjectId}
-use Rattle.value_form.specs.declared.scripts.Stmt.{Stmt, out-Stmt}
-use Rattle.value_form.specs.declared.scripts.Stmt.TheOpen.{Stmt-F}
 use Rattle.value_form.specs.declared.transcripts.Line.TheVariants as line
-use Rattle.value_form.specs.declared.values.Value.{Value}
-use Rattle.value_form.specs.Mirror.{plain, block, term, spot}
-use Rattle.value_form.specs.MirrorLaws.{shape, plain-out}
-use Rattle.script_meaning.specs.Meaning.{State, Came, Course, Goes, Stops, Over, Answer, by_answers, then_do, valued, turns, begun, done, all_done, value, object_at, condition, count, answers_of}
-use Rattle.script_run.specs.declared.frames.Part.{Part}
 use Rattle.script_run.specs.declared.frames.Part.TheVariants as part
-use Rattle.script_run.specs.declared.frames.Frame.{Frame}
-use Rattle.script_run.specs.Standings.{Standing, state_of, More, Again, then_come, resume, part_of, entered_in, further, inner, ahead, goes_to}
-use Rattle.script_run.specs.Steps.{Arrival, Onward, AtRead, AtWrite, AtEnd, on_value, into_part, repeating, chosen_part, begun_at, counted_at, left_by, left_from, at_end, step_at, step}
-use Rattle.script_run.specs.Machines.{counted, SameAhead}
 use Rattle.script_run.proofs.LineLemmas.{answers_of-append}
 
 abbrev St : Type 0

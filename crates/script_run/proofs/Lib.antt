@@ -4,3 +4,4 @@ pub mod KeepLemmas
 pub mod LineLemmas
 pub mod RangeLemmas
 pub mod RunLemmas
+pub mod Names

@@ -1,10 +1,6 @@
 -- Lines of a transcript, the answers that they show, and the last value.
-use Rattle.std.proofs.Common.{◌≡◌, List, [], ◌∷◌, ◌++◌, ◌-◌, length, Some, length-append, arith, refl, ap, ◌∙◌}
-use Rattle.std.specs.Prelude.{slice_get}
-use Rattle.value_form.specs.declared.transcripts.Line.{Line}
+use Rattle.script_run.proofs.Names.{◌≡◌, List, [], ◌∷◌, ◌++◌, ◌-◌, length, Some, length-append, arith, refl, ap, ◌∙◌, slice_get, Line, Got, Stored, answers_of, value_shown, shown_in, last_value}
 use Rattle.value_form.specs.declared.transcripts.Line.TheVariants as line
-use Rattle.script_meaning.specs.Meaning.{Got, Stored, answers_of}
-use Rattle.script_run.specs.Standings.{value_shown, shown_in, last_value}
 
 pub answers_of-append : (a b : List Line) → answers_of (a ++ b) ≡ answers_of a ++ answers_of b
 answers_of-append [] b = refl

@@ -1,16 +1,8 @@
 -- The statements that a run comes to are in range where its script is.
-use Rattle.std.proofs.Common.{◌≡◌, ℕ, zero, suc, ◌-◌, List, [], ◌∷◌, Option, Some, None, refl, sym, ap, ◌∙◌, subst}
-use Rattle.std.specs.Prelude.{slice_get, option_copied}
+use Rattle.script_run.proofs.Names.{◌≡◌, ℕ, zero, suc, ◌-◌, List, [], ◌∷◌, Option, Some, None, refl, sym, ap, ◌∙◌, subst, slice_get, option_copied, Stmt, out-Stmt, Stmt-F, plain, shape, plain-out, Part, Frame, either_part, part_of, entered_in, inner}
 use Rattle.std.specs.Borrow.{Bor}
-use Rattle.value_form.specs.declared.scripts.Stmt.{Stmt, out-Stmt}
-use Rattle.value_form.specs.declared.scripts.Stmt.TheOpen.{Stmt-F}
-use Rattle.value_form.specs.Mirror.{plain}
-use Rattle.value_form.specs.MirrorLaws.{shape, plain-out}
 use Rattle.value_form.specs.Ranges.{IsStep, IsScript}
-use Rattle.script_run.specs.declared.frames.Part.{Part}
 use Rattle.script_run.specs.declared.frames.Part.TheVariants as part
-use Rattle.script_run.specs.declared.frames.Frame.{Frame}
-use Rattle.script_run.specs.Standings.{either_part, part_of, entered_in, inner}
 
 either-IsScript : (q : Part) (a b : List Stmt) → IsScript a → IsScript b → IsScript (either_part q a b)
 either-IsScript part.First a b h k = h

@@ -1,25 +1,13 @@
 -- What always holds of a run, from call to call.
-use Rattle.std.proofs.Common.{◌≡◌, ℕ, ◌+◌, ◌-◌, List, [], ◌∷◌, ◌++◌, Option, Some, None, refl, sym, ap, ◌∙◌, subst, append_assoc, append-nil}
+use Rattle.script_run.proofs.Names.{◌≡◌, ℕ, ◌+◌, ◌-◌, List, [], ◌∷◌, ◌++◌, Option, Some, None, refl, sym, ap, ◌∙◌, subst, append_assoc, append-nil, ObjectId, Stmt, Line, Value, with_name, block, Over, Answer, Got, Stored, talk, answers_of, Halt, RunParts, answered, stop_of, Tells, Standing, named, goes_to, step, stand_of, arrival_of, SameAhead, HasStopped}
 use Rattle.value_form.specs.declared.endings.Ending.{Ending}
 use Rattle.value_form.specs.declared.endings.Ending.TheVariants as ending
-use Rattle.value_form.specs.declared.objects.ObjectId.{ObjectId}
-use Rattle.value_form.specs.declared.scripts.Stmt.{Stmt}
-use Rattle.value_form.specs.declared.transcripts.Line.{Line}
 use Rattle.value_form.specs.declared.transcripts.Line.TheVariants as line
-use Rattle.value_form.specs.declared.values.Value.{Value}
-use Rattle.script_meaning.specs.Names.{with_name}
-use Rattle.value_form.specs.Mirror.{block}
-use Rattle.script_meaning.specs.Meaning.{Over, Answer, Got, Stored, talk, answers_of}
-use Rattle.script_run.specs.declared.halts.Halt.{Halt}
 use Rattle.script_run.specs.declared.halts.Halt.TheVariants as halt
 use Rattle.std.specs.Global.{Vec}
 use Rattle.script_run.specs.declared.nexts.Next.{Next}
 use Rattle.script_run.specs.declared.nexts.Next.TheVariants as next
 use Rattle.script_run.specs.declared.machines.Machine.{Machine}
-use Rattle.script_run.specs.RunParts.{RunParts, answered, stop_of, Tells}
-use Rattle.script_run.specs.Standings.{Standing, named, goes_to}
-use Rattle.script_run.specs.Steps.{step}
-use Rattle.script_run.specs.Machines.{stand_of, arrival_of, SameAhead, HasStopped}
 use Rattle.script_run.specs.Runs.{end_of, next_of, said_at, told_by, IsRun}
 use Rattle.script_run.proofs.LineLemmas.{answers_of-append, last_value-append}
 use Rattle.script_run.proofs.KeepLemmas.{meant, step_keeps}

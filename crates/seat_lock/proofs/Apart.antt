@@ -1,8 +1,6 @@
 -- Numbers of which no two are the same.
-use Rattle.std.proofs.Common.{◌≡◌, ◌≢◌, ℕ, suc, ◌≤◌, List, [], ◌∷◌, All, refl, sym, subst, arith}
-use Rattle.std.specs.Prelude.{AllPairs}
+use Rattle.seat_lock.proofs.Names.{◌≡◌, ◌≢◌, ℕ, suc, ◌≤◌, List, [], ◌∷◌, All, refl, sym, subst, arith, AllPairs, total, same}
 use native.Mathlib.Decide.{ℕ_discrete}
-use Rattle.seat_lock.specs.Rule.{total, same}
 
 same_apart : (a b : ℕ) → a ≢ b → same a b ≡ 0
 same_apart a b h = omega (arith, h)

@@ -1,13 +1,6 @@
 -- Beginnings of one list, and the entries of an owner in them.
-use Rattle.std.proofs.Common.{◌≡◌, ◌≢◌, ℕ, ◌+◌, ◌≤◌, Bool, true, false, cond, eqb, eq-eqb, ne_eqb, List, [], ◌∷◌, ◌++◌, length, nat_le, refl, ap, sym, subst, ◌∙◌, arith, append_assoc, append-nil, length-append}
-use Rattle.std.specs.Prelude.{filter}
+use Rattle.seat_lock.proofs.Names.{◌≡◌, ◌≢◌, ℕ, ◌+◌, ◌≤◌, Bool, true, false, cond, eqb, eq-eqb, ne_eqb, List, [], ◌∷◌, ◌++◌, length, nat_le, refl, ap, sym, subst, ◌∙◌, arith, append_assoc, append-nil, length-append, filter, nil_from_length, filter-append, Part, View, Begins, entries_of, longer, HasOwn, first_part, other_parts, with_own, owned_in, total, same}
 use Rattle.std.proofs.lemmas.Bool.Decides.{nat_tests}
-use Rattle.std.proofs.lemmas.List.{nil_from_length}
-use Rattle.std.proofs.lemmas.List.Elements.{filter-append}
-use Rattle.seat_lock.specs.declared.views.Part.{Part}
-use Rattle.seat_lock.specs.declared.views.View.{View}
-use Rattle.seat_lock.specs.Story.{Begins, entries_of, longer, HasOwn, first_part, other_parts, with_own, owned_in}
-use Rattle.seat_lock.specs.Rule.{total, same}
 
 module _ {E : Type 0} where
   pub begins_trans : (xs ys zs : List E) → Begins xs ys → Begins ys zs → Begins xs zs

@@ -1,9 +1,5 @@
 -- A pass still belongs to its lock where its place, its slots, its stage, its owners and its base are as they were.
-use Rattle.std.proofs.Common.{◌≡◌, length, ap, ◌∙◌}
-use Rattle.atomic_table.specs.Seated.{TableId}
-use Rattle.atomic_table.specs.declared.shared.Seat.{Seat}
-use Rattle.seat_lock.specs.declared.views.View.{View}
-use Rattle.seat_lock.specs.Passes.{Belongs}
+use Rattle.seat_lock.proofs.Names.{◌≡◌, length, ap, ◌∙◌, TableId, Seat, View, Belongs}
 
 module _ {T E : Type 0} where
   pub still_pass : (z : TableId) (base : T) (p q : Seat T (View T E)) → Belongs z base p → q.table_id ≡ p.table_id → q.me.1 ≡ p.me.1 → q.me.0.stage ≡ p.me.0.stage → q.me.0.parts ≡ p.me.0.parts → q.me.0.base ≡ p.me.0.base → Belongs z base q

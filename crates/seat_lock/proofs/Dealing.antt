@@ -1,12 +1,5 @@
 -- Giving out the owners one by one.
-use Rattle.std.proofs.Common.{◌≡◌, ℕ, ◌<◌, List, [], ◌∷◌, ◌++◌, length, refl, arith}
-use Rattle.atomic_table.specs.Seated.{TableId}
-use Rattle.seat_lock.specs.declared.views.Part.{Part}
-use Rattle.seat_lock.specs.declared.views.View.{View}
-use Rattle.atomic_table.specs.declared.shared.Seat.{Seat}
-use Rattle.seat_lock.specs.Story.{first_part, other_parts}
-use Rattle.seat_lock.specs.Steps.{all_parts}
-use Rattle.seat_lock.specs.Passes.{newcomer, AreNew}
+use Rattle.seat_lock.proofs.Names.{◌≡◌, ℕ, ◌<◌, List, [], ◌∷◌, ◌++◌, length, refl, arith, TableId, Part, View, Seat, first_part, other_parts, all_parts, newcomer, AreNew}
 
 pub parts_cut : {E : Type 0} (ps : List (Part E)) → 0 < length ps → (p : Part E) × (first_part ps ≡ p ∷ []) × (ps ≡ p ∷ other_parts ps)
 parts_cut [] h = absurd (omega arith)

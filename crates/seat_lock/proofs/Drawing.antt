@@ -1,13 +1,6 @@
 -- Drawing a ticket keeps the rule.
-use Rattle.std.proofs.Common.{◌≡◌, ℕ, ◌+◌, ◌%◌, ◌<◌, List, ◌∷◌, length, get_or, set, refl, ap, ◌∙◌, inl, inr, ⊎_elim, arith}
-use Rattle.std.proofs.Math.Nat.{mod-add-mod}
+use Rattle.seat_lock.proofs.Names.{◌≡◌, ℕ, ◌+◌, ◌%◌, ◌<◌, List, ◌∷◌, length, get_or, set, refl, ap, ◌∙◌, inl, inr, ⊎_elim, arith, mod-add-mod, State, step, keeps, Allows, Idle, Waiting, View, Meaning, ticket_at, waits, holding, holds_slot, has_ticket, at_ticket, weight, Fits, AtHome, IsOut, Kept, Seated, staged, drew}
 use mathlib.Core.Option.{none}
-use Rattle.atomic_table.specs.Table.{State, step, keeps, Allows}
-use Rattle.seat_lock.specs.declared.views.Stage.TheVariants.{Idle, Waiting}
-use Rattle.seat_lock.specs.declared.views.View.{View}
-use Rattle.seat_lock.specs.Story.{Meaning}
-use Rattle.seat_lock.specs.Rule.{ticket_at, waits, holding, holds_slot, has_ticket, at_ticket, weight, Fits, AtHome, IsOut, Kept}
-use Rattle.seat_lock.specs.Steps.{Seated, staged, drew}
 use Rattle.seat_lock.proofs.Sums.{total-set, each_set}
 
 module _ {T E : Type 0} (m : Meaning T E) (base : T) (owners : List ℕ) where

@@ -1,12 +1,5 @@
 -- What a seat that takes in others knows of the story.
-use Rattle.std.proofs.Common.{ℕ, zero, suc, List, [], ◌∷◌, ◌++◌, get_or, refl, arith}
-use Rattle.std.specs.Prelude.{All}
-use Rattle.std.proofs.lemmas.List.Elements.{All-append}
-use Rattle.seat_lock.specs.declared.views.Part.{Part}
-use Rattle.seat_lock.specs.declared.views.View.{View}
-use Rattle.seat_lock.specs.Story.{HasOwn}
-use Rattle.seat_lock.specs.Steps.{gathered}
-use Rattle.seat_lock.specs.Passes.{Knows, Covers}
+use Rattle.seat_lock.proofs.Names.{ℕ, zero, suc, List, [], ◌∷◌, ◌++◌, get_or, refl, arith, All, All-append, Part, View, HasOwn, gathered, Knows, Covers}
 
 module _ {E : Type 0} (owner : E → ℕ) where
   own_left : (ps qs : List (Part E)) (l : List E) → HasOwn owner (ps ++ qs) l → HasOwn owner ps l

@@ -11,3 +11,4 @@ pub mod Showing
 pub mod Apart
 pub mod Popping
 pub mod ServedDrawing
+pub mod Names

@@ -1,17 +1,9 @@
 -- Looking at the ticket served keeps the rule.
-use Rattle.std.proofs.Common.{◌≡◌, ℕ, ◌%◌, ◌<◌, ◌≤◌, ◌≢◌, List, length, get_or, set, sym, refl, ap, ◌∙◌, subst, inr, ⊎_elim, arith}
+use Rattle.seat_lock.proofs.Names.{◌≡◌, ℕ, ◌%◌, ◌<◌, ◌≤◌, ◌≢◌, List, length, get_or, set, sym, refl, ap, ◌∙◌, subst, inr, ⊎_elim, arith, State, step, keeps, takes, stepped, Allows, set_again, one_turn, Stage, Idle, Waiting, Holding, View, Meaning, total, same, ticket_at, waits, holding, holds_slot, has_ticket, at_ticket, weight, AtStage, Fits, AtHome, IsOut, Kept, Seated, ticket_of, looked}
 use mathlib.Core.Logic.{dite}
 use mathlib.Core.Option.{none, some}
 use native.Mathlib.Decide.{ℕ_discrete}
 use lib.ListN.{get_elem?}
-use Rattle.atomic_table.specs.Table.{State, step, keeps, takes, stepped, Allows}
-use Rattle.atomic_table.proofs.Lists.{set_again, one_turn}
-use Rattle.seat_lock.specs.declared.views.Stage.{Stage}
-use Rattle.seat_lock.specs.declared.views.Stage.TheVariants.{Idle, Waiting, Holding}
-use Rattle.seat_lock.specs.declared.views.View.{View}
-use Rattle.seat_lock.specs.Story.{Meaning}
-use Rattle.seat_lock.specs.Rule.{total, same, ticket_at, waits, holding, holds_slot, has_ticket, at_ticket, weight, AtStage, Fits, AtHome, IsOut, Kept}
-use Rattle.seat_lock.specs.Steps.{Seated, ticket_of, looked}
 use Rattle.seat_lock.proofs.Sums.{some_is, total-set, total-le, total-one, term_le, terms_le, some_term, each_set, set_same_word, begins_self}
 
 module _ {T E : Type 0} (m : Meaning T E) (base : T) (owners : List ℕ) where

@@ -1,10 +1,6 @@
 -- A list without its last element, seen through a function.
-use Rattle.std.proofs.Common.{◌≡◌, ℕ, ◌-◌, List, [], ◌∷◌, ◌++◌, All, append-nil, length, map, take, get_or, refl, sym, ap, ◌∙◌, subst, arith, length-append}
-use Rattle.std.proofs.lemmas.List.{length-map}
+use Rattle.seat_lock.proofs.Names.{◌≡◌, ℕ, ◌-◌, List, [], ◌∷◌, ◌++◌, All, append-nil, length, map, take, get_or, refl, sym, ap, ◌∙◌, subst, arith, length-append, length-map, Seat, View, Known, knows, fresh}
 use Rattle.seat_lock.proofs.Gathering.{all_middle, all_before}
-use Rattle.atomic_table.specs.declared.shared.Seat.{Seat}
-use Rattle.seat_lock.specs.declared.views.View.{View}
-use Rattle.seat_lock.specs.Words.{Known, knows, fresh}
 
 module _ {A : Type 0} (f : A → ℕ) (p : A) where
   front_of : (qs : List A) → map f qs ≡ take (length qs) (map f (qs ++ p ∷ []))

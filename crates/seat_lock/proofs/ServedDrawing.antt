@@ -1,14 +1,7 @@
 -- Drawing the ticket that is served keeps the rule, and so does finding another.
-use Rattle.std.proofs.Common.{◌≡◌, ◌==◌, ℕ, ◌+◌, ◌%◌, ◌<◌, List, length, get_or, sym, refl, ap, ◌∙◌, subst}
+use Rattle.seat_lock.proofs.Names.{◌≡◌, ◌==◌, ℕ, ◌+◌, ◌%◌, ◌<◌, List, length, get_or, sym, refl, ap, ◌∙◌, subst, Act, step, keeps, Valid, stepped, carried_after, Allows, exchanged, Idle, View, Meaning, Kept, Seated, drew_if}
 use mathlib.Core.Option.{none}
-use Rattle.atomic_table.specs.Table.{Act, step, keeps, Valid, stepped, carried_after, Allows}
-use Rattle.atomic_table.proofs.Lists.{exchanged}
 use prog.Atomic.{either}
-use Rattle.seat_lock.specs.declared.views.Stage.TheVariants.{Idle}
-use Rattle.seat_lock.specs.declared.views.View.{View}
-use Rattle.seat_lock.specs.Story.{Meaning}
-use Rattle.seat_lock.specs.Rule.{Kept}
-use Rattle.seat_lock.specs.Steps.{Seated, drew_if}
 use Rattle.seat_lock.proofs.Drawing.{draws}
 use Rattle.seat_lock.proofs.Looking.{unmoved}
 

@@ -1,16 +1,6 @@
 -- What the public words say of views, passes and visits.
-use Rattle.std.proofs.Common.{◌≡◌, ℕ, List, [], ◌∷◌, ◌++◌, length, map, All, Some, refl, sym, ap, ◌∙◌, subst, arith}
-use Rattle.std.specs.declared.snapshot.Snapshot.{Snapshot}
-use Rattle.atomic_table.specs.Seated.{TableId}
-use Rattle.atomic_table.specs.declared.shared.Seat.{Seat}
-use Rattle.seat_lock.specs.declared.views.Part.{Part}
-use Rattle.seat_lock.specs.declared.views.View.{View}
+use Rattle.seat_lock.proofs.Names.{◌≡◌, ℕ, List, [], ◌∷◌, ◌++◌, length, map, All, Some, refl, sym, ap, ◌∙◌, subst, arith, Snapshot, TableId, Seat, Part, View, Begins, HasOwn, entries_of, owned_in, holding, founder, all_parts, AreNew, Belongs, Known, IsInside, CarriesOn, shown, knows, fresh, base_in, owner_in, own_in}
 use Rattle.seat_lock.specs.declared.locks.Visit.{Visit}
-use Rattle.seat_lock.specs.Story.{Begins, HasOwn, entries_of, owned_in}
-use Rattle.seat_lock.specs.Rule.{holding}
-use Rattle.seat_lock.specs.Steps.{founder, all_parts}
-use Rattle.seat_lock.specs.Passes.{AreNew, Belongs}
-use Rattle.seat_lock.specs.Words.{Known, IsInside, CarriesOn, shown, knows, fresh, base_in, owner_in, own_in}
 use Rattle.seat_lock.proofs.Beginnings.{own_adds}
 use Rattle.seat_lock.proofs.Gathering.{all_cons}
 

@@ -1,20 +1,9 @@
 -- Seats that are split and joined keep the rule.
-use Rattle.std.proofs.Common.{◌≡◌, ℕ, ◌+◌, ◌<◌, ◌≤◌, ◌≢◌, zero, suc, List, [], ◌∷◌, ◌++◌, length, set, sym, refl, ap, ◌∙◌, subst, inl, inr, ⊎_elim, arith, Some, All}
-use Rattle.std.specs.declared.snapshot.Snapshot.{Snapshot}
+use Rattle.seat_lock.proofs.Names.{◌≡◌, ℕ, ◌+◌, ◌<◌, ◌≤◌, ◌≢◌, zero, suc, List, [], ◌∷◌, ◌++◌, length, set, sym, refl, ap, ◌∙◌, subst, inl, inr, ⊎_elim, arith, Some, All, Snapshot, State, step, keeps, Allows, Splits, Joins, opening, Final, Seen, at_set, at_snoc, Stage, Idle, Waiting, Holding, Part, View, Meaning, Begins, HasOwn, longer, total, same, ticket_at, waits, holding, holds_slot, has_ticket, at_ticket, weight, AtStage, Fits, AtHome, IsOut, IsOneOf, Kept, Seated, founder, all_parts, nobody, dealing, dealt_out, note, informed, gathered, learned, All-nil}
 use mathlib.Core.Option.{Option, none, some, some-injective, some-ne-none}
 use lib.ListN.{get_elem?}
-use Rattle.atomic_table.specs.Table.{State, step, keeps, Allows, Splits, Joins, opening, Final, Seen}
-use Rattle.atomic_table.proofs.Lists.{at_set, at_snoc}
-use Rattle.seat_lock.specs.declared.views.Stage.{Stage}
-use Rattle.seat_lock.specs.declared.views.Stage.TheVariants.{Idle, Waiting, Holding}
-use Rattle.seat_lock.specs.declared.views.Part.{Part}
-use Rattle.seat_lock.specs.declared.views.View.{View}
-use Rattle.seat_lock.specs.Story.{Meaning, Begins, HasOwn, longer}
-use Rattle.seat_lock.specs.Rule.{total, same, ticket_at, waits, holding, holds_slot, has_ticket, at_ticket, weight, AtStage, Fits, AtHome, IsOut, IsOneOf, Kept}
-use Rattle.seat_lock.specs.Steps.{Seated, founder, all_parts, nobody, dealing, dealt_out, note, informed, gathered, learned}
 use Rattle.seat_lock.proofs.Sums.{total-append, total-set, total-one, terms_le, some_term, some_is, each_set}
 use Rattle.seat_lock.proofs.Beginnings.{longer_is, squeeze, own_append, own_first, own_others, total-parts}
-use Rattle.std.proofs.lemmas.List.Elements.{All-nil}
 use Rattle.seat_lock.proofs.Looking.{unmoved}
 
 heard_is : {E : Type 0} (a l : List E) → (let some_a : Option (List E) = some a in some_a ≡ some l) → a ≡ l

@@ -1,18 +1,7 @@
 -- A visit's steps keep the rule.
-use Rattle.std.proofs.Common.{◌≡◌, ℕ, ◌+◌, ◌-◌, ◌%◌, ◌≤◌, ◌≢◌, List, [], ◌∷◌, ◌++◌, length, get_or, set, sym, refl, ap, ◌∙◌, subst, inl, inr, ⊎_elim, arith, length-append, append-nil, slice_index_or, Some}
-use Rattle.std.proofs.Math.Nat.{mod-add-mod}
-use Rattle.std.specs.declared.snapshot.Snapshot.{Snapshot}
+use Rattle.seat_lock.proofs.Names.{◌≡◌, ℕ, ◌+◌, ◌-◌, ◌%◌, ◌≤◌, ◌≢◌, List, [], ◌∷◌, ◌++◌, length, get_or, set, sym, refl, ap, ◌∙◌, subst, inl, inr, ⊎_elim, arith, length-append, append-nil, slice_index_or, Some, mod-add-mod, Snapshot, State, step, keeps, gives, put_back, Allows, at_set, Stage, Idle, Waiting, Holding, Part, View, Meaning, HasOwn, owned_in, total, same, ticket_at, waits, holding, holds_slot, has_ticket, at_ticket, weight, AtStage, Fits, AtHome, IsOut, IsOneOf, Kept, Seated, staged, noted, left, posted, tested}
 use mathlib.Core.Option.{none, some}
 use lib.ListN.{get_elem?}
-use Rattle.atomic_table.specs.Table.{State, step, keeps, gives, put_back, Allows}
-use Rattle.atomic_table.proofs.Lists.{at_set}
-use Rattle.seat_lock.specs.declared.views.Stage.{Stage}
-use Rattle.seat_lock.specs.declared.views.Stage.TheVariants.{Idle, Waiting, Holding}
-use Rattle.seat_lock.specs.declared.views.Part.{Part}
-use Rattle.seat_lock.specs.declared.views.View.{View}
-use Rattle.seat_lock.specs.Story.{Meaning, HasOwn, owned_in}
-use Rattle.seat_lock.specs.Rule.{total, same, ticket_at, waits, holding, holds_slot, has_ticket, at_ticket, weight, AtStage, Fits, AtHome, IsOut, IsOneOf, Kept}
-use Rattle.seat_lock.specs.Steps.{Seated, staged, noted, left, posted, tested}
 use Rattle.seat_lock.proofs.Sums.{total-set, term_le, terms_le, each_set, set_same_word, begins_self, set_board, get_board, on_board}
 use Rattle.seat_lock.proofs.Beginnings.{begins_more, own_other}
 use Rattle.seat_lock.proofs.Gathering.{all_after}

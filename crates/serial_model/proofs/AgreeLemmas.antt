@@ -1,20 +1,9 @@
 -- Answers that agree with a map: what they lead to, and that there are at most 10,000.
-use Rattle.std.proofs.Common.{◌≡◌, ℕ, zero, suc, ◌≤◌, Bool, true, false, List, [], ◌∷◌, ◌++◌, length, Result, Ok, Err, refl, sym, ap, ◌∙◌, arith}
-use Rattle.std.specs.Prelude.{if◌then◌else◌}
+use Rattle.serial_model.proofs.Names.{◌≡◌, ℕ, zero, suc, ◌≤◌, Bool, true, false, List, [], ◌∷◌, ◌++◌, length, Result, Ok, Err, refl, sym, ap, ◌∙◌, arith, if◌then◌else◌, Ending, FailKind, ObjectId, Value, Step, Let, Read, Write, Print, If, IfElse, Repeat, Withdraw, Block, End, Then, Objects, value_at, Names, with_name, value, object_at, condition, count, ToRead, ToWrite, Asks, Over, Answer, Got, Stored, AreAsked, Tree, Ends, Says, Reads, Writes, Onward, asked_with, asked_turns, asked, all_asked, denote, line_before, talked, talked_alone, left_by, stop, AnswersOf, left_after}
 use Rattle.std.specs.FinMap as finite
-use Rattle.value_form.specs.declared.endings.Ending.{Ending}
 use Rattle.value_form.specs.declared.endings.Ending.TheVariants as ending
-use Rattle.value_form.specs.declared.fail_kinds.FailKind.{FailKind}
-use Rattle.value_form.specs.declared.objects.ObjectId.{ObjectId}
 use Rattle.value_form.specs.declared.transcripts.Line.TheVariants as line
-use Rattle.value_form.specs.declared.values.Value.{Value}
-use Rattle.value_form.specs.Mirror.{Step, Let, Read, Write, Print, If, IfElse, Repeat, Withdraw, Block, End, Then}
-use Rattle.value_form.specs.Objects.{Objects, value_at}
-use Rattle.script_meaning.specs.Names.{Names, with_name}
-use Rattle.script_meaning.specs.Meaning.{value, object_at, condition, count, ToRead, ToWrite, Asks, Over, Answer, Got, Stored}
-use Rattle.serial_model.specs.Asked.{AreAsked}
 use Rattle.serial_model.proofs.AskedLemmas.{asked-few}
-use Rattle.serial_model.specs.Questions.{Tree, Ends, Says, Reads, Writes, Onward, asked_with, asked_turns, asked, all_asked, denote, line_before, talked, talked_alone, left_by, stop, AnswersOf, left_after}
 
 -- ---- one answer more
 

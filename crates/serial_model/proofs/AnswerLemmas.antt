@@ -1,11 +1,7 @@
 -- What answers make of a tree of questions.
-use Rattle.std.proofs.Common.{◌≡◌, List, [], ◌∷◌, ◌++◌, Some, None, refl, ap, ◌∙◌, subst}
+use Rattle.serial_model.proofs.Names.{◌≡◌, List, [], ◌∷◌, ◌++◌, Some, None, refl, ap, ◌∙◌, subst, Line, Objects, value_at, Request, ToRead, ToWrite, Asks, Answer, Got, Stored, answers_of, Tree, Ends, Says, Reads, Writes, Talked, line_before, waits, talked, talked_alone, stop, request_of, IsFrontOf}
 use Rattle.std.specs.FinMap as finite
-use Rattle.value_form.specs.declared.transcripts.Line.{Line}
 use Rattle.value_form.specs.declared.transcripts.Line.TheVariants as line
-use Rattle.value_form.specs.Objects.{Objects, value_at}
-use Rattle.script_meaning.specs.Meaning.{Request, ToRead, ToWrite, Asks, Answer, Got, Stored, answers_of}
-use Rattle.serial_model.specs.Questions.{Tree, Ends, Says, Reads, Writes, Talked, line_before, waits, talked, talked_alone, stop, request_of, IsFrontOf}
 
 -- where a talk stops
 pub talked-stop : (t : Tree) (ans : List Answer) → (talked t ans).stop ≡ stop t ans

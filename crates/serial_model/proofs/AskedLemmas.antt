@@ -1,15 +1,6 @@
 -- Answers to what a script asks: one answer more, those before one, and how many there are.
-use Rattle.std.proofs.Common.{◌≡◌, ℕ, zero, suc, ◌≤◌, Bool, true, false, List, [], ◌∷◌, ◌++◌, length, Result, Ok, Err, refl, sym, ap, ◌∙◌, arith}
-use Rattle.std.specs.Prelude.{if◌then◌else◌}
-use Rattle.value_form.specs.declared.endings.Ending.{Ending}
+use Rattle.serial_model.proofs.Names.{◌≡◌, ℕ, zero, suc, ◌≤◌, Bool, true, false, List, [], ◌∷◌, ◌++◌, length, Result, Ok, Err, refl, sym, ap, ◌∙◌, arith, if◌then◌else◌, Ending, FailKind, Value, Step, Let, Read, Write, Print, If, IfElse, Repeat, Withdraw, Block, End, Then, Names, with_name, value, object_at, condition, count, Answer, Got, Stored, Tree, Ends, Says, Reads, Writes, Onward, asked_with, asked_turns, asked, all_asked, denote, stop, IsAnswerTo, AreAsked}
 use Rattle.value_form.specs.declared.endings.Ending.TheVariants as ending
-use Rattle.value_form.specs.declared.fail_kinds.FailKind.{FailKind}
-use Rattle.value_form.specs.declared.values.Value.{Value}
-use Rattle.value_form.specs.Mirror.{Step, Let, Read, Write, Print, If, IfElse, Repeat, Withdraw, Block, End, Then}
-use Rattle.script_meaning.specs.Names.{Names, with_name}
-use Rattle.script_meaning.specs.Meaning.{value, object_at, condition, count, Answer, Got, Stored}
-use Rattle.serial_model.specs.Questions.{Tree, Ends, Says, Reads, Writes, Onward, asked_with, asked_turns, asked, all_asked, denote, stop}
-use Rattle.serial_model.specs.Asked.{IsAnswerTo, AreAsked}
 
 pub asked-none : (t : Tree) → AreAsked t []
 asked-none (Ends e) = tt

@@ -13,3 +13,4 @@ pub mod ScriptRangeLemmas
 pub mod StatementLemmas
 pub mod TestLemmas
 pub mod TextByteLemmas
+pub mod Names

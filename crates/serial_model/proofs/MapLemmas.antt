@@ -1,20 +1,11 @@
 -- A map of objects by the entries of a `BTreeMap`.
-use Rattle.std.proofs.Common.{◌≡◌, List, [], ◌∷◌, ◌++◌, cond, sym, refl, ap, ◌∙◌, Some, T, Bool, true, false, ◌&&◌, map, subst}
-use Rattle.std.specs.Prelude.{Option}
+use Rattle.serial_model.proofs.Names.{◌≡◌, List, [], ◌∷◌, ◌++◌, cond, sym, refl, ap, ◌∙◌, Some, T, Bool, true, false, ◌&&◌, map, subst, Option, empty, find, get, insert, entries, from_entries, from_sorted, is_sorted, get-from_entries, get-from_sorted, get-insert, entries-from_sorted, same_map, ObjectId, Value, is_lt, AllByRecursion, object_cmp, Objects, object_cmp-total, object_cmp-exact, onto}
 use Rattle.std.specs.BTreeMap.{is_at}
 use Rattle.std.specs.Map.{lookup}
-use Rattle.std.specs.FinMap.{empty, find, get, insert, entries, from_entries, from_sorted, is_sorted, get-from_entries, get-from_sorted, get-insert, entries-from_sorted, same_map}
 use Rattle.std.proofs.lemmas.Cmp.{eq_by_cmp_equiv}
-use Rattle.value_form.specs.declared.objects.ObjectId.{ObjectId}
-use Rattle.value_form.specs.declared.values.Value.{Value}
-use Rattle.std.specs.Ordering.{is_lt}
 use Rattle.std.specs.declared.cmp.Ordering.TheVariants.{Less}
 use Rattle.std.specs.FinMap.Entries.{below_all}
-use Rattle.std.specs.List.{AllByRecursion}
 use Rattle.std.specs.List.Sorted.{IsStrictlySortedBy}
-use Rattle.value_form.specs.Objects.{object_cmp, Objects}
-use Rattle.value_form.proofs.ObjectLemmas.{object_cmp-total, object_cmp-exact}
-use Rattle.serial_model.specs.Overlays.{onto}
 
 -- what a `BTreeMap` with these entries has
 abbrev pub found_at : List (ObjectId × Value) → ObjectId → Option Value

@@ -1,16 +1,7 @@
 -- Where the values of a script's names have bytes, so have those of its expressions.
-use Rattle.std.proofs.Common.{ℕ, cond, List, [], ◌∷◌}
-use Rattle.std.specs.Prelude.{IfOk, ◌==◌}
+use Rattle.serial_model.proofs.Names.{ℕ, cond, List, [], ◌∷◌, IfOk, ◌==◌, Every, Value, Term, Number, Text, Nothing, Name, Before, Between, Applied, Given, Spot, Fixed, At, IsObject, IsValue, Names, name_value, with_name, value, object_at, TermInRange, SpotInRange}
 use Rattle.std.specs.Cmp.Lexicographic.{pointwise}
-use Rattle.pseudo_time.specs.Lists.{Every}
-use Rattle.value_form.specs.declared.values.Value.{Value}
-use Rattle.value_form.specs.Mirror.{Term, Number, Text, Nothing, Name, Before, Between, Applied, Given, Spot, Fixed, At}
-use Rattle.value_form.specs.ObjectBytes.{IsObject}
-use Rattle.value_form.specs.ValueBytes.{IsValue}
-use Rattle.script_meaning.specs.Names.{Names, name_value, with_name}
-use Rattle.script_meaning.specs.Meaning.{value, object_at}
 use Rattle.serial_model.proofs.TestLemmas.{by_test}
-use Rattle.serial_model.specs.Ranges.{TermInRange, SpotInRange}
 use Rattle.serial_model.proofs.OperationLemmas.{then-IfOk, infix_value-IsValue, prefix_value-IsValue, call_value-IsValue, given_value-IsValue, object_in-IsObject}
 
 -- the value of each name has bytes

@@ -1,25 +1,11 @@
 -- Operations on values that have bytes give values that have bytes.
-use Rattle.std.proofs.Common.{◌≡◌, ℕ, zero, suc, ◌+◌, ◌<◌, ◌≤◌, ◌^◌, nat_le, nat_lt, Bool, true, false, not, cond, ◌&&◌, ◌||◌, List, [], ◌∷◌, ◌++◌, length, Result, Ok, Err, refl, arith}
-use Rattle.std.specs.Prelude.{ℤ, pos, negsuc, ◌+ℤ◌, ◌-ℤ◌, ◌*ℤ◌, FitsSigned, IfOk, neg_ℤ, int_div, int_rem, unsigned_abs, codes}
-use Rattle.std.specs.Int.{w64}
-use Rattle.std.specs.List.{list_all}
-use Rattle.std.proofs.lemmas.Bool.Decides.{nat_tests}
-use Rattle.std.proofs.lemmas.Fmt.{IsAscii-signed, length_signed_le}
+use Rattle.serial_model.proofs.Names.{◌≡◌, ℕ, zero, suc, ◌+◌, ◌<◌, ◌≤◌, ◌^◌, nat_le, nat_lt, Bool, true, false, not, cond, ◌&&◌, ◌||◌, List, [], ◌∷◌, ◌++◌, length, Result, Ok, Err, refl, arith, ℤ, pos, negsuc, ◌+ℤ◌, ◌-ℤ◌, ◌*ℤ◌, FitsSigned, IfOk, neg_ℤ, int_div, int_rem, unsigned_abs, codes, w64, list_all, nat_tests, IsAscii-signed, length_signed_le, length-append, IsBytes, FailKind, Value, Prefix, Infix, Call, IsObject, IsValue}
 use Rattle.std.proofs.lemmas.Int.{rem_below, fits_signed_from_abs}
-use Rattle.std.proofs.lemmas.List.{length-append}
-use Rattle.field_form.specs.Forms.{IsBytes}
-use Rattle.value_form.specs.declared.fail_kinds.FailKind.{FailKind}
 use Rattle.value_form.specs.declared.fail_kinds.FailKind.TheVariants as fails
-use Rattle.value_form.specs.declared.values.Value.{Value}
 use Rattle.value_form.specs.declared.values.Value.TheVariants as v
-use Rattle.value_form.specs.declared.expressions.Prefix.{Prefix}
 use Rattle.value_form.specs.declared.expressions.Prefix.TheVariants as sign
-use Rattle.value_form.specs.declared.expressions.Infix.{Infix}
 use Rattle.value_form.specs.declared.expressions.Infix.TheVariants as op
-use Rattle.value_form.specs.declared.expressions.Call.{Call}
 use Rattle.value_form.specs.declared.expressions.Call.TheVariants as call
-use Rattle.value_form.specs.ObjectBytes.{IsObject}
-use Rattle.value_form.specs.ValueBytes.{IsValue}
 use Rattle.script_meaning.specs.Operations.{◌>>=◌, number_in, text_in, fits, fitting, is_zero, truth, sum, difference, product, quotient, remainder, either, both, numbers, same, order, holds, compared, texts_joined, joined, printed, as_text, infix_value, prefix_value, call_value, given_value, object_in}
 use Rattle.serial_model.proofs.TestLemmas.{by_test, both_hold}
 

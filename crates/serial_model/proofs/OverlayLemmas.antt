@@ -1,14 +1,6 @@
 -- What a map over another has.
-use Rattle.std.proofs.Common.{◌≡◌, List, [], ◌∷◌, Some, None, Bool, true, false, cond, refl, sym, ap, ◌∙◌}
-use Rattle.std.specs.Prelude.{Option, unwrap_or}
-use Rattle.std.specs.Ordering.{eq_by_cmp}
-use Rattle.std.specs.FinMap.{find, get, insert, entries, get-entries, get-insert, same_map, empty, get-empty}
-use Rattle.value_form.specs.declared.objects.ObjectId.{ObjectId}
-use Rattle.value_form.specs.declared.values.Value.{Value}
+use Rattle.serial_model.proofs.Names.{◌≡◌, List, [], ◌∷◌, Some, None, Bool, true, false, cond, refl, sym, ap, ◌∙◌, Option, unwrap_or, eq_by_cmp, find, get, insert, entries, get-entries, get-insert, same_map, empty, get-empty, ObjectId, Value, object_cmp, Objects, value_at, object_cmp-total, object_cmp-exact, onto, overlaid}
 use Rattle.value_form.specs.declared.values.Value.TheVariants.{Nothing}
-use Rattle.value_form.specs.Objects.{object_cmp, Objects, value_at}
-use Rattle.value_form.proofs.ObjectLemmas.{object_cmp-total, object_cmp-exact}
-use Rattle.serial_model.specs.Overlays.{onto, overlaid}
 
 -- the first, or the second where that is none
 abbrev pub or_below : Option Value → Option Value → Option Value

@@ -1,18 +1,8 @@
 -- In every world the meaning of a script is the walk through its tree of questions.
-use Rattle.std.proofs.Common.{◌≡◌, ℕ, zero, suc, Bool, true, false, List, [], ◌∷◌, ◌++◌, Option, Some, None, Result, Ok, Err, refl, sym, ap, ◌∙◌, append_assoc, append-nil}
-use Rattle.std.specs.Prelude.{if◌then◌else◌}
+use Rattle.serial_model.proofs.Names.{◌≡◌, ℕ, zero, suc, Bool, true, false, List, [], ◌∷◌, ◌++◌, Option, Some, None, Result, Ok, Err, refl, sym, ap, ◌∙◌, append_assoc, append-nil, if◌then◌else◌, ObjectId, Value, FailKind, Line, Names, with_name, Objects, value_at, Step, Let, Read, Write, Print, If, IfElse, Repeat, Withdraw, Block, End, Then, value, object_at, condition, count, line_of, ToRead, ToWrite, Stop, Asks, Over, Answers, State, Came, Course, Goes, Stops, then_do, counted, valued, read_of, write_of, turns, begun, all_done, finished, carried_out, over_objects, by_answers, Answer, Got, Stored, Tree, Ends, Says, Reads, Writes, Onward, asked_if_room, asked_with, asked_turns, asked, all_asked, denote, read_on, write_on, walk, Talked, line_before, talked, talked_alone, left_by}
 use Rattle.std.specs.FinMap as finite
-use Rattle.value_form.specs.declared.objects.ObjectId.{ObjectId}
-use Rattle.value_form.specs.declared.values.Value.{Value}
-use Rattle.value_form.specs.declared.fail_kinds.FailKind.{FailKind}
 use Rattle.value_form.specs.declared.endings.Ending.TheVariants as ending
-use Rattle.value_form.specs.declared.transcripts.Line.{Line}
 use Rattle.value_form.specs.declared.transcripts.Line.TheVariants as line
-use Rattle.script_meaning.specs.Names.{Names, with_name}
-use Rattle.value_form.specs.Objects.{Objects, value_at}
-use Rattle.value_form.specs.Mirror.{Step, Let, Read, Write, Print, If, IfElse, Repeat, Withdraw, Block, End, Then}
-use Rattle.script_meaning.specs.Meaning.{value, object_at, condition, count, line_of, ToRead, ToWrite, Stop, Asks, Over, Answers, State, Came, Course, Goes, Stops, then_do, counted, valued, read_of, write_of, turns, begun, all_done, finished, carried_out, over_objects, by_answers, Answer, Got, Stored}
-use Rattle.serial_model.specs.Questions.{Tree, Ends, Says, Reads, Writes, Onward, asked_if_room, asked_with, asked_turns, asked, all_asked, denote, read_on, write_on, walk, Talked, line_before, talked, talked_alone, left_by}
 
 module _ {W : Type 0} (A : Answers W) where
   -- what comes after an outcome

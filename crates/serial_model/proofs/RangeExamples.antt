@@ -1,16 +1,8 @@
 -- Worked examples of what is in range, and of what isn't.
-use Rattle.std.proofs.Common.{◌≡◌, ℕ, ◌^◌, List, [], ◌∷◌, length, refl, arith}
-use Rattle.std.specs.Prelude.{codes, pos}
+use Rattle.serial_model.proofs.Names.{◌≡◌, ℕ, ◌^◌, List, [], ◌∷◌, length, refl, arith, codes, pos, ObjectId, Number, Text, Name, Between, Fixed, At, Read, Write, Withdraw, Block, End, Then, IsObject, ToRead, ToWrite, Asks, Got, talk, Tree, Ends, Reads, Writes, TermInRange, SpotInRange, BlockInRange, StopInRange, AsksInRange, AnswerHasBytes}
 use Rattle.value_form.specs.declared.endings.Ending.TheVariants as ending
 use Rattle.value_form.specs.declared.expressions.Infix.TheVariants as op
-use Rattle.value_form.specs.declared.objects.ObjectId.{ObjectId}
 use Rattle.value_form.specs.declared.values.Value.TheVariants as v
-use Rattle.value_form.specs.Mirror.{Number, Text, Name, Between, Fixed, At, Read, Write, Withdraw, Block, End, Then}
-use Rattle.value_form.specs.ObjectBytes.{IsObject}
-use Rattle.script_meaning.specs.Meaning.{ToRead, ToWrite, Asks, Got, talk}
-use Rattle.serial_model.specs.Questions.{Tree, Ends, Reads, Writes}
-use Rattle.serial_model.specs.Ranges.{TermInRange, SpotInRange, BlockInRange, StopInRange}
-use Rattle.serial_model.specs.Requests.{AsksInRange, AnswerHasBytes}
 
 -- ---- `read x 3.7`, and then `write 16[x] x + 1`
 

@@ -1,19 +1,8 @@
 -- What a script in range asks for has bytes.
-use Rattle.std.proofs.Common.{ℕ, zero, suc, Bool, true, false, List, [], ◌∷◌, Result, Ok, Err, sym, subst}
-use Rattle.std.specs.Prelude.{IfOk, if◌then◌else◌}
-use Rattle.pseudo_time.specs.Lists.{Every}
-use Rattle.value_form.specs.declared.fail_kinds.FailKind.{FailKind}
+use Rattle.serial_model.proofs.Names.{ℕ, zero, suc, Bool, true, false, List, [], ◌∷◌, Result, Ok, Err, sym, subst, IfOk, if◌then◌else◌, Every, FailKind, Step, Let, Read, Write, Print, If, IfElse, Repeat, Withdraw, Block, End, Then, IsObject, IsValue, Names, with_name, line_of, value, object_at, condition, count, talk, Answer, Got, Stored, Tree, Ends, Says, Reads, Writes, Onward, asked_with, asked_turns, asked, all_asked, denote, talked, stop, IsLine, StepInRange, BlockInRange, StopInRange, AsksInRange, AnswerHasBytes}
 use Rattle.value_form.specs.declared.endings.Ending.TheVariants as ending
-use Rattle.value_form.specs.Mirror.{Step, Let, Read, Write, Print, If, IfElse, Repeat, Withdraw, Block, End, Then}
-use Rattle.value_form.specs.ObjectBytes.{IsObject}
-use Rattle.value_form.specs.ValueBytes.{IsValue}
-use Rattle.script_meaning.specs.Names.{Names, with_name}
-use Rattle.script_meaning.specs.Meaning.{line_of, value, object_at, condition, count, talk, Answer, Got, Stored}
-use Rattle.serial_model.specs.Questions.{Tree, Ends, Says, Reads, Writes, Onward, asked_with, asked_turns, asked, all_asked, denote, talked, stop}
 use Rattle.serial_model.proofs.ScriptLemmas.{talk_of}
 use Rattle.serial_model.proofs.AnswerLemmas.{talked-stop}
-use Rattle.serial_model.specs.Ranges.{IsLine, StepInRange, BlockInRange, StopInRange}
-use Rattle.serial_model.specs.Requests.{AsksInRange, AnswerHasBytes}
 use Rattle.serial_model.proofs.NameLemmas.{NamesHaveBytes, with_name-HaveBytes, value-IsValue, object_at-IsObject}
 
 -- ---- the tree of a script

@@ -1,10 +1,5 @@
 -- The laws of answers, for scripts.
-use Rattle.std.proofs.Common.{◌≡◌, List, ◌∷◌, ◌++◌, Some, sym, ap, ◌∙◌, subst}
-use Rattle.value_form.specs.declared.transcripts.Line.{Line}
-use Rattle.value_form.specs.Objects.{Objects}
-use Rattle.value_form.specs.Mirror.{Block}
-use Rattle.script_meaning.specs.Meaning.{Request, Asks, Answer, perform, talk, answers_of}
-use Rattle.serial_model.specs.Questions.{Talked, denote, talked_alone, talked, request_of, IsFrontOf, IsTalkOf}
+use Rattle.serial_model.proofs.Names.{◌≡◌, List, ◌∷◌, ◌++◌, Some, sym, ap, ◌∙◌, subst, Line, Objects, Block, Request, Asks, Answer, perform, talk, answers_of, Talked, denote, talked_alone, talked, request_of, IsFrontOf, IsTalkOf}
 use Rattle.serial_model.proofs.QuestionLemmas.{perform-told, talk-talked}
 use Rattle.serial_model.proofs.AnswerLemmas.{talked-answers_of, talked-append, talked-front}
 

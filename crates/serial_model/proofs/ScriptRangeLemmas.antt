@@ -1,14 +1,6 @@
 -- A script of the language is in range: its lines, numbers, texts and objects are.
-use Rattle.std.proofs.Common.{ℕ, ◌+◌, ◌≤◌, List, [], ◌∷◌, ◌++◌, arith}
-use Rattle.std.proofs.lemmas.Bool.Decides.{nat_tests}
-use Rattle.pseudo_time.specs.Lists.{Every}
-use Rattle.value_form.specs.Mirror.{Term, Number, Text, Nothing, Name, Before, Between, Applied, Given, Spot, Fixed, At, Step, Let, Read, Write, Print, If, IfElse, Repeat, Withdraw, Block, End, Then}
-use Rattle.expression_form.specs.Texts.{InLimits}
+use Rattle.serial_model.proofs.Names.{ℕ, ◌+◌, ◌≤◌, List, [], ◌∷◌, ◌++◌, arith, nat_tests, Every, Term, Number, Text, Nothing, Name, Before, Between, Applied, Given, Spot, Fixed, At, Step, Let, Read, Write, Print, If, IfElse, Repeat, Withdraw, Block, End, Then, InLimits, Numbered, on, step_rows, rows, SpotInLimits, RowInLimits, next_line, Rising, RowsInLimits, IsPrintable, IsLine, TermInRange, SpotInRange, StepInRange, BlockInRange}
 use Rattle.script_form.specs.Row as r
-use Rattle.script_form.specs.Rows.{Numbered, on, step_rows, rows}
-use Rattle.script_form.specs.RowTexts.{SpotInLimits, RowInLimits, next_line}
-use Rattle.script_form.specs.Printable.{Rising, RowsInLimits, IsPrintable}
-use Rattle.serial_model.specs.Ranges.{IsLine, TermInRange, SpotInRange, StepInRange, BlockInRange}
 use Rattle.serial_model.proofs.TextByteLemmas.{passing-IsBytes}
 
 -- a row on a line of a script, with what is in its limits

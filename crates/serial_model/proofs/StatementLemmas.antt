@@ -1,16 +1,9 @@
 -- A statement with parts, once its value is known.
-use Rattle.std.proofs.Common.{◌≡◌, ℕ, zero, suc, ◌+◌, ◌-◌, ◌<◌, Bool, true, false, List, [], ◌∷◌, length, get_or, drop, ◌≤◌, Result, Ok, sym, ap, ◌∙◌, subst, arith}
-use Rattle.std.specs.Prelude.{if◌then◌else◌}
-use Rattle.std.proofs.lemmas.List.{drop_more}
+use Rattle.serial_model.proofs.Names.{◌≡◌, ℕ, zero, suc, ◌+◌, ◌-◌, ◌<◌, Bool, true, false, List, [], ◌∷◌, length, get_or, drop, ◌≤◌, Result, Ok, sym, ap, ◌∙◌, subst, arith, if◌then◌else◌, drop_more, FailKind, Step, Let, Read, Write, Print, If, IfElse, Repeat, Withdraw, Block, End, Then, term, plain, block, Objects, IsStep, IsBlock, State, Course, Goes, then_do, valued, turns, begun, all_done, over_objects, condition, count}
 use Rattle.value_form.specs.declared.expressions.Expr.{Expr}
-use Rattle.value_form.specs.declared.fail_kinds.FailKind.{FailKind}
 use Rattle.value_form.specs.declared.scripts.Stmt.{Stmt}
 use Rattle.value_form.specs.declared.scripts.Stmt.TheVariants as s
-use Rattle.value_form.specs.Mirror.{Step, Let, Read, Write, Print, If, IfElse, Repeat, Withdraw, Block, End, Then, term, plain, block}
 use Rattle.value_form.specs.MirrorLaws.{plain-if, plain-if_else, plain-repeat}
-use Rattle.value_form.specs.Objects.{Objects}
-use Rattle.value_form.specs.Ranges.{IsStep, IsBlock}
-use Rattle.script_meaning.specs.Meaning.{State, Course, Goes, then_do, valued, turns, begun, all_done, over_objects, condition, count}
 
 abbrev St : Type 0
 St = State Objects

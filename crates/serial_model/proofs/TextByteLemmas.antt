@@ -1,30 +1,16 @@
 -- The text of a script of the language is one of bytes.
-use Rattle.std.proofs.Common.{◌≡◌, ℕ, zero, suc, ◌+◌, ◌-◌, ◌/◌, ◌%◌, ◌<◌, ◌≤◌, ◌^◌, nat_lt, nat_le, ◌==◌, Bool, true, false, cond, List, [], ◌∷◌, ◌++◌, length, refl, arith, subst, replicate}
-use Rattle.std.specs.Prelude.{codes}
+use Rattle.serial_model.proofs.Names.{◌≡◌, ℕ, zero, suc, ◌+◌, ◌-◌, ◌/◌, ◌%◌, ◌<◌, ◌≤◌, ◌^◌, nat_lt, nat_le, ◌==◌, Bool, true, false, cond, List, [], ◌∷◌, ◌++◌, length, refl, arith, subst, replicate, codes, is_in_range, flat_map, nat_tests, IsAscii-decimal, IsBytes, Prefix, Infix, Call, Term, Number, Text, Nothing, Name, Before, Between, Applied, Given, Spot, Fixed, At, Block, text, prefix_text, parenthesized_if, InLimits, Numbered, rows, SpotInLimits, RowInLimits, spot_text, row_text, line_text, rows_text, script_text, RowsInLimits, IsPrintable}
 use Rattle.std.specs.Fmt.{decimal}
-use Rattle.std.specs.Int.{is_in_range}
-use Rattle.std.specs.List.{flat_map}
-use Rattle.std.proofs.lemmas.Bool.Decides.{nat_tests}
-use Rattle.std.proofs.lemmas.Fmt.{IsAscii-decimal}
-use Rattle.field_form.specs.Forms.{IsBytes}
-use Rattle.value_form.specs.declared.expressions.Prefix.{Prefix}
 use Rattle.value_form.specs.declared.expressions.Prefix.TheVariants as p
-use Rattle.value_form.specs.declared.expressions.Infix.{Infix}
 use Rattle.value_form.specs.declared.expressions.Infix.TheVariants as op
-use Rattle.value_form.specs.declared.expressions.Call.{Call}
 use Rattle.value_form.specs.declared.expressions.Call.TheVariants as call
-use Rattle.value_form.specs.Mirror.{Term, Number, Text, Nothing, Name, Before, Between, Applied, Given, Spot, Fixed, At, Block}
 use Rattle.value_form.specs.TextForm.{byte_text, hex_digit_of, quoted_text}
 use Rattle.token_form.specs.Tokens.{AllPass, IsName, is_byte, is_letter, is_name_byte, spelling}
 use Rattle.token_form.specs.declared.tokens.Token.TheVariants as t
 use Rattle.expression_form.specs.Levels.{infix_level, left_level, prefix_level, infix_token, call_token}
 use Rattle.expression_form.specs.Canonical.{is_looser}
-use Rattle.expression_form.specs.Texts.{text, prefix_text, parenthesized_if, InLimits}
 use Rattle.script_form.specs.Row as r
 use Rattle.script_form.specs.Row.{Row}
-use Rattle.script_form.specs.Rows.{Numbered, rows}
-use Rattle.script_form.specs.RowTexts.{SpotInLimits, RowInLimits, spot_text, row_text, line_text, rows_text, script_text}
-use Rattle.script_form.specs.Printable.{RowsInLimits, IsPrintable}
 use Rattle.serial_model.proofs.OperationLemmas.{bytes-IsBytes, IsBytes-append}
 use Rattle.serial_model.proofs.TestLemmas.{by_test}
 

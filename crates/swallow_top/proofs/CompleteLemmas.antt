@@ -1,18 +1,6 @@
 -- What must succeed, succeeds: from what the shelf gave and got back to a complete run.
-use Rattle.std.proofs.Common.{◌≡◌, ◌+◌, ◌≤◌, ◌==◌, ◌∙◌, nat_lt, ◌<◌, ◌++◌, ℕ, zero, suc, Bool, true, false, IsTrue, List, [], ◌∷◌, cond, length, map, Option, Some, None, Ok, slice_get, refl, ap, sym, subst, arith, if◌then◌else◌}
-use Rattle.swallow_top.proofs.Names.{AllZip, nat_tests, Every, Has, broker, NodeId, Rose, RoseBy, rise_of_fewer, storage, Plan, IsOfLanguage, book, keep, Trace, in_plan, open_acts, Options, Media, Opening, Open, Shut, Wanting, HasOpened, place_of, Tellers, account_of, Became, inner, medium_at, Ran, WentSmoothly, IsSmoothRun, blank-none, IsGiven, IsTaken, ShelfSight, first_names, kept_under, Kept, HasVolumes, NodeVolumes, all_left, all_taken, names_from, work_taken, zip-long, status_of, Sinking}
-use Rattle.std.specs.List.{count_by}
-use Rattle.std.proofs.lemmas.Bool.{false≢true}
+use Rattle.swallow_top.proofs.Names.{AllZip, nat_tests, Every, Has, broker, NodeId, Rose, RoseBy, rise_of_fewer, storage, Plan, IsOfLanguage, book, keep, Trace, in_plan, open_acts, Options, Media, Opening, Open, Shut, Wanting, HasOpened, place_of, Tellers, account_of, Became, inner, medium_at, Ran, WentSmoothly, IsSmoothRun, blank-none, IsGiven, IsTaken, ShelfSight, first_names, kept_under, Kept, HasVolumes, NodeVolumes, all_left, all_taken, names_from, work_taken, zip-long, status_of, Sinking, ◌≡◌, ◌+◌, ◌≤◌, ◌==◌, ◌∙◌, nat_lt, ◌<◌, ◌++◌, ℕ, zero, suc, Bool, true, false, IsTrue, List, [], ◌∷◌, cond, length, map, Option, Some, None, Ok, slice_get, refl, ap, sym, subst, arith, if◌then◌else◌, count_by, false≢true, slice_get-get_or, other_plan, plan_fault, fault_in, node_at, IsFirstFault, pages_for, volumes_of_blank, is_missing, volume_name, IsNodes, working, ends-some, working-below, IsSmooth, EndRightly, GoOn, follows, goes_on}
 use Rattle.std.proofs.lemmas.List.Sums.{sum_by-cons}
-use Rattle.std.proofs.lemmas.Option.{slice_get-get_or}
-use Rattle.broker_core.specs.Fits.{other_plan, plan_fault}
-use Rattle.plan_volumes.specs.Openings.{fault_in}
-use Rattle.plan_volumes.specs.Places.{node_at}
-use Rattle.run_rounds.specs.Runs.{IsFirstFault}
-use Rattle.swallow_top.specs.Smooth.{pages_for, volumes_of_blank}
-use Rattle.plan_volumes.specs.Shelves.{is_missing, volume_name}
-use Rattle.plan_volumes.specs.Volumes.{IsNodes, working}
-use Rattle.plan_volumes.proofs.ApartLemmas.{ends-some, working-below}
 use Rattle.pseudo_time.specs.declared.nodes.NodeKind.{NodeKind}
 use Rattle.pseudo_time.specs.declared.nodes.NodeKind.TheVariants.{Repository, Broker}
 use Rattle.medium_port.specs.Image.{Image, IsBlankImage}
@@ -21,8 +9,6 @@ use Rattle.broker_core.specs.declared.resume_faults.ResumeFault.TheVariants as r
 use Rattle.plan_volumes.proofs.OrderLemmas.{at-place}
 use Rattle.swallow_top.proofs.SmoothLemmas.{complete, none-down}
 use Rattle.swallow_top.proofs.StandingLemmas.{none-open}
-use Rattle.swallow_top.specs.Contract.{IsSmooth}
-use Rattle.plan_volumes.specs.RunVolumes.{EndRightly, GoOn, follows, goes_on}
 use Rattle.plan_volumes.proofs.PlaceLemmas.{node-given, node-there, volume-at, work-kept}
 use Rattle.run_rounds.proofs.DealLemmas.{some-within}
 

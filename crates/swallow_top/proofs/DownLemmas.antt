@@ -1,12 +1,8 @@
 -- A node that is down has the life at the end that it had when it went down.
-use Rattle.std.proofs.Common.{◌≡◌, ◌∙◌, ◌++◌, ◌&&◌, Bool, true, false, List, [], ◌∷◌, cond, refl, ap, sym, append_assoc, if◌then◌else◌}
-use Rattle.swallow_top.proofs.Names.{append-nil, filter-append, NodeId, DownCause, same_node-refl, Entry, Down, Base, names, own, start_world, walk, Meets}
-use Rattle.world_core.specs.Walks.{World, lives_on, step, walk_from}
-use Rattle.pseudo_time.specs.Nodes.{same_node}
+use Rattle.swallow_top.proofs.Names.{append-nil, filter-append, NodeId, DownCause, same_node-refl, Entry, Down, Base, names, own, start_world, walk, Meets, ◌≡◌, ◌∙◌, ◌++◌, ◌&&◌, Bool, true, false, List, [], ◌∷◌, cond, refl, ap, sym, append_assoc, if◌then◌else◌, World, lives_on, step, walk_from, same_node, fell, stays-down, stays-known, up-named}
 use Rattle.stream_port.specs.declared.fates.Fate.{Fate}
 use Rattle.world_core.proofs.Lives.{same-life, walk-append}
 use Rattle.world_core.proofs.Others.{Silent}
-use Rattle.run_rounds.proofs.FlagLemmas.{fell, stays-down, stays-known, up-named}
 
 silent-own : (n : NodeId) (es : List Entry) → Silent n es → own n es ≡ []
 silent-own n [] h = refl

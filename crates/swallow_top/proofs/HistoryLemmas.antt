@@ -1,8 +1,5 @@
 -- From volumes as they were opened to how the history of an object is told.
-use Rattle.std.proofs.Common.{◌≡◌, inl, inr, ℕ, List, [], ◌++◌, length, map, Option, refl, ap, sym, subst, ◌∙◌}
-use Rattle.swallow_top.proofs.Names.{length-map, AllZip-long, NodeId, DownCause, ObjectId, down_text, history_text, Opening, Media, HasOpened, medium_in, Kept, AllKept, kept_under, ShelfSight, first_names, node_log, logs_of, all-kept, back-all, TellsHistory, TellsVolumes, home_of, Sinking, EndsIfAny}
-use Rattle.plan_volumes.specs.RunVolumes.{AreOpen, AreVolumes}
-use Rattle.plan_volumes.proofs.StandLemmas.{given-back, stand-all}
+use Rattle.swallow_top.proofs.Names.{length-map, AllZip-long, NodeId, DownCause, ObjectId, down_text, history_text, Opening, Media, HasOpened, medium_in, Kept, AllKept, kept_under, ShelfSight, first_names, node_log, logs_of, all-kept, back-all, TellsHistory, TellsVolumes, home_of, Sinking, EndsIfAny, ◌≡◌, inl, inr, ℕ, List, [], ◌++◌, length, map, Option, refl, ap, sym, subst, ◌∙◌, AreOpen, AreVolumes, given-back, stand-all}
 use Rattle.plan_volumes.specs.Standings.{HasShut}
 
 module _ {M : Type 0} {g : _} (object : ObjectId) (os : List (Opening M g)) (status : ℕ) (s : Sinking) where

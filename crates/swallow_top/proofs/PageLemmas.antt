@@ -1,12 +1,7 @@
 -- Effects fill no more pages than each of them alone may.
-use Rattle.std.proofs.Common.{◌≡◌, ◌+◌, ◌≤◌, ◌∙◌, ◌++◌, nat_le, ℕ, List, [], ◌∷◌, reverse, refl, ap, sym, subst, arith, zero-add}
-use Rattle.std.proofs.lemmas.Bool.{cond-true}
-use Rattle.swallow_top.proofs.Names.{reverse-append, Every, Effect, pages_apart, filled_by}
-use Rattle.version_store.specs.Filling.{full_pages, own_pages}
-use Rattle.complete_law.specs.Calm.{most_filled}
+use Rattle.swallow_top.proofs.Names.{reverse-append, Every, Effect, pages_apart, filled_by, ◌≡◌, ◌+◌, ◌≤◌, ◌∙◌, ◌++◌, nat_le, ℕ, List, [], ◌∷◌, reverse, refl, ap, sym, subst, arith, zero-add, cond-true, full_pages, own_pages, most_filled, own-most}
 use Rattle.effect_form.specs.declared.effects.Effect.TheVariants as effect
 use Rattle.effect_form.specs.Effects.{IsEffect, size_of}
-use Rattle.version_store.proofs.FillingLemmas.{own-most}
 
 own-filled : (e : Effect) → IsEffect e → own_pages e ≤ most_filled e
 own-filled (effect.Run number) good = subst (λ (n : ℕ). n ≤ 1) (sym (cond-true (nat_le (size_of (effect.Run number)) 4091) 1 (full_pages (effect.Run number) + 1) refl)) (omega arith)

@@ -1,11 +1,6 @@
 -- What the parts of a call say, said in the words of its promise.
-use Rattle.std.proofs.Common.{◌≡◌, ◌⊎◌, ◌≤◌, ◌==◌, inl, inr, ℕ, Bool, true, false, IsTrue, List, [], ◌∷◌, length, Option, Result, Some, None, Ok, Err, refl, ap, sym, subst, ◌∙◌, arith, if◌then◌else◌}
-use Rattle.swallow_top.proofs.Names.{IsAtEnd, Every, Has, Plan, IsPlanFault, IsPlan, IsOfLanguage, Trace, open_acts, ObjectId, no_trace, Options, AreWords, Media, some_down, Account, AllKept, Kept, Wanted, Stop, CameOf, HasNoRun, RefusedAs, RunsPlan, AskedNothing, TellsHistory, TellsVolumes, OfInput, ReadsPlan, ShelfSight, Retired, Rule, TellsAnswer, TellsWatch, TellsRetired, TellsRetirement, mark_at, status_of, Sinking, Ends, EndsIfAny, VoteEnd, Told, IsInputFault, IsInput, IsPoll, PollLine, HavePolled, ReadsPolls, TellsVotes, limits_of, tellers_of, votes_status, Vec, Global}
+use Rattle.swallow_top.proofs.Names.{IsAtEnd, Every, Has, Plan, IsPlanFault, IsPlan, IsOfLanguage, Trace, open_acts, ObjectId, no_trace, Options, AreWords, Media, some_down, Account, AllKept, Kept, Wanted, Stop, CameOf, HasNoRun, RefusedAs, RunsPlan, AskedNothing, TellsHistory, TellsVolumes, OfInput, ReadsPlan, ShelfSight, Retired, Rule, TellsAnswer, TellsWatch, TellsRetired, TellsRetirement, mark_at, status_of, Sinking, Ends, EndsIfAny, VoteEnd, Told, IsInputFault, IsInput, IsPoll, PollLine, HavePolled, ReadsPolls, TellsVotes, limits_of, tellers_of, votes_status, Vec, Global, ◌≡◌, ◌⊎◌, ◌≤◌, ◌==◌, inl, inr, ℕ, Bool, true, false, IsTrue, List, [], ◌∷◌, length, Option, Result, Some, None, Ok, Err, refl, ap, sym, subst, ◌∙◌, arith, if◌then◌else◌, AreGiven, AreNone, AreOptions, IsWith, IsNoPlan, status_with, AreNoPolls}
 use Rattle.std.specs.Option.{unwrap_or}
-use Rattle.command_words.specs.Words.{AreGiven, AreNone, AreOptions, IsWith}
-use Rattle.swallow_top.specs.Contract.{IsNoPlan}
-use Rattle.swallow_top.specs.Tellings.{status_with}
-use Rattle.swallow_top.specs.Votes.{AreNoPolls}
 use Rattle.plan_form.specs.Making.{made_plan}
 use Rattle.plan_form.proofs.PlanTextLemmas.{plan_is_whole}
 use Rattle.command_words.specs.declared.commands.Command.{Command}

@@ -1,7 +1,5 @@
 -- How a retirement is told, and what is handed back of it.
-use Rattle.std.proofs.Common.{◌≡◌, ◌⊎◌, inl, inr, ℕ, List, length, ap, sym, subst, ◌∙◌}
-use Rattle.swallow_top.proofs.Names.{AllZip-long, IsBack, Media, Kept, AllKept, kept_under, ShelfSight, first_names, all-kept, Retired, AskedNothing, TellsRetired, TellsRetirement, mark_at, Sinking}
-use Rattle.pseudo_time.specs.Nodes.{repository as named}
+use Rattle.swallow_top.proofs.Names.{AllZip-long, IsBack, Media, Kept, AllKept, kept_under, ShelfSight, first_names, all-kept, Retired, AskedNothing, TellsRetired, TellsRetirement, mark_at, Sinking, ◌≡◌, ◌⊎◌, inl, inr, ℕ, List, length, ap, sym, subst, ◌∙◌, named}
 use Rattle.pseudo_time.specs.TimeParts.{TimeParts}
 use Rattle.retire_command.specs.Retires.{RetiresOver, TookNothing}
 use Rattle.retire_command.proofs.RetireLemmas.{comes-back}

@@ -1,13 +1,6 @@
 -- From how a run ended to what comes of its plan.
-use Rattle.std.proofs.Common.{◌≡◌, ◌⊎◌, inl, inr, ℕ, Bool, true, false, IsTrue, List, length, map, Option, refl, ap, sym, subst, ◌∙◌}
-use Rattle.swallow_top.proofs.Names.{AllZip, AllZip-long, Plan, IsOfLanguage, Trace, IsLegal, no_trace, Options, Media, AreBack, IsBack, IsLeftAlone, Ran, IsKeptWhole, Tellers, account_of, AllKept, ShelfSight, Kept, HasVolumes, NodeVolumes, work_taken, Wanted, CameOf, RunsPlan, status_of, Sinking}
+use Rattle.swallow_top.proofs.Names.{AllZip, AllZip-long, Plan, IsOfLanguage, Trace, IsLegal, no_trace, Options, Media, AreBack, IsBack, IsLeftAlone, Ran, IsKeptWhole, Tellers, account_of, AllKept, ShelfSight, Kept, HasVolumes, NodeVolumes, work_taken, Wanted, CameOf, RunsPlan, status_of, Sinking, ◌≡◌, ◌⊎◌, inl, inr, ℕ, Bool, true, false, IsTrue, List, length, map, Option, refl, ap, sym, subst, ◌∙◌, RanUntold, HasRanges, EndsAs, HadMemory, Completes, RanOver, WantedMemory, OfRun, TellsEnd, JustNodes}
 use Rattle.stream_port.specs.declared.fates.Asked.{Asked}
-use Rattle.run_rounds.specs.Runs.{RanUntold, HasRanges}
-use Rattle.run_rounds.specs.Finishes.{EndsAs}
-use Rattle.plan_volumes.specs.Volumes.{HadMemory}
-use Rattle.swallow_top.specs.Contract.{Completes, RanOver, WantedMemory}
-use Rattle.swallow_top.specs.Tellings.{OfRun, TellsEnd}
-use Rattle.world_core.specs.Legal.{JustNodes}
 use Rattle.run_rounds.specs.declared.ends.End.{End}
 use Rattle.run_rounds.specs.declared.ends.End.TheVariants as end
 use Rattle.complete_law.specs.Serials.{HoldsFinals, IsSerialOver}

@@ -1,16 +1,9 @@
 -- Media that are handed back under their names lose nothing.
-use Rattle.std.proofs.Common.{◌≡◌, ◌⊎◌, inl, inr, Bool, List, length, [], ◌∷◌, Option, Some, None, ap, map, sym, subst, ◌∙◌}
-use Rattle.swallow_top.proofs.Names.{AllZip, Every, storage, Plan, Opening, Open, Shut, Wanting, Media, AreBack, IsBack, IsLeftAlone, HasOpened, medium_in, IsKeptWhole, AllKept, kept_under, IsGiven, IsTaken, ShelfSight, Kept, IsAside, HasVolumes, NodeVolumes, all_left, all_taken, names_from, work_taken, zip-long}
-use Rattle.plan_volumes.specs.Media.{IsUntouched}
-use Rattle.run_rounds.specs.Finishes.{HasItsLog}
-use Rattle.plan_volumes.specs.Kept.{node_of}
-use Rattle.plan_volumes.specs.Asides.{AreApart}
+use Rattle.swallow_top.proofs.Names.{AllZip, Every, storage, Plan, Opening, Open, Shut, Wanting, Media, AreBack, IsBack, IsLeftAlone, HasOpened, medium_in, IsKeptWhole, AllKept, kept_under, IsGiven, IsTaken, ShelfSight, Kept, IsAside, HasVolumes, NodeVolumes, all_left, all_taken, names_from, work_taken, zip-long, ◌≡◌, ◌⊎◌, inl, inr, Bool, List, length, [], ◌∷◌, Option, Some, None, ap, map, sym, subst, ◌∙◌, IsUntouched, HasItsLog, node_of, AreApart, node_count, LosesNothing}
 use Rattle.medium_port.specs.declared.shelves.MediumName.{MediumName}
-use Rattle.plan_volumes.specs.Places.{node_count}
 use Rattle.plan_volumes.proofs.ShelfLemmas as volumes
 use Rattle.plan_volumes.specs.declared.asides.Aside.{Aside}
 use Rattle.plan_volumes.proofs.KeepLemmas.{all-opened, all-volumes, opened-back}
-use Rattle.swallow_top.specs.Contract.{LosesNothing}
 
 module _ {M : Type 0} (w : Media M) where
   -- what was opened is whole

@@ -1,29 +1,15 @@
 -- A smooth run is complete.
-use Rattle.std.proofs.Common.{◌≡◌, ◌⊎◌, ◌+◌, ◌≤◌, ◌∙◌, ◌++◌, ◌&&◌, ◌==◌, ℕ, zero, suc, Bool, true, false, IsTrue, List, [], ◌∷◌, Option, Some, None, is_some, length, reverse, slice_get, cond, inl, inr, refl, ap, sym, subst, arith, if◌then◌else◌}
-use Rattle.swallow_top.proofs.Names.{eqb-true, append-nil, length-map, filter-append, Every, Has, every-has, NodeId, DownCause, broker, same_node-refl, RoseBy, rise_of_fewer, Effect, Outcome, pages_apart, Plan, InRange, IsOfLanguage, Act, Book, Try, book, keep, reading, Entry, Take, Crash, Down, Tick, Trace, Base, names, own, start_world, walk, Meets, in_plan, IsLegal, counted_by, shown_end, tasks_of, Media, IsBack, place_of, some_down, Became, inner, medium_at, Account, Ran, HasOutcome, filled_by, AllBegun, WentSmoothly, IsSmoothRun, blank-none}
-use Rattle.pseudo_time.proofs.ListLemmas.{every-right, every-left, every-map, has-right}
-use Rattle.broker_core.specs.Book.{tries_of}
-use Rattle.world_core.specs.Walks.{Life, all_effects}
-use Rattle.world_core.specs.Legal.{base_of, fates_of, post_of}
-use Rattle.world_core.specs.Readings.{gated_log, life_after}
-use Rattle.run_rounds.specs.Ends.{HasEnded, IsUnopened}
-use Rattle.complete_law.specs.Calm.{AllDone, CalmPlace, CalmRun, IsUnstopped, MayStop, book_at, is_done_at, log_at, most_pages}
-use Rattle.swallow_top.specs.Smooth.{WasRefused}
-use Rattle.plan_volumes.proofs.BlankImageLemmas.{blank-count}
+use Rattle.swallow_top.proofs.Names.{eqb-true, append-nil, length-map, filter-append, Every, Has, every-has, NodeId, DownCause, broker, same_node-refl, RoseBy, rise_of_fewer, Effect, Outcome, pages_apart, Plan, InRange, IsOfLanguage, Act, Book, Try, book, keep, reading, Entry, Take, Crash, Down, Tick, Trace, Base, names, own, start_world, walk, Meets, in_plan, IsLegal, counted_by, shown_end, tasks_of, Media, IsBack, place_of, some_down, Became, inner, medium_at, Account, Ran, HasOutcome, filled_by, AllBegun, WentSmoothly, IsSmoothRun, blank-none, ◌≡◌, ◌⊎◌, ◌+◌, ◌≤◌, ◌∙◌, ◌++◌, ◌&&◌, ◌==◌, ℕ, zero, suc, Bool, true, false, IsTrue, List, [], ◌∷◌, Option, Some, None, is_some, length, reverse, slice_get, cond, inl, inr, refl, ap, sym, subst, arith, if◌then◌else◌, every-right, every-left, every-map, has-right, tries_of, Life, all_effects, base_of, fates_of, post_of, gated_log, life_after, HasEnded, IsUnopened, AllDone, CalmPlace, CalmRun, IsUnstopped, MayStop, book_at, is_done_at, log_at, most_pages, WasRefused, blank-count, filling-apart, and-left, down_cause, named-opened, one-down, told-of}
 use Rattle.pseudo_time.specs.declared.down_causes.DownCause.TheVariants as down
 use Rattle.effect_form.specs.declared.outcomes.Outcome.TheVariants as ended
-use Rattle.version_store.proofs.FillingLemmas.{filling-apart}
 use Rattle.value_form.proofs.ValueLaws.{ok_is}
 use Rattle.broker_core.specs.Owed.{all_over, done}
 use Rattle.broker_core.specs.declared.heards.Heard.{Heard}
-use Rattle.broker_core.proofs.SoundLemmas.{and-left}
 use Rattle.world_core.specs.Pasts.{WasNotOpened}
-use Rattle.world_core.specs.Counts.{down_cause}
 use Rattle.run_rounds.specs.Costs.{cost_of, costs}
 use Rattle.run_rounds.proofs.TrailLemmas.{costs-append}
 use Rattle.run_rounds.proofs.AlongLemmas.{zip-at}
 use Rattle.run_rounds.specs.Ends as ends
-use Rattle.run_rounds.proofs.FlagLemmas.{named-opened, one-down, told-of}
 use Rattle.complete_law.specs.Calm as calm
 use Rattle.complete_law.proofs.Counts.{few-pages}
 use Rattle.complete_law.proofs.Totals.{few-messages}

@@ -1,20 +1,10 @@
 -- Where its broker has begun all acts, and each has an outcome, an act is shown with its outcome.
-use Rattle.std.proofs.Common.{◌≡◌, ◌+◌, ◌-◌, ◌≤◌, ◌<◌, ◌∙◌, ◌++◌, ◌==◌, nat_lt, ℕ, zero, suc, Bool, true, false, List, [], ◌∷◌, Option, Some, None, length, map, reverse, slice_get, inl, inr, refl, ap, sym, subst, arith, if◌then◌else◌, ◌&&◌, nat_le}
-use Rattle.std.specs.Prelude.{cond, filter}
-use Rattle.swallow_top.proofs.Names.{eqb-true, nat_tests, length-append, length-map, reverse-append, Every, Has, broker, NodeId, Effect, Outcome, Plan, InRange, IsOfLanguage, Act, Book, Try, reading, counted_by, shown_end, tasks_of, HasOutcome, AllBegun, every-has}
-use Rattle.std.proofs.lemmas.Bool.{eq-eqb}
-use Rattle.std.proofs.lemmas.List.{length-reverse, map-append, reverse-reverse}
-use Rattle.std.proofs.lemmas.Option.{slice_get_within, same_Some}
-use Rattle.plan_form.specs.PlanTexts.{EachAct}
-use Rattle.run_rounds.specs.Acts.{act_begun, act_shown, act_with, acts_in, acts_shown, begun_acts, tries_shown, try_shown}
-use Rattle.complete_law.specs.Calm.{IsOver}
-use Rattle.pseudo_time.proofs.ListLemmas.{has-reverse}
+use Rattle.swallow_top.proofs.Names.{eqb-true, nat_tests, length-append, length-map, reverse-append, Every, Has, broker, NodeId, Effect, Outcome, Plan, InRange, IsOfLanguage, Act, Book, Try, reading, counted_by, shown_end, tasks_of, HasOutcome, AllBegun, every-has, ◌≡◌, ◌+◌, ◌-◌, ◌≤◌, ◌<◌, ◌∙◌, ◌++◌, ◌==◌, nat_lt, ℕ, zero, suc, Bool, true, false, List, [], ◌∷◌, Option, Some, None, length, map, reverse, slice_get, inl, inr, refl, ap, sym, subst, arith, if◌then◌else◌, ◌&&◌, nat_le, cond, filter, eq-eqb, length-reverse, map-append, reverse-reverse, slice_get_within, same_Some, EachAct, act_begun, act_shown, act_with, acts_in, acts_shown, begun_acts, tries_shown, try_shown, IsOver, has-reverse, sound-kept, IsFinal, IsFinished}
 use Rattle.value_form.specs.declared.acts.ActSpec.{ActSpec}
 use Rattle.effect_form.specs.declared.outcomes.Outcome.TheVariants as ended
 use Rattle.serial_model.specs.Questions.{Tree}
 use Rattle.broker_core.specs.Sound.{Started}
 use Rattle.broker_core.specs.Tasks.{Task, task_of, tasks}
-use Rattle.broker_core.proofs.SoundLemmas.{sound-kept}
 use Rattle.world_core.specs.Nodes.{acts_of}
 use Rattle.report_writer.specs.declared.records.ActReport.{ActReport}
 use Rattle.report_writer.specs.declared.records.TryReport.{TryReport}
@@ -22,7 +12,6 @@ use Rattle.report_writer.specs.declared.records.TryOutcome.{TryOutcome}
 use Rattle.report_writer.specs.declared.records.ActOutcome.{ActOutcome}
 use Rattle.report_writer.specs.declared.records.ActOutcome.TheVariants as standing
 use Rattle.report_writer.specs.Standings.{count_of, last_outcome, outcome_in, same, standing_after, standing_of, standing_where}
-use Rattle.swallow_top.specs.Smooth.{IsFinal, IsFinished}
 use Rattle.complete_law.proofs.Growths.{has-at, map-has, filter-has, has-filter, has-map}
 
 -- ---- lists and places

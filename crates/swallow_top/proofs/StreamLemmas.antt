@@ -1,9 +1,6 @@
 -- Bytes that are written one piece after another.
-use Rattle.std.proofs.Common.{◌≡◌, ℕ, ◌+◌, ◌-◌, ◌≤◌, List, length, take, drop, sym, arith, length-drop}
-use Rattle.swallow_top.proofs.Names.{Option, Appends, AppendsFront}
-use Rattle.std.specs.Io.KnownBytes.{Keeps}
+use Rattle.swallow_top.proofs.Names.{Option, Appends, AppendsFront, ◌≡◌, ℕ, ◌+◌, ◌-◌, ◌≤◌, List, length, take, drop, sym, arith, length-drop, Keeps, take-append-drop}
 use Rattle.std.proofs.Math.Seq.{take-add, take-length}
-use Rattle.std.proofs.lemmas.List.{take-append-drop}
 use Rattle.std.proofs.KnownBytes.{Appends-trans, Appends-kept}
 
 pub take-drop_rest : (bytes : List ℕ) (n : ℕ) → take (length bytes - n) (drop n bytes) ≡ drop n bytes

@@ -1,11 +1,7 @@
 -- Texts that are written, and what writing them asks.
-use Rattle.std.proofs.Common.{◌≡◌, ◌<◌, ◌≤◌, ◌^◌, ℕ, List, [], ◌∷◌, inl, inr, Ok, Err, subst, arith}
-use Rattle.swallow_top.proofs.Names.{Option, Result, IfOk, Appends, Every, Rose, Entry, Take, Crash, Down, Tick, Stop, AppendsFront, Ends, EndsIfAny, GotLine, Sinking, sinking}
-use Rattle.std.specs.Prelude.{OnOk, OnErr}
-use Rattle.world_core.specs.declared.entries.Entry.TheVariants.{Go, Learn, Hear, Gate}
+use Rattle.swallow_top.proofs.Names.{Option, Result, IfOk, Appends, Every, Rose, Entry, Take, Crash, Down, Tick, Stop, AppendsFront, Ends, EndsIfAny, GotLine, Sinking, sinking, ◌≡◌, ◌<◌, ◌≤◌, ◌^◌, ℕ, List, [], ◌∷◌, inl, inr, Ok, Err, subst, arith, OnOk, OnErr, Go, Learn, Hear, Gate, TellsText}
 use Rattle.run_rounds.specs.Clocked.{tick_moments}
 use Rattle.run_rounds.specs.Replays.{IsMoment}
-use Rattle.swallow_top.specs.Histories.{TellsText}
 
 -- a text, or a prefix of it where the count rose
 pub written : (old new : Option (List ℕ)) (before after : ℕ) (text : List ℕ) (r : Result (Unit {0}) Stop) → OnOk r (Appends old new text) → OnErr r (AppendsFront old new text) → OnErr r (Rose before after) → GotLine (sinking old new before after) text

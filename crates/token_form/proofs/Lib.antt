@@ -6,3 +6,4 @@ pub mod Seams
 pub mod SignLaws
 pub mod LineLaws
 pub mod Spellings
+pub mod Names

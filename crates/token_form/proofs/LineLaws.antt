@@ -1,14 +1,7 @@
 -- A line is read as the one list of tokens that it is.
-use Rattle.std.proofs.Common.{◌≡◌, ℕ, zero, suc, Bool, true, false, cond, List, [], ◌∷◌, ◌++◌, length, Option, Some, None, refl, sym, ap, ◌∙◌, subst, arith, append_assoc, append-nil}
-use Rattle.std.specs.Prelude.{◌==◌, ◌&&◌}
-use Rattle.std.specs.Char.{is_ascii_digit}
-use Rattle.std.specs.Int.{is_in_range}
-use Rattle.std.proofs.lemmas.Bool.Decides.{nat_tests}
+use Rattle.token_form.proofs.Names.{◌≡◌, ℕ, zero, suc, Bool, true, false, cond, List, [], ◌∷◌, ◌++◌, length, Option, Some, None, refl, sym, ap, ◌∙◌, subst, arith, append_assoc, append-nil, ◌==◌, ◌&&◌, is_ascii_digit, is_in_range, nat_tests, Token, is_letter, is_name_byte, Spells, Ends, spaces, IsTokens, in_limits, all_in_limits, objects_fit, in_range, number_from, passes, front_of, rest_of, name_token, text_at, sign_token, first_token, kept, read_then, read_token}
 use Rattle.token_form.specs.declared.byte_runs.Run.TheVariants as run
-use Rattle.token_form.specs.declared.tokens.Token.{Token}
 use Rattle.token_form.specs.declared.tokens.Token.TheVariants as t
-use Rattle.token_form.specs.Tokens.{is_letter, is_name_byte, Spells, Ends, spaces, IsTokens, in_limits, all_in_limits, objects_fit, in_range, number_from}
-use Rattle.token_form.specs.Reading.{passes, front_of, rest_of, name_token, text_at, sign_token, first_token, kept, read_then, read_token}
 use Rattle.token_form.proofs.Runs.{by_test, by_option, some_is, both, Stops, Fronted, front-rest}
 use Rattle.token_form.proofs.NameLaws.{spelled_name_is_read, spelled_word_is_read, read_name_is_spelled}
 use Rattle.token_form.proofs.NumberLaws.{spelled_number_is_read, read_number_is_spelled, zero_ends}

@@ -1,14 +1,10 @@
 -- Names and reserved names are read as they are spelled.
-use Rattle.std.proofs.Common.{◌≡◌, ℕ, Bool, true, false, cond, List, [], ◌∷◌, ◌++◌, Option, Some, None, refl, ap, ◌∙◌}
-use Rattle.std.specs.Prelude.{◌&&◌, codes}
-use Rattle.std.specs.List.{list_all}
+use Rattle.token_form.proofs.Names.{◌≡◌, ℕ, Bool, true, false, cond, List, [], ◌∷◌, ◌++◌, Option, Some, None, refl, ap, ◌∙◌, ◌&&◌, codes, list_all, word_spelling, is_letter, is_name_byte, AllPass, IsName, IsReserved, Spells, Ends, front_of, rest_of, words, word_in, word_or_name, name_token, first_token}
 use Rattle.std.specs.Str.{bytes_eq}
 use Rattle.std.proofs.lemmas.Slice.Eq.{bytes_eq-Decides}
 use Rattle.token_form.specs.declared.tokens.Word.{Word}
 use Rattle.token_form.specs.declared.tokens.Word.TheVariants as w
 use Rattle.token_form.specs.declared.tokens.Token.TheVariants as t
-use Rattle.token_form.specs.Tokens.{word_spelling, is_letter, is_name_byte, AllPass, IsName, IsReserved, Spells, Ends}
-use Rattle.token_form.specs.Reading.{front_of, rest_of, words, word_in, word_or_name, name_token, first_token}
 use Rattle.token_form.proofs.Runs.{by_test, if_true, both, AllPass-from, Stops, front_of-run, rest_of-run, front_of-passes, rest_of-stops}
 
 is_name : List ℕ → Bool

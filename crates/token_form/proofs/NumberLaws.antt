@@ -1,12 +1,6 @@
 -- Numbers are read as they are spelled.
-use Rattle.std.proofs.Common.{◌≡◌, ℕ, zero, suc, ◌+◌, ◌-◌, ◌*◌, ◌<◌, ◌≤◌, true, false, List, [], ◌∷◌, ◌++◌, Some, refl, sym, ap, ◌∙◌, subst, arith}
-use Rattle.std.specs.Prelude.{◌==◌}
-use Rattle.std.specs.Char.{is_ascii_digit}
-use Rattle.std.specs.Int.{is_in_range}
-use Rattle.std.proofs.lemmas.Bool.Decides.{nat_tests}
+use Rattle.token_form.proofs.Names.{◌≡◌, ℕ, zero, suc, ◌+◌, ◌-◌, ◌*◌, ◌<◌, ◌≤◌, true, false, List, [], ◌∷◌, ◌++◌, Some, refl, sym, ap, ◌∙◌, subst, arith, ◌==◌, is_ascii_digit, is_in_range, nat_tests, is_letter, AllPass, number_from, IsNumeral, Spells, Ends, front_of, rest_of, first_token}
 use Rattle.token_form.specs.declared.tokens.Token.TheVariants as t
-use Rattle.token_form.specs.Tokens.{is_letter, AllPass, number_from, IsNumeral, Spells, Ends}
-use Rattle.token_form.specs.Reading.{front_of, rest_of, first_token}
 use Rattle.token_form.proofs.Runs.{by_test, if_true, if_false, Stops, front_of-run, rest_of-run, front_of-passes, rest_of-stops, number_from-le}
 
 digit_is_no_letter : (d : ℕ) → is_ascii_digit d ≡ true → is_letter d ≡ false

@@ -1,17 +1,10 @@
 -- Texts are read as they are spelled.
-use Rattle.std.proofs.Common.{◌≡◌, ℕ, ◌+◌, ◌-◌, ◌*◌, ◌<◌, ◌≤◌, true, false, cond, List, [], ◌∷◌, ◌++◌, Some, None, refl, sym, ap, ◌∙◌, subst, arith, append_assoc, append-nil}
-use Rattle.std.specs.Prelude.{◌==◌, ◌&&◌, not, nat_lt}
-use Rattle.std.specs.Int.{is_in_range}
-use Rattle.std.proofs.lemmas.Bool.Decides.{nat_tests}
-use Rattle.value_form.specs.TextForm.{hex_digit_of}
+use Rattle.token_form.proofs.Names.{◌≡◌, ℕ, ◌+◌, ◌-◌, ◌*◌, ◌<◌, ◌≤◌, true, false, cond, List, [], ◌∷◌, ◌++◌, Some, None, refl, sym, ap, ◌∙◌, subst, arith, append_assoc, append-nil, ◌==◌, ◌&&◌, not, nat_lt, is_in_range, nat_tests, hex_digit_of, Token, is_plain, Writes, itself, quote, backslash, line_end, by_digits, WritesAll, Spells, Ends, hex_value, plain_piece, escape_piece, high_piece, low_piece, piece_at, is_spot, taken, inside, text_then, text_at, first_token}
 use Rattle.token_form.specs.declared.quotes.Spot.{Spot}
 use Rattle.token_form.specs.declared.quotes.Spot.TheVariants as at
 use Rattle.token_form.specs.declared.quotes.Piece.{Piece}
 use Rattle.token_form.specs.declared.quotes.Piece.TheVariants as piece
-use Rattle.token_form.specs.declared.tokens.Token.{Token}
 use Rattle.token_form.specs.declared.tokens.Token.TheVariants as t
-use Rattle.token_form.specs.Tokens.{is_plain, Writes, itself, quote, backslash, line_end, by_digits, WritesAll, Spells, Ends}
-use Rattle.token_form.specs.Reading.{hex_value, plain_piece, escape_piece, high_piece, low_piece, piece_at, is_spot, taken, inside, text_then, text_at, first_token}
 use Rattle.token_form.proofs.Runs.{by_test, if_true, if_false, both, not_true, some_is, by_option, Fronted}
 
 -- ---- digits

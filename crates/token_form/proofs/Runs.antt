@@ -1,11 +1,6 @@
 -- Runs of bytes at the front of a list.
-use Rattle.std.proofs.Common.{◌≡◌, ℕ, suc, ◌+◌, ◌*◌, ◌-◌, ◌<◌, ◌≤◌, ◌⊎◌, inl, inr, Option, Some, None, Bool, true, false, cond, List, [], ◌∷◌, ◌++◌, length, get_or, drop, refl, ap, arith}
+use Rattle.token_form.proofs.Names.{◌≡◌, ℕ, suc, ◌+◌, ◌*◌, ◌-◌, ◌<◌, ◌≤◌, ◌⊎◌, inl, inr, Option, Some, None, Bool, true, false, cond, List, [], ◌∷◌, ◌++◌, length, get_or, drop, refl, ap, arith, ◌&&◌, ◌||◌, not, list_all, Token, AllPass, number_from, Spells, Ends, front_of, rest_of}
 use Rattle.std.proofs.Math.Seq.{drop-cons}
-use Rattle.std.specs.Prelude.{◌&&◌, ◌||◌, not}
-use Rattle.std.specs.List.{list_all}
-use Rattle.token_form.specs.declared.tokens.Token.{Token}
-use Rattle.token_form.specs.Tokens.{AllPass, number_from, Spells, Ends}
-use Rattle.token_form.specs.Reading.{front_of, rest_of}
 
 -- whether it passes, with the fact
 pub by_test : (p : Bool) (P : Bool → Type 0) → (p ≡ true → P true) → (p ≡ false → P false) → P p

@@ -1,13 +1,8 @@
 -- Signs are read as they are spelled.
-use Rattle.std.proofs.Common.{◌≡◌, ℕ, false, cond, List, [], ◌∷◌, ◌++◌, Option, Some, None, refl, sym, ap, ◌∙◌, subst, arith}
-use Rattle.std.specs.Prelude.{◌==◌, ◌||◌}
-use Rattle.std.proofs.lemmas.Bool.Decides.{nat_tests}
+use Rattle.token_form.proofs.Names.{◌≡◌, ℕ, false, cond, List, [], ◌∷◌, ◌++◌, Option, Some, None, refl, sym, ap, ◌∙◌, subst, arith, ◌==◌, ◌||◌, nat_tests, Token, sign_spelling, Ends, sign_of, longer_or, longest, sign_then, sign_found, sign_token, first_token}
 use Rattle.token_form.specs.declared.tokens.Sign.{Sign}
 use Rattle.token_form.specs.declared.tokens.Sign.TheVariants as g
-use Rattle.token_form.specs.declared.tokens.Token.{Token}
 use Rattle.token_form.specs.declared.tokens.Token.TheVariants as t
-use Rattle.token_form.specs.Tokens.{sign_spelling, Ends}
-use Rattle.token_form.specs.Reading.{sign_of, longer_or, longest, sign_then, sign_found, sign_token, first_token}
 use Rattle.token_form.proofs.Runs.{by_test, if_false, neither, some_is, by_option, Fronted}
 
 -- ---- what is spelled is read

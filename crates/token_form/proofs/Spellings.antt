@@ -1,16 +1,8 @@
 -- The canonical spelling of a token is a spelling of it.
-use Rattle.std.proofs.Common.{◌≡◌, ℕ, ◌+◌, ◌*◌, ◌/◌, ◌%◌, ◌<◌, ◌^◌, true, cond, List, [], ◌∷◌, length, get_or, refl, sym, subst, arith}
-use Rattle.std.specs.Prelude.{◌==◌, decimal}
-use Rattle.std.specs.Char.{is_ascii_digit}
-use Rattle.std.specs.Int.{is_in_range}
-use Rattle.std.specs.List.{flat_map}
-use Rattle.std.proofs.lemmas.Bool.Decides.{nat_tests}
+use Rattle.token_form.proofs.Names.{◌≡◌, ℕ, ◌+◌, ◌*◌, ◌/◌, ◌%◌, ◌<◌, ◌^◌, true, cond, List, [], ◌∷◌, length, get_or, refl, sym, subst, arith, ◌==◌, decimal, is_ascii_digit, is_in_range, flat_map, nat_tests, hex_digit_of, byte_text, Token, is_byte, AllPass, number_from, IsNumeral, Writes, itself, quote, backslash, line_end, by_digits, WritesAll, Spells, HasForm, IsToken, AreTokens, IsTokens, in_limits, all_in_limits, spelling}
 use Rattle.std.proofs.lemmas.Fmt.{digits_decimal, digits_value-decimal, decimal_nonempty, first_decimal, decimal_digit}
 use Rattle.std.proofs.lemmas.Str.Parse.{IsNumeralModel, IsDigitsTest, numerals_by_fold}
-use Rattle.value_form.specs.TextForm.{hex_digit_of, byte_text}
-use Rattle.token_form.specs.declared.tokens.Token.{Token}
 use Rattle.token_form.specs.declared.tokens.Token.TheVariants as t
-use Rattle.token_form.specs.Tokens.{is_byte, AllPass, number_from, IsNumeral, Writes, itself, quote, backslash, line_end, by_digits, WritesAll, Spells, HasForm, IsToken, AreTokens, IsTokens, in_limits, all_in_limits, spelling}
 use Rattle.token_form.proofs.Runs.{by_test, both}
 
 -- ---- numbers

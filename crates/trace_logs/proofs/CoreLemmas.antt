@@ -1,8 +1,6 @@
 -- The turns of cores are those of the rules.
-use Rattle.std.proofs.Common.{◌≡◌, ℕ, ◌++◌, List, [], Result, Ok, Err}
-use Rattle.trace_logs.proofs.Names.{IfOk, OnOk, NodeId, Effect, Tree, Scripted, gives, with_desk, Base}
+use Rattle.trace_logs.proofs.Names.{IfOk, OnOk, NodeId, Effect, Tree, Scripted, gives, with_desk, Base, ◌≡◌, ℕ, ◌++◌, List, [], Result, Ok, Err, Mind, Given, Input, repository_gives, broker_gives, with_hands, desk_after, nothing_given, Gave}
 use Rattle.std.specs.declared.alloc.AllocError.{AllocError}
-use Rattle.world_core.specs.Nodes.{Mind, Given, Input, repository_gives, broker_gives, with_hands, desk_after, nothing_given}
 use Rattle.message_form.specs.declared.turns.Turn.{Turn}
 use Rattle.object_history.specs.declared.marks.Mark.{Mark}
 use Rattle.object_history.specs.declared.steps.HistoryFault.{HistoryFault}
@@ -15,7 +13,6 @@ use Rattle.broker_core.specs.Turns as desks
 use Rattle.trace_logs.specs.declared.cores.NodeCore.TheVariants as core
 use Rattle.world_core.specs.Cores.{IsRepository, IsBroker, RepositoryGave, BrokerGave}
 use Rattle.world_core.proofs.CoreTurns.{repository-still as still-repository, broker-still as still-broker, repository-answers as answers-of-repository, broker-answers as answers-of-broker}
-use Rattle.trace_logs.specs.Cores.{Gave}
 
 -- ---- turns of the cores of nodes
 

@@ -1,10 +1,5 @@
 -- Where a walk begins, and what is read off its end.
-use Rattle.std.proofs.Common.{◌≡◌, ◌<◌, ◌≤◌, ◌+◌, ℕ, ◌++◌, take, length, List, [], ◌∷◌, map, refl, sym, ap, subst, ◌∙◌, None}
-use Rattle.trace_logs.proofs.Names.{get_or, take_more, Every, NodeId, Entry, Opened, Base, World, start_world, opened_life, walk, step, ReplayedNode, Replay, all_posted, Lives, IsOnce, AreAt, Apart, Shows, nodes_of, is_among, gated_logs}
-use Rattle.std.proofs.lemmas.List.{take_all}
-use Rattle.trace_logs.specs.Replays.{logs_in}
-use Rattle.pseudo_time.proofs.ListLemmas.{every-append}
-use Rattle.world_core.proofs.Lives.{walk-more}
+use Rattle.trace_logs.proofs.Names.{get_or, take_more, Every, NodeId, Entry, Opened, Base, World, start_world, opened_life, walk, step, ReplayedNode, Replay, all_posted, Lives, IsOnce, AreAt, Apart, Shows, nodes_of, is_among, gated_logs, ◌≡◌, ◌<◌, ◌≤◌, ◌+◌, ℕ, ◌++◌, take, length, List, [], ◌∷◌, map, refl, sym, ap, subst, ◌∙◌, None, take_all, logs_in, every-append, walk-more}
 use Rattle.trace_logs.proofs.PlaceLemmas.{once-apart, at-more, at-nodes, at-start, among-opened}
 
 -- one node more

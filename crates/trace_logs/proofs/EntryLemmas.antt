@@ -1,8 +1,5 @@
 -- What the code makes of an entry is what the walk makes of it.
-use Rattle.std.proofs.Common.{◌≡◌, ◌<◌, ℕ, zero, suc, true, List, [], ◌∷◌, ◌++◌, length, sym, ap, subst, ◌∙◌, Some, None, Result, Ok, Err, slice_get}
-use Rattle.trace_logs.proofs.Names.{OnOk, filter, option_map, get_or, set, append-nil, NodeId, posts, same_node, same_is, Entry, Gate, leaves, Taking, Hearing, Base, Life, World, names, step, after_input, took, lives_on, sent_by, all_effects, numbered, last_after, SentMessage, ReplayedNode, Replay, posted, all_posted, AreLetters, Lives, IsAbsent, Shows, nodes_of, is_among}
-use Rattle.world_core.specs.Walks.{hears}
-use Rattle.message_form.specs.Messages.{IsMessage}
+use Rattle.trace_logs.proofs.Names.{OnOk, filter, option_map, get_or, set, append-nil, NodeId, posts, same_node, same_is, Entry, Gate, leaves, Taking, Hearing, Base, Life, World, names, step, after_input, took, lives_on, sent_by, all_effects, numbered, last_after, SentMessage, ReplayedNode, Replay, posted, all_posted, AreLetters, Lives, IsAbsent, Shows, nodes_of, is_among, ◌≡◌, ◌<◌, ℕ, zero, suc, true, List, [], ◌∷◌, ◌++◌, length, sym, ap, subst, ◌∙◌, Some, None, Result, Ok, Err, slice_get, hears, IsMessage}
 use Rattle.trace_logs.proofs.PlaceLemmas.{among-at, among-not, every-at}
 use Rattle.trace_logs.proofs.WalkLemmas.{moved, sent-gate, leaving-known, leaving-unknown, took-letter, took_post}
 

@@ -1,13 +1,7 @@
 -- The trace of the run worked by hand is legal as a whole.
 use Rattle.std.proofs.lemmas.Bool.Decides.{nat_tests}
-use Rattle.std.proofs.Common.{◌≡◌, ◌<◌, ℕ, zero, suc, Bool, true, false, ◌==◌, ◌&&◌, List, [], ◌∷◌, ◌++◌, map, refl, sym, ap, subst, ◌∙◌, inl, Option, Some, None, is_some, if◌then◌else◌, arith}
-use Rattle.std.specs.Prelude.{nat_le}
-use Rattle.trace_logs.proofs.Names.{filter, NodeId, NodeKind, Repository, Broker, block-made, Effect, Message, Post, posts, denote, book, keep, Entry, Take, Go, Gate, leaves, Going, Taking, Flags, Life, World, Sending, gated_life, numbered, opened_log, sent_by, start_world, step, after_input, took, walk, walk_from, all_effects, JustNodes, Legal, Meets, post_of}
+use Rattle.trace_logs.proofs.Names.{filter, NodeId, NodeKind, Repository, Broker, block-made, Effect, Message, Post, posts, denote, book, keep, Entry, Take, Go, Gate, leaves, Going, Taking, Flags, Life, World, Sending, gated_life, numbered, opened_log, sent_by, start_world, step, after_input, took, walk, walk_from, all_effects, JustNodes, Legal, Meets, post_of, ◌≡◌, ◌<◌, ℕ, zero, suc, Bool, true, false, ◌==◌, ◌&&◌, List, [], ◌∷◌, ◌++◌, map, refl, sym, ap, subst, ◌∙◌, inl, Option, Some, None, is_some, if◌then◌else◌, arith, nat_le, other_plan, is_ready, with_due, AllReady, Rule, fates_of, in_plan, is_within}
 use Rattle.pseudo_time.specs.declared.decisions.Decision.TheVariants as decision
-use Rattle.broker_core.specs.Fits.{other_plan}
-use Rattle.world_core.specs.Nodes.{is_ready}
-use Rattle.world_core.specs.Walks.{with_due}
-use Rattle.world_core.specs.Legal.{AllReady, Rule, fates_of, in_plan, is_within}
 use Rattle.effect_form.specs.declared.effects.Effect.TheVariants as effect
 use Rattle.effect_form.specs.declared.outcomes.Outcome.TheVariants as outcome
 use Rattle.message_form.specs.declared.messages.Message.TheVariants as message

@@ -1,8 +1,5 @@
 -- What a log adds to histories, in either direction.
-use Rattle.std.proofs.Common.{◌≡◌, ◌≢◌, ◌⊎◌, ◌<◌, ◌+◌, ℕ, zero, suc, Bool, true, false, ◌||◌, List, [], ◌∷◌, ◌++◌, take, length, reverse, refl, sym, ap, ◌∙◌, inl, inr, Option, Some, None, arith}
-use Rattle.trace_logs.proofs.Names.{is_some, get_or, take_more, StampParts, same_stamp, Effect}
-use Rattle.std.specs.Prelude.{if◌then◌else◌}
-use Rattle.std.proofs.lemmas.List.{reverse-append, append_assoc}
+use Rattle.trace_logs.proofs.Names.{is_some, get_or, take_more, StampParts, same_stamp, Effect, ◌≡◌, ◌≢◌, ◌⊎◌, ◌<◌, ◌+◌, ℕ, zero, suc, Bool, true, false, ◌||◌, List, [], ◌∷◌, ◌++◌, take, length, reverse, refl, sym, ap, ◌∙◌, inl, inr, Option, Some, None, arith, if◌then◌else◌, reverse-append, append_assoc}
 use Rattle.pseudo_time.specs.declared.decisions.Decision.{Decision}
 use Rattle.effect_form.specs.declared.effects.Effect.TheVariants.{Put, Stretch, Begin, Decide, Learn, Run, Act, Try, Got, Acked, End, Mark, Whole}
 use Rattle.repository_log.specs.Logs.{knows}

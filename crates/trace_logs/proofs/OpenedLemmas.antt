@@ -1,7 +1,5 @@
 -- Lists of opened nodes that have each node once.
-use Rattle.std.proofs.Common.{◌≡◌, ◌≤◌, ◌+◌, ℕ, Bool, true, false, List, [], ◌∷◌, ◌++◌, refl, sym, ap, subst, ◌∙◌, cond, arith}
-use Rattle.trace_logs.proofs.Names.{count_by, sum_by-cons, Every, NodeId, same_node, same_is, Opened, IsOnce}
-use Rattle.std.proofs.lemmas.List.Sums.{sum_by-append}
+use Rattle.trace_logs.proofs.Names.{count_by, sum_by-cons, Every, NodeId, same_node, same_is, Opened, IsOnce, ◌≡◌, ◌≤◌, ◌+◌, ℕ, Bool, true, false, List, [], ◌∷◌, ◌++◌, refl, sym, ap, subst, ◌∙◌, cond, arith, sum_by-append}
 
 -- no node of the list is this one
 abbrev pub IsNew : NodeId → List Opened → Type 0

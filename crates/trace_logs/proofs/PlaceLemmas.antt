@@ -1,8 +1,6 @@
 -- Seats in a list, each of another node.
-use Rattle.std.proofs.Common.{◌≡◌, ◌≤◌, ◌<◌, ◌+◌, ℕ, zero, suc, Bool, true, false, List, [], ◌∷◌, ◌++◌, length, map, refl, sym, ap, subst, ◌∙◌, Some, if◌then◌else◌, cond, arith}
-use Rattle.trace_logs.proofs.Names.{get_or, set, count_by, sum_by-cons, is_some, Every, NodeId, same_node, same_is, same_node-refl, Opened, Base, opened_log, opened_life, ReplayedNode, Lives, IsOnce, IsAbsent, Apart, AreAt, nodes_of, is_among}
+use Rattle.trace_logs.proofs.Names.{get_or, set, count_by, sum_by-cons, is_some, Every, NodeId, same_node, same_is, same_node-refl, Opened, Base, opened_log, opened_life, ReplayedNode, Lives, IsOnce, IsAbsent, Apart, AreAt, nodes_of, is_among, ◌≡◌, ◌≤◌, ◌<◌, ◌+◌, ℕ, zero, suc, Bool, true, false, List, [], ◌∷◌, ◌++◌, length, map, refl, sym, ap, subst, ◌∙◌, Some, if◌then◌else◌, cond, arith, unwrap_or}
 use Rattle.std.proofs.Math.Seq.{map-set_same}
-use Rattle.std.specs.Option.{unwrap_or}
 
 -- ---- names
 

@@ -1,6 +1,5 @@
 -- Nodes that are down: what they may no longer do, and which nodes may be down before anything else happens.
-use Rattle.std.proofs.Common.{◌≡◌, ℕ, true, false, List, [], ◌∷◌, refl, ap, inl, inr, arith}
-use Rattle.trace_logs.proofs.Names.{Every, NodeId, Repository, Effect, Asked, Tree, Entry, Take, Go, Learn, Hear, Gate, Crash, Down, Tick, Opened, Sent, Base, names, start_world, JustNodes, Meets, Plan}
+use Rattle.trace_logs.proofs.Names.{Every, NodeId, Repository, Effect, Asked, Tree, Entry, Take, Go, Learn, Hear, Gate, Crash, Down, Tick, Opened, Sent, Base, names, start_world, JustNodes, Meets, Plan, ◌≡◌, ℕ, true, false, List, [], ◌∷◌, refl, ap, inl, inr, arith}
 use Rattle.effect_form.specs.declared.effects.Effect.TheVariants as effect
 use Rattle.pseudo_time.specs.declared.down_causes.DownCause.TheVariants as cause
 use Rattle.world_core.specs.Pasts.{Call, IsCall, WasNotOpened}

@@ -1,13 +1,8 @@
 -- The trace that is legal, with another list of what was sent, or of the fates that were asked for: each is refused.
-use Rattle.std.proofs.Common.{◌≡◌, ◌<◌, ◌+◌, ℕ, Bool, true, false, ◌==◌, List, [], ◌∷◌, ◌++◌, map, drop, length, Option, Some, None, slice_get, refl, ap, sym, ◌∙◌, arith}
 use Rattle.std.proofs.lemmas.Bool.{true≢false}
-use Rattle.std.proofs.lemmas.List.{length-append}
-use Rattle.trace_logs.proofs.Names.{Every, Post, Asked, Sent, Trace, Legal, post_of}
-use Rattle.world_core.specs.Legal.{asked_of}
+use Rattle.trace_logs.proofs.Names.{Every, Post, Asked, Sent, Trace, Legal, post_of, ◌≡◌, ◌<◌, ◌+◌, ℕ, Bool, true, false, ◌==◌, List, [], ◌∷◌, ◌++◌, map, drop, length, Option, Some, None, slice_get, refl, ap, sym, ◌∙◌, arith, length-append, asked_of, kind_number, tag_of}
 use Rattle.pseudo_time.specs.declared.decisions.Decision.TheVariants as decision
 use Rattle.message_form.specs.declared.messages.Message.TheVariants as message
-use Rattle.pseudo_time.specs.Nodes.{kind_number}
-use Rattle.message_form.specs.Messages.{tag_of}
 use Rattle.trace_logs.proofs.WorkedTraces.{home, desk, stamp, blank, prompt}
 use Rattle.trace_logs.proofs.WorkedTurns.{object, ten, plan, script, entries, at, request, answer, question, sent, asked, trace}
 use Rattle.trace_logs.proofs.LegalTraces.{legal, sent-by-gates}

@@ -1,6 +1,5 @@
 -- Traces that aren't legal: for each rule, entries that break it.
-use Rattle.std.proofs.Common.{◌≡◌, ◌≤◌, ◌<◌, ◌+◌, ◌^◌, ℕ, true, List, [], ◌∷◌, refl, ap, ◌∙◌, inl, inr, Option, Some, None, arith}
-use Rattle.trace_logs.proofs.Names.{Every, Entry, Take, Go, Learn, Hear, Gate, Crash, Down, Tick, Fate, same_stamp, NodeId, book, keep, settle_up, gives, Sending, start_world, Meets}
+use Rattle.trace_logs.proofs.Names.{Every, Entry, Take, Go, Learn, Hear, Gate, Crash, Down, Tick, Fate, same_stamp, NodeId, book, keep, settle_up, gives, Sending, start_world, Meets, ◌≡◌, ◌≤◌, ◌<◌, ◌+◌, ◌^◌, ℕ, true, List, [], ◌∷◌, refl, ap, ◌∙◌, inl, inr, Option, Some, None, arith}
 use Rattle.pseudo_time.specs.declared.down_causes.DownCause.TheVariants as cause
 use Rattle.stream_port.specs.Fates.{copies_of}
 use Rattle.trace_logs.proofs.WorkedTraces.{home, desk, stamp, base, prompt}

@@ -1,9 +1,6 @@
 -- One entry of a walk, over what the code keeps of the nodes.
-use Rattle.std.proofs.Common.{◌≡◌, ◌<◌, ℕ, zero, suc, Bool, true, false, ◌&&◌, List, [], ◌∷◌, ◌++◌, length, map, refl, sym, ap, subst, ◌∙◌, Option, Some, None, if◌then◌else◌}
-use Rattle.trace_logs.proofs.Names.{get_or, set, filter, option_map, map-append, Every, NodeId, NodeKind, Repository, Broker, Post, posts, same_node, same_is, same_node-refl, Entry, Take, Go, Learn, Hear, Gate, Crash, Down, Tick, leaves, Taking, Base, Life, Flags, Sending, World, names, step, after_input, took, lives_on, sent_by, all_effects, numbered, last_after, SentMessage, ReplayedNode, Replay, posted, all_posted, Lives, IsAbsent, Apart, Shows, nodes_of, is_among}
+use Rattle.trace_logs.proofs.Names.{get_or, set, filter, option_map, map-append, Every, NodeId, NodeKind, Repository, Broker, Post, posts, same_node, same_is, same_node-refl, Entry, Take, Go, Learn, Hear, Gate, Crash, Down, Tick, leaves, Taking, Base, Life, Flags, Sending, World, names, step, after_input, took, lives_on, sent_by, all_effects, numbered, last_after, SentMessage, ReplayedNode, Replay, posted, all_posted, Lives, IsAbsent, Apart, Shows, nodes_of, is_among, ◌≡◌, ◌<◌, ℕ, zero, suc, Bool, true, false, ◌&&◌, List, [], ◌∷◌, ◌++◌, length, map, refl, sym, ap, subst, ◌∙◌, Option, Some, None, if◌then◌else◌, flagged, went, learned, has_heard, leaving, step-other}
 use Rattle.std.proofs.lemmas.Option.{slice_get-map}
-use Rattle.world_core.specs.Walks.{flagged, went, learned, has_heard, leaving}
-use Rattle.world_core.proofs.Lives.{step-other}
 use Rattle.trace_logs.proofs.PlaceLemmas.{same-sym, set-every, nodes-set, among-at, all-change, absent-change, every-at}
 
 -- ---- flags

@@ -1,6 +1,5 @@
 -- A trace worked by hand: an act without a statement is carried out, and nothing is lost.
-use Rattle.std.proofs.Common.{◌≡◌, ℕ, List, [], ◌∷◌, refl}
-use Rattle.trace_logs.proofs.Names.{StampParts, same_stamp, same_time, NodeId, Repository, Broker, ActSpec, block, Fate, Tree, denote, book, keep, settle_up, knows, first_begin, decision_of, on_message, on_begin, on_close, release, tell_askers, Entry, Take, Go, Gate, Opened, gives, Base, walk, walk_from, sent_by}
+use Rattle.trace_logs.proofs.Names.{StampParts, same_stamp, same_time, NodeId, Repository, Broker, ActSpec, block, Fate, Tree, denote, book, keep, settle_up, knows, first_begin, decision_of, on_message, on_begin, on_close, release, tell_askers, Entry, Take, Go, Gate, Opened, gives, Base, walk, walk_from, sent_by, ◌≡◌, ℕ, List, [], ◌∷◌, refl}
 use Rattle.pseudo_time.specs.declared.decisions.Decision.TheVariants as decision
 use Rattle.message_form.specs.declared.messages.Message.TheVariants as message
 use Rattle.repository_core.specs.Turns as turns

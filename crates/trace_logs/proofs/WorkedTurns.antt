@@ -1,13 +1,7 @@
 -- A run worked by hand: an act writes 10 to object 1.7, reads it and prints it, and nothing is lost. Its trace, and what each node gives in its turns.
-use Rattle.std.proofs.Common.{◌≡◌, ℕ, true, List, [], ◌∷◌, ◌++◌, refl, ap, ◌∙◌, Some, None}
-use Rattle.std.specs.Prelude.{pos, codes, reverse}
 use Rattle.std.specs.Fmt.{digits}
 use Rattle.pseudo_time.specs.TimeParts.{TimeParts}
-use Rattle.trace_logs.proofs.Names.{same_stamp, same_time, ActSpec, block-made, Effect, Message, Out, Asked, script_text, Tree, denote, Plan, first_begin, decision_of, on_message, on_begin, on_close, release, tell_askers, book, keep, settle_up, Entry, Take, Go, Gate, Sent, Trace, gives, with_desk, Going, Taking, Base, Life, after_input, all_effects}
-use Rattle.pseudo_time.specs.Order.{lt}
-use Rattle.value_form.specs.MirrorLaws.{made_all}
-use Rattle.repository_core.specs.Rows.{on_read, on_write}
-use Rattle.world_core.specs.Walks.{with_given}
+use Rattle.trace_logs.proofs.Names.{same_stamp, same_time, ActSpec, block-made, Effect, Message, Out, Asked, script_text, Tree, denote, Plan, first_begin, decision_of, on_message, on_begin, on_close, release, tell_askers, book, keep, settle_up, Entry, Take, Go, Gate, Sent, Trace, gives, with_desk, Going, Taking, Base, Life, after_input, all_effects, ◌≡◌, ℕ, true, List, [], ◌∷◌, ◌++◌, refl, ap, ◌∙◌, Some, None, pos, codes, reverse, lt, made_all, on_read, on_write, with_given, Task, task_of, task_with}
 use Rattle.pseudo_time.specs.declared.decisions.Decision.TheVariants as decision
 use Rattle.value_form.specs.declared.objects.ObjectId.{ObjectId}
 use Rattle.value_form.specs.declared.scripts.Stmt.{Stmt}
@@ -23,7 +17,6 @@ use Rattle.object_history.specs.Objects.{same_object, same_value}
 use Rattle.repository_core.specs.Turns as turns
 use Rattle.broker_core.specs.declared.heards.Heard.{Heard}
 use Rattle.broker_core.specs.Stages.{nothing_heard}
-use Rattle.broker_core.specs.Tasks.{Task, task_of, task_with}
 use Rattle.broker_core.specs.Turns as desks
 use Rattle.trace_logs.proofs.WorkedTraces.{home, desk, stamp, blank, prompt}
 

@@ -1,18 +1,9 @@
 -- What is read off a broker's log, by which of its effects count, is what its book has of this run.
-use Rattle.std.proofs.Common.{◌≡◌, ℕ, zero, suc, ◌≤◌, ◌==◌, Bool, true, false, List, [], ◌∷◌, ◌++◌, append_assoc, append-nil, length, map, reverse, refl, sym, ◌∙◌, ap, subst, if◌then◌else◌, arith, Some}
-use Rattle.trace_report.proofs.Names.{◌-◌, cond-true, cond-false, NodeId, Broker, broker, StampParts, ActSpec, Effect, Answer, Got, Stored, Tree, Plan, IsOfLanguage, Act, Try, Book, book, keep, AreBrokerActs, reading, Task, tasks, Scripted, acts_of, own-reading, begun_acts, act_parts, try_parts, begun_to, begun_last}
-use Rattle.std.proofs.lemmas.List.{length-reverse}
-use Rattle.broker_core.specs.Book.{enter, close, on_act, on_front, on_try, gain, finish, new_try}
-use Rattle.broker_core.specs.Fits.{fits, counts, add_if}
-use Rattle.trace_report.specs.Acts.{acts_in}
-use Rattle.trace_report.specs.Begun.{entered, closed, tried, spent_by, on_first, on_last, gained, ended}
-use Rattle.trace_report.specs.Books.{entered_if, read_off}
+use Rattle.trace_report.proofs.Names.{◌-◌, cond-true, cond-false, NodeId, Broker, broker, StampParts, ActSpec, Effect, Answer, Got, Stored, Tree, Plan, IsOfLanguage, Act, Try, Book, book, keep, AreBrokerActs, reading, Task, tasks, Scripted, acts_of, own-reading, begun_acts, act_parts, try_parts, begun_to, begun_last, ◌≡◌, ℕ, zero, suc, ◌≤◌, ◌==◌, Bool, true, false, List, [], ◌∷◌, ◌++◌, append_assoc, append-nil, length, map, reverse, refl, sym, ◌∙◌, ap, subst, if◌then◌else◌, arith, Some, length-reverse, enter, close, on_act, on_front, on_try, gain, finish, new_try, fits, counts, add_if, acts_in, entered, closed, tried, spent_by, on_first, on_last, gained, ended, entered_if, read_off, closed-run, plan-own_acts}
 use Rattle.effect_form.specs.declared.effects.Effect.TheVariants as effect
 use Rattle.effect_form.specs.declared.outcomes.Outcome.{Outcome}
 use Rattle.effect_form.specs.declared.outcomes.Outcome.TheVariants as outcome
 use Rattle.broker_core.specs.Counted.{counted, counts_now, counting}
-use Rattle.broker_core.proofs.SoundLemmas.{closed-run}
-use Rattle.world_core.proofs.PlanRangeLemmas.{plan-own_acts}
 use Rattle.trace_logs.proofs.ReplayedNodeLemmas.{own-scripted}
 
 -- ---- what an effect changes of the acts at hand

@@ -1,11 +1,6 @@
 -- Which attempts are committed, by what the log of each repository says first.
-use Rattle.std.proofs.Common.{◌≡◌, ℕ, zero, suc, ◌+◌, ◌≤◌, ◌<◌, Bool, true, false, List, [], ◌∷◌, ◌++◌, length, reverse, refl, sym, ◌∙◌, ap, subst, Option, Some, None, ◌&&◌, ◌||◌, if◌then◌else◌, arith}
-use Rattle.std.specs.Prelude.{nat_le}
-use Rattle.trace_report.proofs.Names.{slice_get, cond-true, cond-false, NodeId, repository, StampParts, Effect, RunLogs, committed, has_commit, has_learned, Opened, AreDecided, AreEach, learned_in_some, said_at, Said, AreFirsts, is_decided, is_learned, logs_by}
+use Rattle.trace_report.proofs.Names.{slice_get, cond-true, cond-false, NodeId, repository, StampParts, Effect, RunLogs, committed, has_commit, has_learned, Opened, AreDecided, AreEach, learned_in_some, said_at, Said, AreFirsts, is_decided, is_learned, logs_by, ◌≡◌, ℕ, zero, suc, ◌+◌, ◌≤◌, ◌<◌, Bool, true, false, List, [], ◌∷◌, ◌++◌, length, reverse, refl, sym, ◌∙◌, ap, subst, Option, Some, None, ◌&&◌, ◌||◌, if◌then◌else◌, arith, nat_le, common_steps, length-append, in_run, log_of, some_of}
 use Rattle.std.specs.FinMap as finite
-use Rattle.std.proofs.lemmas.Grind.{common_steps}
-use Rattle.std.proofs.lemmas.List.{length-append}
-use Rattle.world_core.specs.Deeds.{in_run, log_of, some_of}
 use Rattle.trace_report.proofs.FirstLemmas.{commit-is, learned-is}
 
 -- ---- one log more

@@ -1,24 +1,17 @@
 -- The committed versions that the code keeps are those with the greatest starts, and what they hold are the finals.
-use Rattle.std.proofs.Common.{◌≡◌, Bool, true, false, List, [], ◌∷◌, ◌++◌, map, refl, sym, ◌∙◌, ap, subst, Option, Some, None, ◌&&◌, not, if◌then◌else◌, cond}
-use Rattle.trace_report.proofs.Names.{option_map, unwrap_or, is_eq, is_at, true≢false, false≢true, eq_by_cmp_equiv, StampParts, TimeParts, lt, ObjectId, Value, Nothing, Effect, Mark, pick, scan, version_count, same_object, value_of, RunLogs, committed, last_put, AreLast, final_last}
-use Rattle.std.specs.Option.{option_to_list}
+use Rattle.trace_report.proofs.Names.{option_map, unwrap_or, is_eq, is_at, true≢false, false≢true, eq_by_cmp_equiv, StampParts, TimeParts, lt, ObjectId, Value, Nothing, Effect, Mark, pick, scan, version_count, same_object, value_of, RunLogs, committed, last_put, AreLast, final_last, ◌≡◌, Bool, true, false, List, [], ◌∷◌, ◌++◌, map, refl, sym, ◌∙◌, ap, subst, Option, Some, None, ◌&&◌, not, if◌then◌else◌, cond, option_to_list, Seen, starts_above, all_marks, holding, last_values, is_above, last_at, last_parts, seen_parts, mark_of, final_of}
 use Rattle.std.specs.declared.cmp.Ordering.{Ordering}
 use Rattle.std.specs.declared.cmp.Ordering.TheVariants.{Less, Equal, Greater}
 use Rattle.std.specs.FinMap as finite
 use Rattle.std.specs.List.Sorted.{IsStrictlySortedBy}
-use Rattle.object_history.specs.History.{Seen, starts_above}
-use Rattle.trace_report.specs.Finals.{all_marks, holding, last_values}
-use Rattle.trace_report.specs.LastVersions.{is_above, last_at, last_parts, seen_parts}
 use Rattle.value_form.specs.Objects.{object_cmp, value_at}
 use Rattle.value_form.proofs.ObjectLemmas.{object_cmp-total, object_cmp-exact}
 use Rattle.effect_form.specs.declared.effects.Effect.TheVariants as effect
 use Rattle.object_history.specs.declared.marks.Mark.TheVariants.{Put, Stretch, Settle, Floor}
 use Rattle.object_history.proofs.ObjectLemmas.{same_object-is}
-use Rattle.repository_log.specs.Logs.{mark_of}
 use Rattle.serial_model.proofs.MapLemmas.{rising_entries}
 use Rattle.trace_report.specs.declared.last_versions.Last.{Last}
 use Rattle.trace_report.specs.declared.last_versions.LastVersions.{LastVersions}
-use Rattle.trace_report.specs.Reports.{final_of}
 
 -- ---- one put more
 

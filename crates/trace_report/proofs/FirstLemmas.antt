@@ -1,16 +1,10 @@
 -- What a log says first of an attempt.
-use Rattle.std.proofs.Common.{◌≡◌, Bool, true, false, List, [], ◌∷◌, refl, sym, ◌∙◌, ap, Option, Some, None, ◌&&◌, ◌||◌, not, if◌then◌else◌, cond}
-use Rattle.trace_report.proofs.Names.{is_some, is_eq, true≢false, false≢true, eq_by_cmp_equiv, StampParts, same_stamp, stamp_cmp-total, Effect, knows, has_commit, has_learned, Said, AreFirsts, is_decided, is_learned}
+use Rattle.trace_report.proofs.Names.{is_some, is_eq, true≢false, false≢true, eq_by_cmp_equiv, StampParts, same_stamp, stamp_cmp-total, Effect, knows, has_commit, has_learned, Said, AreFirsts, is_decided, is_learned, ◌≡◌, Bool, true, false, List, [], ◌∷◌, refl, sym, ◌∙◌, ap, Option, Some, None, ◌&&◌, ◌||◌, not, if◌then◌else◌, cond, stamp_cmp, same_stamp-is, first_said, is_commit, said_by, first_of, or_else}
 use Rattle.std.specs.FinMap as finite
 use Rattle.std.specs.FinMap.{get-empty, get-insert}
-use Rattle.pseudo_time.specs.StampParts.{stamp_cmp}
-use Rattle.pseudo_time.proofs.OrderLemmas.{same_stamp-is}
-use Rattle.repository_log.specs.Logs.{first_said, is_commit}
-use Rattle.trace_report.specs.Firsts.{said_by, first_of}
 use Rattle.pseudo_time.specs.declared.decisions.Decision.{Decision}
 use Rattle.pseudo_time.specs.declared.decisions.Decision.TheVariants as decision
 use Rattle.effect_form.specs.declared.effects.Effect.TheVariants as effect
-use Rattle.object_history.specs.History.{or_else}
 use Rattle.trace_report.specs.declared.firsts.First.{First}
 use Rattle.trace_report.specs.declared.firsts.First.TheVariants.{Decided, Learned}
 

@@ -1,11 +1,7 @@
 -- The logs of the nodes that were opened are the durable logs of the trace; every other node's is empty.
-use Rattle.std.proofs.Common.{◌≡◌, Bool, true, false, List, [], ◌∷◌, refl, sym, ◌∙◌, ap, Option, Some, None, if◌then◌else◌}
-use Rattle.trace_report.proofs.Names.{is_some, unwrap_or, NodeId, same_node, Effect, Plan, reading, Entry, Opened, Trace, gated_log, logs_in, logs_by}
-use Rattle.std.proofs.lemmas.Bool.{and_right}
-use Rattle.world_core.specs.Readings.{world_after}
+use Rattle.trace_report.proofs.Names.{is_some, unwrap_or, NodeId, same_node, Effect, Plan, reading, Entry, Opened, Trace, gated_log, logs_in, logs_by, ◌≡◌, Bool, true, false, List, [], ◌∷◌, refl, sym, ◌∙◌, ap, Option, Some, None, if◌then◌else◌, and_right, world_after, Base, World, names, flagged, lives_on, opened_log, start_world, step, walk_from}
 use Rattle.message_core.proofs.NodeLemmas.{same_is}
 use Rattle.world_core.specs.Legal.{base_of}
-use Rattle.world_core.specs.Walks.{Base, World, names, flagged, lives_on, opened_log, start_world, step, walk_from}
 
 -- ---- a node that isn't known stays as it is
 

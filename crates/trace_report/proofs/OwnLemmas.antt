@@ -1,15 +1,8 @@
 -- The acts that a broker has begun are its own acts of the plan, and their texts are read as those acts' scripts.
-use Rattle.std.proofs.Common.{◌≡◌, inl, inr, ℕ, zero, suc, ◌+◌, ◌==◌, Bool, true, false, List, [], ◌∷◌, length, refl, sym, ◌∙◌, ap, Option, Some, None, if◌then◌else◌, cond, arith}
-use Rattle.trace_report.proofs.Names.{slice_get, eqb-true, NodeId, broker, Every, Has, ActSpec, block, IsScript, Effect, denote, Plan, IsOfLanguage, EachAct, Act, Book, reading, OfAct, Task, tasks, acts_of, own-reading, begun_acts}
-use Rattle.std.specs.List.{filter}
-use Rattle.broker_core.specs.Sound.{Started}
-use Rattle.broker_core.specs.Tasks.{task_of}
-use Rattle.trace_report.specs.Acts.{counted_by, tasks_of}
-use Rattle.pseudo_time.proofs.ListLemmas.{every-has}
+use Rattle.trace_report.proofs.Names.{slice_get, eqb-true, NodeId, broker, Every, Has, ActSpec, block, IsScript, Effect, denote, Plan, IsOfLanguage, EachAct, Act, Book, reading, OfAct, Task, tasks, acts_of, own-reading, begun_acts, ◌≡◌, inl, inr, ℕ, zero, suc, ◌+◌, ◌==◌, Bool, true, false, List, [], ◌∷◌, length, refl, sym, ◌∙◌, ap, Option, Some, None, if◌then◌else◌, cond, arith, filter, Started, task_of, counted_by, tasks_of, every-has, sound-kept}
 use Rattle.script_form.specs.RowTexts.{script_text}
 use Rattle.script_form.proofs.RangeLemmas.{printable-range}
 use Rattle.plan_form.proofs.PlanRangeLemmas.{of-whole}
-use Rattle.broker_core.proofs.SoundLemmas.{sound-kept}
 
 -- ---- places
 

@@ -1,14 +1,7 @@
 -- The acts of a plan are shown as the logs tell them whose begun acts the code has read.
-use Rattle.std.proofs.Common.{rules, ◌≡◌, inl, inr, ℕ, zero, suc, ◌+◌, ◌≤◌, ◌<◌, ◌==◌, Bool, true, false, List, [], ◌∷◌, ◌++◌, map, reverse, refl, sym, ◌∙◌, ap, subst, Option, Some, None, if◌then◌else◌, cond, arith}
-use Rattle.trace_report.proofs.Names.{option_map, is_at, eqb-true, true≢false, reverse-append, map-append, NodeId, Every, Has, ActSpec, Stmt, block, Effect, Tree, denote, talked, Plan, IsOfLanguage, EachAct, Act, Try, reading, OfAct, Task, TryReport, ActReport, BegunAct, BegunTry, acts_shown, begun_acts, ActParts, act_parts, try_parts, kept, kept_act, kept_try, begun_to, HasActs, act_told, part_at, try_told}
-use Rattle.std.specs.Ordering.{nat_cmp}
+use Rattle.trace_report.proofs.Names.{option_map, is_at, eqb-true, true≢false, reverse-append, map-append, NodeId, Every, Has, ActSpec, Stmt, block, Effect, Tree, denote, talked, Plan, IsOfLanguage, EachAct, Act, Try, reading, OfAct, Task, TryReport, ActReport, BegunAct, BegunTry, acts_shown, begun_acts, ActParts, act_parts, try_parts, kept, kept_act, kept_try, begun_to, HasActs, act_told, part_at, try_told, rules, ◌≡◌, inl, inr, ℕ, zero, suc, ◌+◌, ◌≤◌, ◌<◌, ◌==◌, Bool, true, false, List, [], ◌∷◌, ◌++◌, map, reverse, refl, sym, ◌∙◌, ap, subst, Option, Some, None, if◌then◌else◌, cond, arith, nat_cmp, eq-eqb, reverse-reverse, act_begun, act_shown, shown_end, spent_at, tries_shown, try_shown, spent_told, tries_told, every-reverse}
 use Rattle.std.specs.Map.{lookup}
-use Rattle.std.proofs.lemmas.Bool.{eq-eqb}
 use Rattle.std.proofs.lemmas.Bool.Decides.{nat_tests}
-use Rattle.std.proofs.lemmas.List.{reverse-reverse}
-use Rattle.trace_report.specs.Acts.{act_begun, act_shown, shown_end, spent_at, tries_shown, try_shown}
-use Rattle.trace_report.specs.Shown.{spent_told, tries_told}
-use Rattle.pseudo_time.proofs.ListLemmas.{every-reverse}
 use Rattle.trace_report.proofs.OwnLemmas.{IsOwn, begun-own, begun-tries, numbered, numbered-is, read-own}
 
 -- ---- a map of acts

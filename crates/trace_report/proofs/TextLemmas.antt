@@ -1,7 +1,5 @@
 -- The report and the summary, part by part.
-use Rattle.std.proofs.Common.{◌≡◌, ℕ, List, [], ◌++◌, append_assoc, length, ◌∙◌, ap, Option, Some}
-use Rattle.trace_report.proofs.Names.{◌-◌, flat_map, NodeId, Value, Effect, Plan, Trace, ActReport, Open, down_text, count_of, acts_shown, downs_shown, last_of, load_line, load_text_by, sum_in, tries_in, wire_shown}
-use Rattle.trace_report.specs.Reports.{acts_line, finals_shown, report_by, sum_text}
+use Rattle.trace_report.proofs.Names.{◌-◌, flat_map, NodeId, Value, Effect, Plan, Trace, ActReport, Open, down_text, count_of, acts_shown, downs_shown, last_of, load_line, load_text_by, sum_in, tries_in, wire_shown, ◌≡◌, ℕ, List, [], ◌++◌, append_assoc, length, ◌∙◌, ap, Option, Some, acts_line, finals_shown, report_by, sum_text}
 use Rattle.report_writer.specs.declared.records.Down.{Down}
 use Rattle.report_writer.specs.declared.records.Final.{Final}
 use Rattle.report_writer.specs.declared.records.Report.{Report}

@@ -1,9 +1,5 @@
 -- The logs that are read off a trace are the durable logs at its end.
-use Rattle.std.proofs.Common.{◌≡◌, List, ℕ, sym, ◌∙◌, ap, subst}
-use Rattle.trace_report.proofs.Names.{NodeId, Effect, ActSpec, Tree, Plan, IsOfLanguage, AreBrokerActs, reading, Scripted, Opened, Trace, gated_log, own-reading, logs_in, logs_by}
-use Rattle.trace_logs.specs.Replays.{base_for}
-use Rattle.world_core.specs.Walks.{walk}
-use Rattle.world_core.proofs.PlanRangeLemmas.{plan-AreBrokerActs}
+use Rattle.trace_report.proofs.Names.{NodeId, Effect, ActSpec, Tree, Plan, IsOfLanguage, AreBrokerActs, reading, Scripted, Opened, Trace, gated_log, own-reading, logs_in, logs_by, ◌≡◌, List, ℕ, sym, ◌∙◌, ap, subst, base_for, walk, plan-AreBrokerActs}
 use Rattle.trace_report.proofs.LogLemmas.{logs-are}
 
 pub plan-acts : (plan : Plan) (acts : List ActSpec) → IsOfLanguage plan → acts ≡ plan.acts → AreBrokerActs acts

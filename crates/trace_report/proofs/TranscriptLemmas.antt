@@ -1,10 +1,6 @@
 -- A script that is given answers, up to the first that it doesn't ask for.
-use Rattle.std.proofs.Common.{◌≡◌, ℕ, suc, ◌<◌, Bool, true, false, List, [], ◌∷◌, ◌++◌, append_assoc, length, take, drop, get_or, refl, sym, ◌∙◌, ap, subst}
 use Rattle.std.proofs.Math.Seq.{split_at}
-use Rattle.trace_report.proofs.Names.{map-append, true≢false, false≢true, Stmt, Value, block, Answer, Got, Stored, Tree, denote, talked, Answered, answer_of, answers_of}
-use Rattle.script_meaning.specs.Meaning.{Stop}
-use Rattle.serial_model.specs.Questions.{Ends, Says, Reads, Writes, stop, line_before}
-use Rattle.trace_report.specs.Transcripts.{IsUnasked, Gave}
+use Rattle.trace_report.proofs.Names.{map-append, true≢false, false≢true, Stmt, Value, block, Answer, Got, Stored, Tree, denote, talked, Answered, answer_of, answers_of, ◌≡◌, ℕ, suc, ◌<◌, Bool, true, false, List, [], ◌∷◌, ◌++◌, append_assoc, length, take, drop, get_or, refl, sym, ◌∙◌, ap, subst, Stop, Ends, Says, Reads, Writes, stop, line_before, IsUnasked, Gave, reads_now, writes_now}
 use Rattle.value_form.specs.declared.transcripts.Line.{Line}
 use Rattle.value_form.specs.declared.transcripts.Line.TheVariants as line
 use Rattle.script_run.specs.declared.nexts.Next.{Next}
@@ -12,7 +8,6 @@ use Rattle.script_run.specs.declared.nexts.Next.TheVariants as next
 use Rattle.script_run.specs.RunParts.{RunParts, Tells, begun, stop_of}
 use Rattle.serial_model.specs.Asked.{IsAnswerTo}
 use Rattle.serial_model.proofs.ScriptLemmas.{talk_of}
-use Rattle.broker_core.specs.Fits.{reads_now, writes_now}
 use Rattle.broker_core.proofs.StopLemmas.{told-stop}
 
 -- what isn't asked for, and what is behind it, changes nothing

@@ -1,10 +1,6 @@
 -- Reports worked by hand: the definitions compute what brokers' logs, entries and messages tell. Logs stand oldest first.
-use Rattle.std.proofs.Common.{◌≡◌, ℕ, List, [], ◌∷◌, ◌++◌, refl, Some, None}
-use Rattle.std.specs.Prelude.{codes, pos}
 use Rattle.std.specs.Fmt.{digits}
-use Rattle.trace_report.proofs.Names.{StampParts, TimeParts, lt, same_stamp, NodeId, Repository, Broker, ObjectId, Nothing, Effect, pick, scan, version_count, same_object, value_of, knows, Plan, book, keep, reading, committed, has_commit, Down, Tick, Trace, TryReport, ActReport, report_text, acts_shown, last_put, downs_shown, run_over, wire_shown}
-use Rattle.value_form.specs.declared.values.Value.TheVariants.{Number}
-use Rattle.world_core.specs.declared.entries.Entry.TheVariants.{Crash}
+use Rattle.trace_report.proofs.Names.{StampParts, TimeParts, lt, same_stamp, NodeId, Repository, Broker, ObjectId, Nothing, Effect, pick, scan, version_count, same_object, value_of, knows, Plan, book, keep, reading, committed, has_commit, Down, Tick, Trace, TryReport, ActReport, report_text, acts_shown, last_put, downs_shown, run_over, wire_shown, ◌≡◌, ℕ, List, [], ◌∷◌, ◌++◌, refl, Some, None, codes, pos, Number, Crash}
 use Rattle.pseudo_time.specs.declared.decisions.Decision.TheVariants as decision
 use Rattle.pseudo_time.specs.declared.nodes.NodeKind.{NodeKind}
 use Rattle.pseudo_time.specs.declared.down_causes.DownCause.TheVariants as cause

@@ -1,10 +1,6 @@
 -- The pages that are left are those that are blank.
-use Rattle.std.proofs.Common.{◌≡◌, inl, inr, ℕ, ◌+◌, ◌-◌, List, [], ◌∷◌, length, take, drop, true, false, Bool, cond, refl, sym, ◌∙◌, ap, subst, arith, length-drop, zero-add, count_by}
-use Rattle.std.specs.List.{list_all}
-use Rattle.std.proofs.lemmas.Bool.{cases_Bool, cond-true, and_parts}
-use Rattle.std.proofs.lemmas.List.{take-append-drop}
 use Rattle.std.proofs.lemmas.List.Sums.{sum_by-append}
-use Rattle.version_store.proofs.Names.{Image, is_blank, state_of, Blank, Log, Content, Reading, Going, Ended, Damaged, begun, next, scan, IsAtRest, PageState, Spoiled, Gated}
+use Rattle.version_store.proofs.Names.{Image, is_blank, state_of, Blank, Log, Content, Reading, Going, Ended, Damaged, begun, next, scan, IsAtRest, PageState, Spoiled, Gated, ◌≡◌, inl, inr, ℕ, ◌+◌, ◌-◌, List, [], ◌∷◌, length, take, drop, true, false, Bool, cond, refl, sym, ◌∙◌, ap, subst, arith, length-drop, zero-add, count_by, list_all, cases_Bool, cond-true, and_parts, take-append-drop}
 use Rattle.version_store.proofs.ScanLemmas.{going}
 
 -- once ended or damaged, the reading goes on no more

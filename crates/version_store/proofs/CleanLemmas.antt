@@ -1,7 +1,5 @@
 -- Pages that are kept, and clean ones, over two runs.
-use Rattle.std.proofs.Common.{◌≢◌, List, ℕ, sym, ◌∙◌, ap, subst, inl, inr}
-use Rattle.std.proofs.lemmas.Bool.{cases_Bool}
-use Rattle.version_store.proofs.Names.{Image, page_of, is_blank, state_of, Spoiled, KeepsPages, StaysClean}
+use Rattle.version_store.proofs.Names.{Image, page_of, is_blank, state_of, Spoiled, KeepsPages, StaysClean, ◌≢◌, List, ℕ, sym, ◌∙◌, ap, subst, inl, inr, cases_Bool}
 
 pub keeps-joins : (a b c : Image) → KeepsPages a b → KeepsPages b c → KeepsPages a c
 keeps-joins a b c first second page marked =

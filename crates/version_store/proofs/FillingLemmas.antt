@@ -1,12 +1,6 @@
 -- How effects fill pages.
-use Rattle.std.proofs.Common.{◌≡◌, ℕ, zero, suc, ◌+◌, ◌≤◌, ◌<◌, List, [], ◌∷◌, ◌++◌, length, get_or, drop, ◌⊎◌, refl, sym, ◌∙◌, ap, subst, arith, inl, inr, append_assoc, zero-add, length-append}
-use Rattle.std.specs.Prelude.{nat_le, ◌==◌, ◌*◌}
-use Rattle.std.specs.List.{flat_map}
-use Rattle.std.proofs.lemmas.Bool.{cases_Bool, cond-true, cond-false, le-leb, lt-leb, leb-true, leb-false, ne_eqb}
-use Rattle.std.proofs.lemmas.List.{append-nil, drop_more, drop_all}
-use Rattle.version_store.proofs.Names.{Every, Effect, IsEffect, AreEffects, size_of, size_some, size_most, sizes, Parcel, Shared, Alone, closed, parcels_from, parcels, pieced, full_pages, pages_of, filling, joined, reach, begun_pages, Filled}
+use Rattle.version_store.proofs.Names.{Every, Effect, IsEffect, AreEffects, size_of, size_some, size_most, sizes, Parcel, Shared, Alone, closed, parcels_from, parcels, pieced, full_pages, pages_of, filling, joined, reach, begun_pages, Filled, ◌≡◌, ℕ, zero, suc, ◌+◌, ◌≤◌, ◌<◌, List, [], ◌∷◌, ◌++◌, length, get_or, drop, ◌⊎◌, refl, sym, ◌∙◌, ap, subst, arith, inl, inr, append_assoc, zero-add, length-append, nat_le, ◌==◌, ◌*◌, flat_map, cases_Bool, cond-true, cond-false, le-leb, lt-leb, leb-true, leb-false, ne_eqb, append-nil, drop_more, drop_all, own_pages, pages_apart}
 use Rattle.pseudo_time.proofs.ListLemmas.{every-append}
-use Rattle.version_store.specs.Filling.{own_pages, pages_apart}
 
 pub sizes-append : (a b : List Effect) → sizes (a ++ b) ≡ sizes a + sizes b
 sizes-append [] b = sym (zero-add (sizes b))

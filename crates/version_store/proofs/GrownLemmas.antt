@@ -1,10 +1,5 @@
 -- How far the pages of an append have come.
-use Rattle.std.proofs.Common.{◌≡◌, ◌≢◌, ◌⊎◌, inl, inr, ⊎_elim, ℕ, ◌+◌, ◌<◌, List, [], ◌∷◌, ◌++◌, length, take, drop, get_or, true, Some, Ok, refl, sym, ◌∙◌, ap, subst, arith, add-zero, slice_set}
-use Rattle.std.specs.List.{list_all}
-use Rattle.std.proofs.lemmas.Bool.{and_parts, cond-true, cases_eq}
-use Rattle.std.proofs.lemmas.List.{append-nil, drop_more, take_more, flat_map_more, drop-set-lt, get_or-set_same, get_or-set_other}
-use Rattle.version_store.proofs.Names.{Image, Only, Stage, LeftNow, LeavesOnly, joins, is_blank, state_of, gated_page, Spoiled, Gated, Log, Going, log_going, begun, next, scan, entries, KeepsPages, Laid, PagesFit, HasPages, Grows, IsAtRest, all_of, body_of, padded}
-use Rattle.medium_port.specs.Moment.{stays}
+use Rattle.version_store.proofs.Names.{Image, Only, Stage, LeftNow, LeavesOnly, joins, is_blank, state_of, gated_page, Spoiled, Gated, Log, Going, log_going, begun, next, scan, entries, KeepsPages, Laid, PagesFit, HasPages, Grows, IsAtRest, all_of, body_of, padded, ◌≡◌, ◌≢◌, ◌⊎◌, inl, inr, ⊎_elim, ℕ, ◌+◌, ◌<◌, List, [], ◌∷◌, ◌++◌, length, take, drop, get_or, true, Some, Ok, refl, sym, ◌∙◌, ap, subst, arith, add-zero, slice_set, list_all, and_parts, cond-true, cases_eq, append-nil, drop_more, take_more, flat_map_more, drop-set-lt, get_or-set_same, get_or-set_other, stays}
 use Rattle.page_gate.specs.Steps.{MayPut}
 use Rattle.version_store.proofs.ScanLemmas.{going, stays_blank, stays_spoiled, steps, front_steps, log_at_rest}
 

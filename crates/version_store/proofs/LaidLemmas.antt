@@ -1,14 +1,6 @@
 -- The pages of a call, as they are laid out.
-use Rattle.std.proofs.Common.{◌≡◌, ℕ, zero, suc, ◌+◌, ◌-◌, ◌≤◌, ◌<◌, List, [], ◌∷◌, ◌++◌, length, map, take, drop, Option, Some, None, refl, sym, ◌∙◌, ap, subst, arith, inl, inr, append_assoc, zero-add, add-zero, length-take, length-drop, length-append, Vec}
-use Rattle.std.specs.declared.alloc.Global.{Global}
-use Rattle.std.proofs.lemmas.Bool.{cases_Bool, cond-true, cond-false, ne_eqb}
 use Rattle.std.proofs.lemmas.List.Elements.{All-push}
-use Rattle.std.specs.Prelude.{◌*◌, ◌/◌, ◌==◌, All}
-use Rattle.std.specs.Option.{option_map}
-use Rattle.std.specs.List.{flat_map}
-use Rattle.std.proofs.lemmas.List.{append-nil, map-append, length-map, take-append-drop}
-use Rattle.version_store.proofs.Names.{Every, Gated, ObjectId, Effect, Place, IsPlace, IsBack, IsWritten, IsEffect, AreEffects, effect_bytes, effect_at, size_of, length-effect_bytes, First, Middle, Last, size_some, Entry, Log, effects_of, put_object, is_object, last_put, back_of, back_in, sizes, Parcel, Shared, Alone, closed, parcels_from, parcels, pieced, full_pages, pages_of, begun_pages, filling, joined, Heads, HeadsFit, ArePlaces, Content, content_of, Reading, Going, Sheet, piece_of, log_going, next, going_or_damaged, with_sheet, place_alone, alone, admitted, texts, body_with, padded, place_after, entry_at, Laid, body_of, all_of, piece_bodies, laid, PagesFit, LaidOut, IsBody, bytes_of}
-use Rattle.version_store.specs.Laying.{entry_on, laid_on, whole, closed_body, ending, laid_in, laid_pages, LeadsTo}
+use Rattle.version_store.proofs.Names.{Every, Gated, ObjectId, Effect, Place, IsPlace, IsBack, IsWritten, IsEffect, AreEffects, effect_bytes, effect_at, size_of, length-effect_bytes, First, Middle, Last, size_some, Entry, Log, effects_of, put_object, is_object, last_put, back_of, back_in, sizes, Parcel, Shared, Alone, closed, parcels_from, parcels, pieced, full_pages, pages_of, begun_pages, filling, joined, Heads, HeadsFit, ArePlaces, Content, content_of, Reading, Going, Sheet, piece_of, log_going, next, going_or_damaged, with_sheet, place_alone, alone, admitted, texts, body_with, padded, place_after, entry_at, Laid, body_of, all_of, piece_bodies, laid, PagesFit, LaidOut, IsBody, bytes_of, ◌≡◌, ℕ, zero, suc, ◌+◌, ◌-◌, ◌≤◌, ◌<◌, List, [], ◌∷◌, ◌++◌, length, map, take, drop, Option, Some, None, refl, sym, ◌∙◌, ap, subst, arith, inl, inr, append_assoc, zero-add, add-zero, length-take, length-drop, length-append, Vec, Global, cases_Bool, cond-true, cond-false, ne_eqb, ◌*◌, ◌/◌, ◌==◌, All, option_map, flat_map, append-nil, map-append, length-map, take-append-drop, entry_on, laid_on, whole, closed_body, ending, laid_in, laid_pages, LeadsTo}
 use Rattle.version_store.proofs.LogLemmas.{last_from-push, has_back, effects_of-append}
 use Rattle.version_store.proofs.FillingLemmas.{FitsPage, FitsPages, parcels-takes, parcels-begins, parcels-alone, filling-fits, joined-filling, length-pieced, count_of, count-first, count-alone}
 use Rattle.version_store.proofs.ScanLemmas.{going}

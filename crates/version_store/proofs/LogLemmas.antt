@@ -1,10 +1,6 @@
 -- A log that has one entry more, and the last places of its objects.
-use Rattle.std.proofs.Common.{◌≡◌, [], ◌∷◌, ◌++◌, cond, Option, Some, None, refl, sym, ◌∙◌, ap, subst, inl, inr}
 use Rattle.std.specs.Ordering.{is_eq}
-use Rattle.std.specs.BTreeMap.{get, Updates}
-use Rattle.std.proofs.lemmas.Bool.{cases_Bool, cond-true, cond-false}
-use Rattle.std.proofs.lemmas.List.{map-append}
-use Rattle.version_store.proofs.Names.{some_is, ObjectId, object_cmp, Effect, Place, IsBack, IsWritten, IsEffect, Entry, Log, effects_of, put_object, is_object, last_from, Heads, HeadsFit, ArePlaces}
+use Rattle.version_store.proofs.Names.{some_is, ObjectId, object_cmp, Effect, Place, IsBack, IsWritten, IsEffect, Entry, Log, effects_of, put_object, is_object, last_from, Heads, HeadsFit, ArePlaces, ◌≡◌, [], ◌∷◌, ◌++◌, cond, Option, Some, None, refl, sym, ◌∙◌, ap, subst, inl, inr, get, Updates, cases_Bool, cond-true, cond-false, map-append}
 use Rattle.effect_form.specs.declared.effects.Effect.TheVariants.{Put, Stretch, Begin, Decide, Learn, Run, Act, Try, Got, Acked, End, Mark, Whole}
 
 pub last_from-push : (before : Option Place) (log : Log) (e : Entry) (object : ObjectId) → last_from before (log ++ e ∷ []) object ≡ cond (is_object (put_object e.effect) object) (Some e.place) (last_from before log object)

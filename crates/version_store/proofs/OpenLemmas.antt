@@ -1,11 +1,6 @@
 -- How an opening goes on from page to page.
-use Rattle.std.specs.Prelude.{◌==◌}
-use Rattle.std.proofs.Common.{◌≡◌, ◌≢◌, ℕ, ◌+◌, ◌<◌, List, [], ◌∷◌, length, get_or, take, drop, Bool, true, false, cond, Option, Some, None, refl, sym, ◌∙◌, ap, arith, inl, inr, length-take}
-use Rattle.std.specs.List.{list_all}
-use Rattle.std.proofs.lemmas.Bool.{cases_Bool, and_from, cond-true, cond-false}
-use Rattle.std.proofs.lemmas.List.{take_more, take_all, drop_all, drop-append-le}
 use Rattle.std.proofs.lemmas.List.Folds.{list_all-append}
-use Rattle.version_store.proofs.Names.{Image, Only, is_blank, state_of, PageState, Blank, Spoiled, Gated, Effect, Content, content_of, Reading, log_going, Going, Ended, Damaged, begun, next, scan, going_or_damaged, with_sheet, sheet_of, IsAtRest, Heads, IsFound, HeldFit, Reached, reading_of, Held}
+use Rattle.version_store.proofs.Names.{Image, Only, is_blank, state_of, PageState, Blank, Spoiled, Gated, Effect, Content, content_of, Reading, log_going, Going, Ended, Damaged, begun, next, scan, going_or_damaged, with_sheet, sheet_of, IsAtRest, Heads, IsFound, HeldFit, Reached, reading_of, Held, ◌==◌, ◌≡◌, ◌≢◌, ℕ, ◌+◌, ◌<◌, List, [], ◌∷◌, length, get_or, take, drop, Bool, true, false, cond, Option, Some, None, refl, sym, ◌∙◌, ap, arith, inl, inr, length-take, list_all, cases_Bool, and_from, cond-true, cond-false, take_more, take_all, drop_all, drop-append-le}
 use Rattle.version_store.proofs.ScanLemmas.{scan_more}
 
 -- a page that is in another state isn't blank

@@ -1,13 +1,5 @@
 -- A page that was laid out reads back.
-use Rattle.std.proofs.Common.{◌≡◌, ℕ, zero, suc, ◌+◌, ◌-◌, ◌^◌, ◌≤◌, ◌<◌, List, [], ◌∷◌, ◌++◌, length, true, cond, Option, Some, None, Result, refl, sym, ◌∙◌, ap, arith, append_assoc, length-append}
-use Rattle.std.specs.Prelude.{◌==◌, replicate}
-use Rattle.std.specs.Option.{option_map}
-use Rattle.std.specs.Int.{w16, to_be_bytes}
-use Rattle.std.proofs.lemmas.Bool.{cond-true, eq-eqb, and_from}
-use Rattle.std.proofs.lemmas.List.{append-nil}
-use Rattle.version_store.proofs.Names.{◌>>=◌, byte_at, number_at, between, u16_form, between_form, is_blank, Place, Written, IsWritten, effect_bytes, effect_at, size_of, length-effect_bytes, effect_cons, size_some, Entry, Log, effects_of, back_in, same_back, sizes, Content, content_of, piece_of, padded_at, new_sheet_at, sheet_of, place_before, admitted, log_at, alone, with_sheet, Piece, Whole, texts, body_with, padded, place_after}
-use Rattle.field_form.proofs.NumberLaws.{front_again}
-use Rattle.effect_form.proofs.EffectLaws.{effect_again}
+use Rattle.version_store.proofs.Names.{◌>>=◌, byte_at, number_at, between, u16_form, between_form, is_blank, Place, Written, IsWritten, effect_bytes, effect_at, size_of, length-effect_bytes, effect_cons, size_some, Entry, Log, effects_of, back_in, same_back, sizes, Content, content_of, piece_of, padded_at, new_sheet_at, sheet_of, place_before, admitted, log_at, alone, with_sheet, Piece, Whole, texts, body_with, padded, place_after, ◌≡◌, ℕ, zero, suc, ◌+◌, ◌-◌, ◌^◌, ◌≤◌, ◌<◌, List, [], ◌∷◌, ◌++◌, length, true, cond, Option, Some, None, Result, refl, sym, ◌∙◌, ap, arith, append_assoc, length-append, ◌==◌, replicate, option_map, w16, to_be_bytes, cond-true, eq-eqb, and_from, append-nil, front_again, effect_again}
 
 same_back-self : (b : Option Place) → same_back b b ≡ true
 same_back-self None = refl

@@ -1,13 +1,5 @@
 -- The effects of a page, as an opening reads them.
-use Rattle.std.proofs.Common.{◌≡◌, ℕ, zero, suc, ◌+◌, ◌-◌, ◌≤◌, ◌<◌, List, [], ◌∷◌, ◌++◌, length, take, drop, Bool, true, false, cond, Option, Some, None, Result, Ok, Err, ⊎_elim, inl, inr, refl, sym, ◌∙◌, ap, subst, arith, length-append, length-drop}
-use Rattle.std.specs.Prelude.{◌==◌}
-use Rattle.std.proofs.lemmas.Bool.{cases_Bool, cond-true, cond-false, and_parts, eqb-true}
-use Rattle.std.proofs.lemmas.List.{drop_at, take_all}
-use Rattle.version_store.proofs.Names.{IsBytes, ◌>>=◌, Effect, Place, Written, effect_bytes, effect_at, effect_takes, length-effect_bytes, size_most, without_back, Log, back_in, same_back, Heads, HeadsFit, IsFound, HeldBelow, HeldFit, Stand, reading_of, PageState, Blank, Spoiled, Gated, Held, Whole, First, Content, content_of, Sheet, Going, going_or_damaged, with_sheet, next, place_before, place_alone, admitted, alone, held_more, held_ends, log_at, entry_at}
-use Rattle.std.proofs.lemmas.Bool.Decides.{nat_tests}
-use Rattle.std.specs.Prelude.{MatchOption, MatchBool, Vec}
-use Rattle.std.specs.declared.alloc.Global.{Global}
-use Rattle.std.specs.Option.{option_map}
+use Rattle.version_store.proofs.Names.{IsBytes, ◌>>=◌, Effect, Place, Written, effect_bytes, effect_at, effect_takes, length-effect_bytes, size_most, without_back, Log, back_in, same_back, Heads, HeadsFit, IsFound, HeldBelow, HeldFit, Stand, reading_of, PageState, Blank, Spoiled, Gated, Held, Whole, First, Content, content_of, Sheet, Going, going_or_damaged, with_sheet, next, place_before, place_alone, admitted, alone, held_more, held_ends, log_at, entry_at, ◌≡◌, ℕ, zero, suc, ◌+◌, ◌-◌, ◌≤◌, ◌<◌, List, [], ◌∷◌, ◌++◌, length, take, drop, Bool, true, false, cond, Option, Some, None, Result, Ok, Err, ⊎_elim, inl, inr, refl, sym, ◌∙◌, ap, subst, arith, length-append, length-drop, ◌==◌, cases_Bool, cond-true, cond-false, and_parts, eqb-true, drop_at, take_all, nat_tests, MatchOption, MatchBool, Vec, Global, option_map}
 use Rattle.std.specs.Borrow.{Bor}
 use Rattle.version_store.proofs.LogLemmas.{effects_of-append}
 

@@ -1,9 +1,5 @@
 -- How the log of an image goes on from page to page.
-use Rattle.std.proofs.Common.{◌≡◌, ℕ, suc, ◌+◌, ◌<◌, List, [], ◌∷◌, ◌++◌, length, get_or, take, drop, true, Some, Ok, refl, sym, ◌∙◌, ap, arith, add-zero, add-one, length-take, slice_set}
-use Rattle.std.specs.List.{list_all}
-use Rattle.std.proofs.lemmas.Bool.{cond-true, and_parts}
-use Rattle.std.proofs.lemmas.List.{set_split, take_more, take_more_set, take-append-drop}
-use Rattle.version_store.proofs.Names.{some_is, Image, is_blank, state_of, Blank, Spoiled, Gated, Log, Content, content_of, Reading, Going, Ended, Damaged, log_going, begun, next, scan, finish, entries}
+use Rattle.version_store.proofs.Names.{some_is, Image, is_blank, state_of, Blank, Spoiled, Gated, Log, Content, content_of, Reading, Going, Ended, Damaged, log_going, begun, next, scan, finish, entries, ◌≡◌, ℕ, suc, ◌+◌, ◌<◌, List, [], ◌∷◌, ◌++◌, length, get_or, take, drop, true, Some, Ok, refl, sym, ◌∙◌, ap, arith, add-zero, add-one, length-take, slice_set, list_all, cond-true, and_parts, set_split, take_more, take_more_set, take-append-drop}
 
 pub scan-append : (front rest : Image) (reading : Reading) (n : ℕ) → scan reading n (front ++ rest) ≡ scan (scan reading n front) (n + length front) rest
 scan-append [] rest reading n = ap (λ (k : ℕ). scan reading k rest) (sym (add-zero n))

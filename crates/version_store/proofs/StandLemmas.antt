@@ -1,9 +1,5 @@
 -- At an object's last place, and at a back place, an effect of the log stands.
-use Rattle.std.proofs.Common.{◌≡◌, ◌⊎◌, inl, inr, ⊎_elim, ℕ, zero, suc, ◌≤◌, [], ◌∷◌, get_or, take, drop, true, false, Option, Some, None, cond, refl, sym, ◌∙◌, ap, arith, length-take}
-use Rattle.std.proofs.lemmas.Bool.{cases_Bool, cond-true, cond-false, false≢true}
-use Rattle.std.proofs.lemmas.List.{take-append-drop, get_or_append_left}
-use Rattle.version_store.proofs.Names.{some_is, ObjectId, Effect, Place, Entry, Log, IsIn, put_object, is_object, last_from, last_put, back_of, back_in, IsLastPut, BackStands}
-use Rattle.version_store.specs.Fetch.{IsPutAt}
+use Rattle.version_store.proofs.Names.{some_is, ObjectId, Effect, Place, Entry, Log, IsIn, put_object, is_object, last_from, last_put, back_of, back_in, IsLastPut, BackStands, ◌≡◌, ◌⊎◌, inl, inr, ⊎_elim, ℕ, zero, suc, ◌≤◌, [], ◌∷◌, get_or, take, drop, true, false, Option, Some, None, cond, refl, sym, ◌∙◌, ap, arith, length-take, cases_Bool, cond-true, cond-false, false≢true, take-append-drop, get_or_append_left, IsPutAt}
 
 -- one entry further on
 moved : (x : Entry) (log : Log) (object : ObjectId) (place : Place) → IsPutAt log object place → IsPutAt (x ∷ log) object place

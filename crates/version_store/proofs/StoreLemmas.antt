@@ -1,11 +1,6 @@
 -- What stands of a medium between two calls, and what an append leaves.
-use Rattle.std.proofs.Common.{◌≡◌, ℕ, zero, suc, ◌+◌, ◌≤◌, List, [], ◌∷◌, ◌++◌, length, map, take, drop, Ok, refl, sym, ◌∙◌, ap, subst, arith, length-take, append_assoc, Vec}
-use Rattle.std.specs.declared.alloc.Global.{Global}
-use Rattle.std.proofs.lemmas.List.{take-append-drop, take_at}
-use Rattle.version_store.proofs.Names.{Image, Stage, LeftNow, LeavesOnly, Effect, Log, effects_of, AreEffects, filling, joined, HasPrefix, KeepsPages, Heads, HeadsFit, ArePlaces, Laid, IsAtRest, HasPages, Grows, PagesFit, laid, all_of, body_of, bytes_of, begun, scan, entries, log_of, log_or_none}
-use Rattle.medium_port.specs.Moment.{widens, goes_to}
+use Rattle.version_store.proofs.Names.{Image, Stage, LeftNow, LeavesOnly, Effect, Log, effects_of, AreEffects, filling, joined, HasPrefix, KeepsPages, Heads, HeadsFit, ArePlaces, Laid, IsAtRest, HasPages, Grows, PagesFit, laid, all_of, body_of, bytes_of, begun, scan, entries, log_of, log_or_none, ◌≡◌, ℕ, zero, suc, ◌+◌, ◌≤◌, List, [], ◌∷◌, ◌++◌, length, map, take, drop, Ok, refl, sym, ◌∙◌, ap, subst, arith, length-take, append_assoc, Vec, Global, take-append-drop, take_at, widens, goes_to, effects_found}
 use Rattle.version_store.specs.Settled.{IsSettled}
-use Rattle.version_store.specs.Storage.{effects_found}
 use Rattle.version_store.proofs.ScanLemmas.{log_at_rest}
 use Rattle.version_store.proofs.LogLemmas.{effects_of-append}
 use Rattle.version_store.proofs.FillingLemmas.{joined-filling}

@@ -1,20 +1,8 @@
 -- A run of votes has begun: the members sit or are down, and the polls have gone.
-use Rattle.std.proofs.Common.{◌≡◌, ℕ, suc, ◌+◌, ◌<◌, ◌≤◌, ◌^◌, Bool, true, false, List, [], ◌++◌, length, map, refl, sym, ap, subst, ◌∙◌, arith}
-use Rattle.vote_call.proofs.Names.{Option, Some, None, Ok, Err, Result, not, nat_lt, IsTrue, OnOk, unwrap_or, nat_tests, append-nil, same_Some, slice_get_within, broker, same_node, DownCause, NodeId, Asked, storage, PollState, member, number_of, Line, new_poll, MemberNumber, First, Second, Third, Entry, opened_log, tick_moments, Opening, Media, HasOpened, IsWanting, log_in, PollLine, Hall, line_at, log_at, start_hall, WasNotOpened, base_of, CourierParts, Keeps, Tells, Stands, hall_of, trace_of, never-false, Fares, Lengthens, some_wants, wants, PollsGo, MemberIsAt, Sits, Members, Seat, out-stays, HaveOpened, medium_of, lines_of, polls_from, BeginsOver, BegunFor, Fall, Falls, HasBegun, LastFor, seat_for, MemberMedia, Openings}
-use Rattle.record_votes.specs.Voting.{opened}
-use Rattle.world_core.specs.Legal.{asked_of}
+use Rattle.vote_call.proofs.Names.{Option, Some, None, Ok, Err, Result, not, nat_lt, IsTrue, OnOk, unwrap_or, nat_tests, append-nil, same_Some, slice_get_within, broker, same_node, DownCause, NodeId, Asked, storage, PollState, member, number_of, Line, new_poll, MemberNumber, First, Second, Third, Entry, opened_log, tick_moments, Opening, Media, HasOpened, IsWanting, log_in, PollLine, Hall, line_at, log_at, start_hall, WasNotOpened, base_of, CourierParts, Keeps, Tells, Stands, hall_of, trace_of, never-false, Fares, Lengthens, some_wants, wants, PollsGo, MemberIsAt, Sits, Members, Seat, out-stays, HaveOpened, medium_of, lines_of, polls_from, BeginsOver, BegunFor, Fall, Falls, HasBegun, LastFor, seat_for, MemberMedia, Openings, ◌≡◌, ℕ, suc, ◌+◌, ◌<◌, ◌≤◌, ◌^◌, Bool, true, false, List, [], ◌++◌, length, map, refl, sym, ap, subst, ◌∙◌, arith, opened, asked_of, JustVoters, is_node, PollIsAt, PollIsNew, and-false, begins, MayAllTurn, PollsWent, is_poll, fares-along, SomeOpened, opening_of, SeatsAll, opened_for}
 use Rattle.vote_run.specs.Opening.TheVariants as opening
-use Rattle.vote_run.specs.Legal.{JustVoters, is_node}
-use Rattle.vote_run.specs.Places.{PollIsAt, PollIsNew}
-use Rattle.vote_run.proofs.PlaceLemmas.{and-false}
-use Rattle.vote_run.proofs.StationLemmas.{begins}
-use Rattle.vote_run.specs.Members.{MayAllTurn}
-use Rattle.vote_run.specs.Rounds.{PollsWent, is_poll}
-use Rattle.vote_run.proofs.FareLemmas.{fares-along}
 use Rattle.vote_run.proofs.MembersLemmas.{or-parts, sits-stay}
 use Rattle.vote_run.proofs.VoterLemmas.{just-voters}
-use Rattle.vote_call.specs.Media.{SomeOpened, opening_of}
-use Rattle.vote_call.specs.Starts.{SeatsAll, opened_for}
 use Rattle.vote_call.proofs.StartLemmas.{AreOthers, lasts-sit, may-sit, fall-keeps, falls-longer, fares-open, lines-count, member-stays, none-below, none-walked, others-stay, own-sits, polls-at, polls-count, polls-stay, seated, voter-log, within-lines}
 
 all-below : (k n : ℕ) → k < n → nat_lt k n ≡ true

@@ -1,46 +1,26 @@
 -- What a run of votes comes to, once it is over.
-use Rattle.std.proofs.Common.{◌≡◌, ℕ, zero, suc, ◌+◌, ◌<◌, ◌≤◌, ◌^◌, Bool, true, false, List, [], ◌∷◌, ◌++◌, length, map, take, inl, inr, refl, sym, ap, subst, ◌∙◌, arith}
-use Rattle.vote_call.proofs.Names.{Option, Some, None, Ok, Err, Result, ◌⊎◌, cond, OnOk, slice_get, IsTrue, unwrap_or, append-nil, same_Some, slice_get_within, DownCause, NodeId, RoseBy, Asked, StaysClean, storage, PollState, member, Line, MemberNumber, First, Second, Third, Entry, Down, own, tick_moments, Media, HasOpened, IsAsItWas, Opening, down_cause, costs, PollLine, Base, Hall, log_at, start_hall, walk_from, WasNotOpened, base_of, CourierParts, Tells, hall_of, trace_of, never-false, Fares, ShutAs, KeepsWhole, Lasts, Sits, SitsUp, Members, Seat, Up, Fallen, Wanting, out-stays, Grows, clean-same, grows-same, AreKept, HaveOpened, medium_of, lines_of, polls_from, BeginsOver, BegunFor, HasBegun, LastFor, Openings, MemberMedia}
-use Rattle.std.specs.Prelude.{IsOk, is_err, is_some, max}
+use Rattle.vote_call.proofs.Names.{Option, Some, None, Ok, Err, Result, ◌⊎◌, cond, OnOk, slice_get, IsTrue, unwrap_or, append-nil, same_Some, slice_get_within, DownCause, NodeId, RoseBy, Asked, StaysClean, storage, PollState, member, Line, MemberNumber, First, Second, Third, Entry, Down, own, tick_moments, Media, HasOpened, IsAsItWas, Opening, down_cause, costs, PollLine, Base, Hall, log_at, start_hall, walk_from, WasNotOpened, base_of, CourierParts, Tells, hall_of, trace_of, never-false, Fares, ShutAs, KeepsWhole, Lasts, Sits, SitsUp, Members, Seat, Up, Fallen, Wanting, out-stays, Grows, clean-same, grows-same, AreKept, HaveOpened, medium_of, lines_of, polls_from, BeginsOver, BegunFor, HasBegun, LastFor, Openings, MemberMedia, ◌≡◌, ℕ, zero, suc, ◌+◌, ◌<◌, ◌≤◌, ◌^◌, Bool, true, false, List, [], ◌∷◌, ◌++◌, length, map, take, inl, inr, refl, sym, ap, subst, ◌∙◌, arith, IsOk, is_err, is_some, max, Rose, filling, held, Member, Take, Go, Learn, Hear, Gate, Crash, Tick, fates_of, IsUntouched, IsShutFor, is_tick, tick_count, step, Legal, Meets, AllFare, FareOn, FellLater, AllLast, HasLonger, LosesNothing, medium_in, PollsAre, ShowsCause, SitsDown, SitsFallen, out-down, was-opened, given_back, handed_back, IsKeptBack, standing_from, standings_of}
 use Rattle.std.specs.List.{count_by, list_all}
 use Rattle.std.proofs.lemmas.Bool.{and_parts}
 use Rattle.std.proofs.lemmas.List.Sums.{sum_by-cons}
 use Rattle.pseudo_time.specs.Lists.{Every}
 use Rattle.pseudo_time.specs.declared.down_causes.DownCause.TheVariants as down
-use Rattle.stream_port.specs.Causes.{Rose}
 use Rattle.stream_port.specs.declared.fates.Fate.{Fate}
 use Rattle.page_gate.specs.States.{is_blank}
-use Rattle.version_store.specs.Filling.{filling}
 use Rattle.version_store.specs.StoreWords as words
 use Rattle.version_store.specs.declared.stores.Store.{Store}
 use Rattle.record_votes.specs.Books.{MemberState}
-use Rattle.record_votes.specs.Polls.{held}
-use Rattle.record_votes.specs.Voting.{Member}
-use Rattle.world_core.specs.declared.entries.Entry.TheVariants.{Take, Go, Learn, Hear, Gate, Crash, Tick}
 use Rattle.world_core.specs.declared.traces.Trace.{Trace}
-use Rattle.world_core.specs.Legal.{fates_of}
-use Rattle.vote_run.specs.Media.{IsUntouched}
-use Rattle.vote_run.specs.Openings.{IsShutFor}
 use Rattle.vote_run.specs.Openings as openings
 use Rattle.vote_run.specs.Opening.TheVariants as opening
-use Rattle.world_core.specs.Counts.{is_tick, tick_count}
 use Rattle.vote_report.specs.declared.standings.PollStanding.{PollStanding}
-use Rattle.vote_run.specs.Walks.{step}
-use Rattle.vote_run.specs.Legal.{Legal, Meets}
 use Rattle.vote_promise.specs.Clauses.{AllHold, AreCounted, AreDownFor, HasEnded, HasRunOut, HaveVoted, IsTold, KeepsLog, RestoresLogs, gated_log, open_effects}
 use Rattle.vote_promise.proofs.ClauseLemmas.{caused, stand}
 use Rattle.vote_run.specs.Ends.{IsOver, all_held}
 use Rattle.vote_run.specs.Ends as ends
-use Rattle.vote_run.specs.Fares.{AllFare, FareOn, FellLater}
-use Rattle.vote_run.specs.Lasts.{AllLast, HasLonger, LosesNothing, medium_in}
-use Rattle.vote_run.specs.Rounds.{PollsAre}
-use Rattle.vote_run.specs.Sittings.{ShowsCause, SitsDown, SitsFallen}
 use Rattle.vote_run.specs.declared.limits.Limits.{Limits}
-use Rattle.vote_run.proofs.EntryLemmas.{out-down, was-opened}
 use Rattle.vote_promise.proofs.CompleteLemmas.{completes}
-use Rattle.vote_call.specs.Media.{given_back, handed_back, IsKept as IsKeptBack}
 use Rattle.vote_call.specs.Ends.{EndedFor, EndsAs, IsOver as HasBeenOver, RunsAs, Tells as TellsEnd, tellers}
-use Rattle.vote_call.specs.Polls.{standing_from, standings_of}
 use Rattle.vote_call.specs.declared.voting.VoteEnd.{VoteEnd}
 use Rattle.vote_call.specs.declared.voting.VoteEnd.TheVariants.{Told, NoMemory}
 use Rattle.vote_call.proofs.StartLemmas.{lines-count, polls-count}

@@ -1,29 +1,13 @@
 -- How a run of votes begins: who can't be opened is down, and the others sit.
-use Rattle.std.proofs.Common.{◌≡◌, ℕ, zero, suc, ◌+◌, ◌<◌, Bool, true, false, List, [], ◌∷◌, ◌++◌, length, inl, inr, refl, sym, ap, subst, ◌∙◌, arith}
-use Rattle.vote_call.proofs.Names.{Option, Some, None, cond, ◌⊎◌, not, nat_lt, slice_get, IsTrue, unwrap_or, nat_tests, append-nil, same_Some, broker, same_node, DownCause, NodeId, RoseBy, StaysClean, PollState, member, number_of, Line, new_poll, MemberNumber, First, Second, Third, Entry, Down, opened_log, own, Opening, Media, HasOpened, IsAsItWas, IsWanting, log_in, down_cause, PollLine, Grows, costs, Base, Hall, line_at, start_hall, walk_from, base_of, CourierParts, Keeps, Stands, hall_of, trace_of, never-false, Fares, Lengthens, ShutAs, KeepsWhole, Lasts, wants, PollsGo, MemberIsAt, Sits, SitsUp, opened_voters, Seat, Up, Fallen, Wanting, clean-same, grows-same, lines_of, polls_from, Falls, seat_for}
-use Rattle.std.specs.Prelude.{if◌then◌else◌}
+use Rattle.vote_call.proofs.Names.{Option, Some, None, cond, ◌⊎◌, not, nat_lt, slice_get, IsTrue, unwrap_or, nat_tests, append-nil, same_Some, broker, same_node, DownCause, NodeId, RoseBy, StaysClean, PollState, member, number_of, Line, new_poll, MemberNumber, First, Second, Third, Entry, Down, opened_log, own, Opening, Media, HasOpened, IsAsItWas, IsWanting, log_in, down_cause, PollLine, Grows, costs, Base, Hall, line_at, start_hall, walk_from, base_of, CourierParts, Keeps, Stands, hall_of, trace_of, never-false, Fares, Lengthens, ShutAs, KeepsWhole, Lasts, wants, PollsGo, MemberIsAt, Sits, SitsUp, opened_voters, Seat, Up, Fallen, Wanting, clean-same, grows-same, lines_of, polls_from, Falls, seat_for, ◌≡◌, ℕ, zero, suc, ◌+◌, ◌<◌, Bool, true, false, List, [], ◌∷◌, ◌++◌, length, inl, inr, refl, sym, ap, subst, ◌∙◌, arith, if◌then◌else◌, KeepsPages, is_within, Flags, is_down, LeavesLog, walk, IsOfDowns, with_entry, OnlyChanges, down-called, flags-on, keeps, keeps-still, leads, downs-legal, FaresWell, HasPaid, NeverOpened, down-more, none-own, own-still, line_of, SeatsAs}
 use Rattle.medium_port.specs.Image.{page_of}
 use Rattle.effect_form.specs.declared.effects.Effect.{Effect}
 use Rattle.message_core.proofs.NodeLemmas.{same_node-refl}
-use Rattle.version_store.specs.Filling.{KeepsPages}
 use Rattle.version_store.specs.StoreWords as words
 use Rattle.world_core.specs.declared.traces.Opened.{Opened}
-use Rattle.world_core.specs.Legal.{is_within}
-use Rattle.world_core.specs.Walks.{Flags, is_down}
 use Rattle.vote_run.specs.Opening.TheVariants as opening
-use Rattle.vote_run.specs.Closings.{LeavesLog}
-use Rattle.vote_run.specs.Walks.{walk}
-use Rattle.vote_run.specs.Legal.{IsOfDowns}
-use Rattle.vote_run.specs.Couriers.{with_entry}
-use Rattle.vote_run.specs.Places.{OnlyChanges}
-use Rattle.vote_run.proofs.PlaceLemmas.{down-called, flags-on, keeps, keeps-still, leads}
-use Rattle.vote_run.proofs.StationLemmas.{downs-legal}
-use Rattle.vote_run.specs.Fares.{FaresWell, HasPaid, NeverOpened}
 use Rattle.vote_run.specs.MemberTurns.{MayTurn}
-use Rattle.vote_run.proofs.EntryLemmas.{down-more, none-own, own-still}
 use Rattle.vote_run.proofs.PollLemmas.{new-stays, ready-stays}
-use Rattle.vote_call.specs.Polls.{line_of}
-use Rattle.vote_call.specs.Starts.{SeatsAs}
 
 -- ---- what was opened
 

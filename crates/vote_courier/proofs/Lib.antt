@@ -5,3 +5,4 @@ pub use Rattle.vote_wire.proofs.CauseLemmas
 pub use Rattle.vote_wire.proofs.MomentLemmas
 pub use Rattle.vote_wire.proofs.QuietLemmas
 pub use Rattle.vote_wire.proofs.WalkLemmas
+pub mod Names

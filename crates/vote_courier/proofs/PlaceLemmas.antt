@@ -1,36 +1,12 @@
 -- What an entry of a node changes, and that turns of polls keep the trace legal.
-use Rattle.std.proofs.Common.{◌≡◌, ℕ, suc, ◌+◌, Bool, true, false, List, [], ◌∷◌, ◌++◌, map, inl, inr, refl, sym, ap, subst, ◌∙◌, append_assoc}
-use Rattle.std.specs.Prelude.{Option, Some, None, ◌&&◌, ◌⊎◌, not, cond, is_some, if◌then◌else◌}
-use Rattle.std.proofs.lemmas.List.{append-nil, map-append}
+use Rattle.vote_courier.proofs.Names.{◌≡◌, ℕ, suc, ◌+◌, Bool, true, false, List, [], ◌∷◌, ◌++◌, map, inl, inr, refl, sym, ap, subst, ◌∙◌, append_assoc, Option, Some, None, ◌&&◌, ◌⊎◌, not, cond, is_some, if◌then◌else◌, append-nil, map-append, broker, is_broker, same_node, DownCause, NodeId, Out, Post, Asked, Arrival, state_of, numbered, Line, Member, Entry, Take, Go, Learn, Hear, Gate, Crash, Down, Tick, Opened, Sent, HasGone, asked_of, is_behind, post_of, Flags, Sending, flagged, has_heard, heard_after, last_after, names, own, ticks_after, with_due, is-copy, numbered-from, Base, Hall, member_on, owed_on, poll_heard, poll_on, poll_took, step, walk, world_of, base_of, hall_after, walk-more, CourierParts, HasSent, Takes, with_entry, MayAct, Stands, hall_of, trace_of}
 use Rattle.std.proofs.lemmas.List.Elements.{filter-append}
-use Rattle.pseudo_time.specs.Nodes.{broker, is_broker, same_node}
-use Rattle.pseudo_time.specs.declared.down_causes.DownCause.{DownCause}
-use Rattle.pseudo_time.specs.declared.nodes.NodeId.{NodeId}
-use Rattle.message_form.specs.declared.turns.Out.{Out}
-use Rattle.message_form.specs.Posts.{Post}
-use Rattle.stream_port.specs.declared.fates.Asked.{Asked}
-use Rattle.message_core.specs.declared.letters.Arrival.{Arrival}
-use Rattle.message_core.specs.Parts.{state_of}
-use Rattle.message_core.specs.Tallies.{numbered}
 use Rattle.message_core.proofs.NodeLemmas.{same_node-refl}
 use Rattle.record_votes.specs.declared.member_numbers.MemberNumber.{MemberNumber}
 use Rattle.record_votes.specs.Polls.{PollState, PollGiven, member, poll_goes, poll_hears, poll_takes}
-use Rattle.record_votes.specs.Voting.{Line, Member}
-use Rattle.world_core.specs.declared.entries.Entry.{Entry}
-use Rattle.world_core.specs.declared.entries.Entry.TheVariants.{Take, Go, Learn, Hear, Gate, Crash, Down, Tick}
-use Rattle.world_core.specs.declared.traces.Opened.{Opened}
-use Rattle.world_core.specs.declared.traces.Sent.{Sent}
-use Rattle.world_core.specs.Legal.{HasGone, asked_of, is_behind, post_of}
-use Rattle.world_core.specs.Walks.{Flags, Sending, flagged, has_heard, heard_after, last_after, names, own, ticks_after, with_due}
 use Rattle.vote_wire.specs.Clocked.{IsClocked, tick_moments}
-use Rattle.vote_wire.proofs.DueLemmas.{is-copy, numbered-from}
 use Rattle.vote_wire.proofs.MomentLemmas.{clocked-still}
 use Rattle.vote_wire.proofs.QuietLemmas.{behind-parts}
-use Rattle.vote_wire.specs.Walks.{Base, Hall, member_on, owed_on, poll_heard, poll_on, poll_took, step, walk, world_of}
-use Rattle.vote_wire.specs.Legal.{base_of, hall_after}
-use Rattle.vote_wire.proofs.WalkLemmas.{walk-more}
-use Rattle.vote_courier.specs.Couriers.{CourierParts, HasSent, Takes, with_entry}
-use Rattle.vote_courier.specs.Stations.{MayAct, Stands, hall_of, trace_of}
 use Rattle.vote_courier.specs.Places.{IsReady, PollIsAt, PollIsNew, PollOwes, OnlyChanges, Tells, Adds, Keeps}
 use Rattle.vote_courier.specs.Turns.{Goes, HearsTick, TookCopy, FoundNone, PollTurns}
 use Rattle.vote_courier.proofs.StationLemmas.{takes-legal, notes-legal, gates-legal}

@@ -1,46 +1,21 @@
 -- Each call of a courier keeps its trace a legal vote trace.
-use Rattle.std.proofs.Common.{◌≡◌, ℕ, suc, ◌+◌, ◌<◌, ◌≤◌, ◌^◌, Bool, true, false, List, [], ◌∷◌, ◌++◌, map, length, refl, sym, ap, subst, ◌∙◌, arith}
-use Rattle.std.specs.Prelude.{Option, Some, None, ◌&&◌, ◌||◌, is_some, max, min, if◌then◌else◌}
+use Rattle.vote_courier.proofs.Names.{◌≡◌, ℕ, suc, ◌+◌, ◌<◌, ◌≤◌, ◌^◌, Bool, true, false, List, [], ◌∷◌, ◌++◌, map, length, refl, sym, ap, subst, ◌∙◌, arith, Option, Some, None, ◌&&◌, ◌||◌, is_some, max, min, if◌then◌else◌, append-nil, map-append, same_node, DownCause, NodeId, Out, Post, posts, Asked, Arrival, AllEmpty, passed, taken, was_shut, state_of, blank_tally, Line, Entry, Take, Go, Learn, Hear, Gate, Crash, Down, Tick, Opened, Sent, MayTick, Numbered, fates_of, post_of, asked_of, Flags, Sending, flagged, names, opened_log, sent_by, last_after, front-cons, Base, Hall, leaving, start_hall, step, walk_from, walk, world_of, JustVoters, Legal, Rule, base_of, hall_after, walk-more, begins-legal, goes-on, CourierParts, HasSent, IsNew, Takes, tick_moment, with_entry, MayAct, Stands, hall_of, owes, trace_of}
 use Rattle.std.specs.List.{list_any}
 use Rattle.std.specs.Option.{unwrap_or}
-use Rattle.std.proofs.lemmas.List.{append-nil, map-append}
-use Rattle.pseudo_time.specs.Nodes.{same_node}
-use Rattle.pseudo_time.specs.declared.down_causes.DownCause.{DownCause}
-use Rattle.pseudo_time.specs.declared.nodes.NodeId.{NodeId}
 use Rattle.pseudo_time.specs.declared.nodes.NodeKind.{NodeKind}
 use Rattle.pseudo_time.specs.declared.nodes.NodeKind.TheVariants.{Repository, Broker}
-use Rattle.message_form.specs.declared.turns.Out.{Out}
 use Rattle.message_form.specs.Messages.{IsMessage}
-use Rattle.message_form.specs.Posts.{Post, posts}
 use Rattle.message_form.specs.Ranges.{AreOuts}
 use Rattle.message_core.specs.Senders.{AllInRange}
 use Rattle.pseudo_time.proofs.ListLemmas.{every-append}
-use Rattle.stream_port.specs.declared.fates.Asked.{Asked}
-use Rattle.message_core.specs.declared.letters.Arrival.{Arrival}
 use Rattle.message_core.specs.Flights as flights
-use Rattle.message_core.specs.Flights.{AllEmpty, passed, taken, was_shut}
-use Rattle.message_core.specs.Parts.{state_of}
-use Rattle.message_core.specs.Tallies.{blank_tally}
 use Rattle.message_core.proofs.TallyLemmas.{tallied_start}
-use Rattle.record_votes.specs.Voting.{Line}
-use Rattle.world_core.specs.declared.entries.Entry.{Entry}
-use Rattle.world_core.specs.declared.entries.Entry.TheVariants.{Take, Go, Learn, Hear, Gate, Crash, Down, Tick}
-use Rattle.world_core.specs.declared.traces.Opened.{Opened}
-use Rattle.world_core.specs.declared.traces.Sent.{Sent}
 use Rattle.world_core.specs.declared.traces.Trace.{Trace}
-use Rattle.world_core.specs.Legal.{MayTick, Numbered, fates_of, post_of, asked_of}
-use Rattle.world_core.specs.Walks.{Flags, Sending, flagged, names, opened_log, sent_by, last_after}
 use Rattle.vote_wire.specs.Copies.{Marked, IsTied, all_marked}
 use Rattle.vote_wire.specs.Flagged.{names_of}
-use Rattle.vote_wire.proofs.DueLemmas.{front-cons}
-use Rattle.vote_wire.specs.Walks.{Base, Hall, leaving, start_hall, step, walk_from, walk, world_of}
-use Rattle.vote_wire.specs.Legal.{JustVoters, Legal, Rule, base_of, hall_after}
 use Rattle.vote_wire.proofs.CauseLemmas.{at-if}
-use Rattle.vote_wire.proofs.WalkLemmas.{walk-more, begins-legal, goes-on}
 use Rattle.vote_wire.specs.Carried.{IsAtRest, IsCarried, LeavesFlight}
 use Rattle.vote_wire.proofs.CarryLemmas.{takes, left-carried, down-carried, tick-carried, idles, gate-carried}
-use Rattle.vote_courier.specs.Couriers.{CourierParts, HasSent, IsNew, Takes, tick_moment, with_entry}
-use Rattle.vote_courier.specs.Stations.{MayAct, Stands, hall_of, owes, trace_of}
 
 -- ---- a node that is up is known
 

@@ -1,38 +1,14 @@
 -- What a legal trace and media that keep its logs come to.
-use Rattle.std.proofs.Common.{◌≡◌, ℕ, ◌≤◌, Bool, true, false, List, [], ◌∷◌, ◌++◌, take, drop, length, inl, inr, refl, sym, ap, subst, ◌∙◌}
-use Rattle.std.specs.Prelude.{◌⊎◌, Option, Some, None, Ok, ◌&&◌, is_some, IsTrue, if◌then◌else◌}
+use Rattle.vote_promise.proofs.Names.{◌≡◌, ℕ, ◌≤◌, Bool, true, false, List, [], ◌∷◌, ◌++◌, take, drop, length, inl, inr, refl, sym, ap, subst, ◌∙◌, ◌⊎◌, Option, Some, None, Ok, ◌&&◌, is_some, IsTrue, if◌then◌else◌, append_assoc, take-append-drop, Has, DownCause, NodeId, Effect, Asked, Fate, MemberNumber, member, held, IsDecided, Line, Member, Entry, Take, Go, Learn, Hear, Gate, Crash, Down, Tick, Trace, fates_of, Flags, flagged, is_down, names, same_is, same_node-refl, same_node, Media, Base, Hall, line_at, log_at, member_on, no_line, start_hall, step, walk_from, IsOfDowns, Legal, Meets, Rule, WasNotOpened, base_of, hall_after, at-if, causes-front, decisions-caused, flagged-up, walk-append, meets-parts, HasEnded, HasRunOut, HoldsDecide, IsKept, KeepsLog, RestoresLogs, StandOnMedia, TwoHold, HaveCausesOnMedia, AllHold, gated_log, open_effects}
 use Rattle.std.specs.Option.{unwrap_or}
-use Rattle.std.proofs.lemmas.List.{append_assoc, take-append-drop}
-use Rattle.pseudo_time.specs.Lists.{Has}
 use Rattle.pseudo_time.proofs.ListLemmas.{has-left}
 use Rattle.pseudo_time.specs.StampParts.{StampParts}
-use Rattle.pseudo_time.specs.declared.down_causes.DownCause.{DownCause}
-use Rattle.pseudo_time.specs.declared.nodes.NodeId.{NodeId}
-use Rattle.effect_form.specs.declared.effects.Effect.{Effect}
 use Rattle.effect_form.specs.declared.effects.Effect.TheVariants as effect
-use Rattle.stream_port.specs.declared.fates.Asked.{Asked}
-use Rattle.stream_port.specs.declared.fates.Fate.{Fate}
 use Rattle.medium_port.specs.Image.{Image}
 use Rattle.message_core.specs.Tallies.{numbered}
-use Rattle.record_votes.specs.declared.member_numbers.MemberNumber.{MemberNumber}
-use Rattle.record_votes.specs.Polls.{member, held}
-use Rattle.record_votes.specs.Voting.{IsDecided, Line, Member}
-use Rattle.world_core.specs.declared.entries.Entry.{Entry}
-use Rattle.world_core.specs.declared.entries.Entry.TheVariants.{Take, Go, Learn, Hear, Gate, Crash, Down, Tick}
-use Rattle.world_core.specs.declared.traces.Trace.{Trace}
-use Rattle.world_core.specs.Legal.{fates_of}
-use Rattle.world_core.specs.Walks.{Flags, flagged, is_down, names}
-use Rattle.message_core.proofs.NodeLemmas.{same_is, same_node-refl}
-use Rattle.pseudo_time.specs.Nodes.{same_node}
-use Rattle.run_media.specs.Media.{Media}
-use Rattle.vote_law.specs.Walks.{Base, Hall, line_at, log_at, member_on, no_line, start_hall, step, walk_from}
-use Rattle.vote_law.specs.Legal.{IsOfDowns, Legal, Meets, Rule, WasNotOpened, base_of, hall_after}
 use Rattle.vote_law.specs.Causes.{HaveCauses}
 use Rattle.vote_law.specs.Replays.{TwoDecided}
-use Rattle.vote_law.proofs.CauseLemmas.{at-if, causes-front, decisions-caused, flagged-up}
 use Rattle.vote_law.proofs.ReplayLemmas.{two-decided}
-use Rattle.vote_law.proofs.WalkLemmas.{walk-append, meets-parts}
-use Rattle.vote_promise.specs.Clauses.{HasEnded, HasRunOut, HoldsDecide, IsKept, KeepsLog, RestoresLogs, StandOnMedia, TwoHold, HaveCausesOnMedia, AllHold, gated_log, open_effects}
 
 -- ---- a member that wasn't opened has no log
 

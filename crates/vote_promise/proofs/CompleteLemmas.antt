@@ -1,54 +1,30 @@
 -- Votes over sound media come to their decisions without a Tick.
-use Rattle.std.proofs.Common.{◌≡◌, ◌≢◌, ℕ, zero, suc, ◌+◌, ◌*◌, ◌≤◌, ◌<◌, Bool, true, false, List, [], ◌∷◌, ◌++◌, Ok, Err, map, length, inl, inr, refl, sym, ap, subst, ◌∙◌, arith}
-use Rattle.std.specs.Prelude.{◌⊎◌, ◌==◌, ◌&&◌, Option, Some, None, Result, is_some, not, nat_le, cond, IsTrue, if◌then◌else◌}
+use Rattle.vote_promise.proofs.Names.{◌≡◌, ◌≢◌, ℕ, zero, suc, ◌+◌, ◌*◌, ◌≤◌, ◌<◌, Bool, true, false, List, [], ◌∷◌, ◌++◌, Ok, Err, map, length, inl, inr, refl, sym, ap, subst, ◌∙◌, arith, ◌⊎◌, ◌==◌, ◌&&◌, Option, Some, None, Result, is_some, not, nat_le, cond, IsTrue, if◌then◌else◌, append-nil, append_assoc, length-append, length-map, Every, repository, is_broker, same_node, DownCause, NodeId, Effect, Asked, Fate, same_is, same_node-refl, MemberNumber, member, voter_at, Line, Member, all_effects, Media, Entry, Take, Go, Learn, Hear, Gate, Crash, Down, Tick, Trace, Idle, fates_of, is_within, post_of, Flags, Sending, flagged, is_down, names, own, Base, Hall, log_at, member_on, start_hall, step, walk, walk_from, world_of, IsOfDowns, Legal, Meets, Rule, WasNotOpened, base_of, hall_after, is_node, at-if, flagged-up, meets-parts, walk-append, AllHold, AreCounted, AreDownFor, AreSound, Became, Completes, HasEnded, HasRunOut, IsSmooth, IsSound, KeepsLog, RestoresLogs, gated_log, open_effects}
 use Rattle.std.specs.List.{count_by}
 use Rattle.std.proofs.lemmas.Bool.{and_parts, cond-true, le-leb}
 use Rattle.std.proofs.lemmas.Bool.Decides.{nat_tests}
-use Rattle.std.proofs.lemmas.List.{append-nil, append_assoc, length-append, length-map}
 use Rattle.std.proofs.lemmas.List.Sums.{sum_by-cons}
-use Rattle.pseudo_time.specs.Lists.{Every}
-use Rattle.pseudo_time.specs.Nodes.{repository, is_broker, same_node}
 use Rattle.pseudo_time.specs.declared.decisions.Decision.TheVariants as decision
-use Rattle.pseudo_time.specs.declared.down_causes.DownCause.{DownCause}
 use Rattle.pseudo_time.specs.declared.down_causes.DownCause.TheVariants as down
-use Rattle.pseudo_time.specs.declared.nodes.NodeId.{NodeId}
 use Rattle.pseudo_time.specs.declared.nodes.NodeKind.{NodeKind}
 use Rattle.pseudo_time.specs.declared.nodes.NodeKind.TheVariants as kind
-use Rattle.effect_form.specs.declared.effects.Effect.{Effect}
 use Rattle.effect_form.specs.declared.effects.Effect.TheVariants as effect
 use Rattle.effect_form.specs.Effects.{size_of}
 use Rattle.stream_port.specs.Causes.{Rose, RoseBy, rise_of_fewer}
-use Rattle.stream_port.specs.declared.fates.Asked.{Asked}
-use Rattle.stream_port.specs.declared.fates.Fate.{Fate}
-use Rattle.message_core.proofs.NodeLemmas.{same_is, same_node-refl}
 use Rattle.version_store.specs.Filling.{filling, full_pages, own_pages, pages_apart}
 use Rattle.version_store.specs.Storage.{storage}
 use Rattle.version_store.proofs.FillingLemmas.{filling-apart}
 use Rattle.page_gate.specs.States.{is_blank}
-use Rattle.record_votes.specs.declared.member_numbers.MemberNumber.{MemberNumber}
 use Rattle.record_votes.specs.declared.member_numbers.MemberNumber.TheVariants.{First, Second, Third}
-use Rattle.record_votes.specs.Polls.{member, voter_at}
-use Rattle.record_votes.specs.Voting.{Line, Member, all_effects}
 use Rattle.record_votes.proofs.PollLemmas.{voter-member}
-use Rattle.run_media.specs.Media.{Media}
-use Rattle.world_core.specs.declared.entries.Entry.{Entry}
-use Rattle.world_core.specs.declared.entries.Entry.TheVariants.{Take, Go, Learn, Hear, Gate, Crash, Down, Tick}
 use Rattle.world_core.specs.declared.traces.Sent.{Sent}
-use Rattle.world_core.specs.declared.traces.Trace.{Trace}
-use Rattle.world_core.specs.Legal.{Idle, fates_of, is_within, post_of}
-use Rattle.world_core.specs.Walks.{Flags, Sending, flagged, is_down, names, own}
 use Rattle.world_core.specs.Counts.{down_cause, is_crash, is_tick, tick_count}
 use Rattle.vote_members.specs.Closings.{Grows, HasGrown}
 use Rattle.vote_members.specs.Costs.{cost_of, costs}
-use Rattle.vote_law.specs.Walks.{Base, Hall, log_at, member_on, start_hall, step, walk, walk_from, world_of}
-use Rattle.vote_law.specs.Legal.{IsOfDowns, Legal, Meets, Rule, WasNotOpened, base_of, hall_after, is_node}
-use Rattle.vote_law.proofs.CauseLemmas.{at-if, flagged-up}
-use Rattle.vote_law.proofs.WalkLemmas.{meets-parts, walk-append}
 use Rattle.vote_law.specs.Smooth.{AreVotes, HasQuorum, HoldAll, IsCalm, IsFit, IsPlain, TicksForPolls, WishAlike, is_vote_effect}
 use Rattle.vote_law.proofs.LawLemmas.{all-quiet, all-still, few-letters, idle-holds, short-logs, votes-alone}
 use Rattle.run_media.proofs.BlankImageLemmas.{blank-count, blank-none}
 use Rattle.vote_promise.proofs.ClauseLemmas.{clash, some-one, unopened-from}
-use Rattle.vote_promise.specs.Clauses.{AllHold, AreCounted, AreDownFor, AreSound, Became, Completes, HasEnded, HasRunOut, IsSmooth, IsSound, KeepsLog, RestoresLogs, gated_log, open_effects}
 
 -- ---- how many pages votes fill
 

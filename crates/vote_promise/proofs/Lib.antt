@@ -1,2 +1,3 @@
 pub mod ClauseLemmas
 pub mod CompleteLemmas
+pub mod Names

@@ -1,32 +1,13 @@
 -- Rounds, Ticks and idle places.
-use Rattle.std.proofs.Common.{◌≡◌, ℕ, zero, suc, ◌+◌, ◌<◌, ◌≤◌, Bool, true, false, List, [], ◌∷◌, ◌++◌, map, length, inl, inr, refl, sym, ap, subst, ◌∙◌, arith}
-use Rattle.std.specs.Prelude.{Option, Some, None, ◌⊎◌, ◌&&◌, not, is_some, nat_le, nat_lt, slice_get, is_err, IfOk, OnOk, Result, Ok, Err}
-use Rattle.std.specs.Option.{unwrap_or}
-use Rattle.std.proofs.lemmas.Bool.{and_parts}
-use Rattle.std.proofs.lemmas.List.{append-nil}
-use Rattle.std.proofs.lemmas.Bool.Decides.{nat_tests}
-use Rattle.std.proofs.lemmas.Option.{slice_get_within}
-use Rattle.vote_run.proofs.Names.{broker, repository, NodeId, NodeKind, Repository, Broker, state_of, MemberNumber, First, Second, Third, PollState, member, Line, Entry, Take, Go, Learn, Hear, Gate, Crash, Down, Tick, is_behind, is_within, Flags, names, opened_log, Media, Base, Hall, world_of, down_cause, WasNotOpened, base_of, most_of, CourierParts, tick_moment, hall_of, trace_of, Adds, IsReady, PollIsAt, and-false, never-false, Between, Follows, HasCome, HasGoneRound, HaveSat, MayAllTurn, all_late, is_member, late, PollsAre, PollsTurned, is_poll, Sits, Limits, Next, Over, Round, Ticked, Members, Seat, Up, Fallen, Wanting}
+use Rattle.vote_run.proofs.Names.{broker, repository, NodeId, NodeKind, Repository, Broker, state_of, MemberNumber, First, Second, Third, PollState, member, Line, Entry, Take, Go, Learn, Hear, Gate, Crash, Down, Tick, is_behind, is_within, Flags, names, opened_log, Media, Base, Hall, world_of, down_cause, WasNotOpened, base_of, most_of, CourierParts, tick_moment, hall_of, trace_of, Adds, IsReady, PollIsAt, and-false, never-false, Between, Follows, HasCome, HasGoneRound, HaveSat, MayAllTurn, all_late, is_member, late, PollsAre, PollsTurned, is_poll, Sits, Limits, Next, Over, Round, Ticked, Members, Seat, Up, Fallen, Wanting, ◌≡◌, ℕ, zero, suc, ◌+◌, ◌<◌, ◌≤◌, Bool, true, false, List, [], ◌∷◌, ◌++◌, map, length, inl, inr, refl, sym, ap, subst, ◌∙◌, arith, Option, Some, None, ◌⊎◌, ◌&&◌, not, is_some, nat_le, nat_lt, slice_get, is_err, IfOk, OnOk, Result, Ok, Err, unwrap_or, and_parts, append-nil, nat_tests, slice_get_within, AllEmpty, held, Idle, asked_of, fates_of, flagged, not-behind, start_hall, step, walk, walk_from, Tells, ticks-legal, adds-join, adds-still, there, HasEnded, HasTicked, IsOver, TicksAreWanted, all_held, any_node, MayTurn, is_late, some_late}
 use Rattle.stream_port.specs.declared.fates.Asked.{Asked}
-use Rattle.message_core.specs.Flights.{AllEmpty}
-use Rattle.record_votes.specs.Polls.{held}
-use Rattle.world_core.specs.Legal.{Idle, asked_of, fates_of}
-use Rattle.world_core.specs.Walks.{flagged}
 use Rattle.vote_courier.specs.Clocked.{IsClocked, tick_moments}
 use Rattle.vote_courier.proofs.MomentLemmas.{clocked-tick, latest}
-use Rattle.vote_courier.proofs.QuietLemmas.{not-behind}
-use Rattle.vote_courier.specs.Walks.{start_hall, step, walk, walk_from}
 use Rattle.vote_courier.proofs.CauseLemmas.{at-if}
 use Rattle.vote_courier.proofs.WalkLemmas.{walk-append}
 use Rattle.vote_law.specs.Smooth.{HoldAll, TicksForPolls}
 use Rattle.vote_courier.specs.Carried.{IsAtRest, IsAtRestAt}
 use Rattle.vote_courier.proofs.CarryLemmas.{idles}
-use Rattle.vote_courier.specs.Places.{Tells}
-use Rattle.vote_courier.proofs.StationLemmas.{ticks-legal}
-use Rattle.vote_courier.proofs.PlaceLemmas.{adds-join, adds-still, there}
-use Rattle.vote_run.specs.Ends.{HasEnded, HasTicked, IsOver, TicksAreWanted, all_held, any_node}
-use Rattle.vote_run.specs.MemberTurns.{MayTurn}
-use Rattle.vote_run.specs.Members.{is_late, some_late}
 use Rattle.vote_run.proofs.EntryLemmas.{down-still, out-stays}
 use Rattle.vote_run.proofs.MembersLemmas.{or-parts, sits-stay}
 use Rattle.vote_run.proofs.PollLemmas.{poll-stays}

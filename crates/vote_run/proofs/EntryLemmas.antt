@@ -1,10 +1,6 @@
 -- Entries that are added: what they cost, and which Downs stand.
-use Rattle.std.proofs.Common.{◌≡◌, ℕ, ◌+◌, Bool, true, false, List, [], ◌∷◌, ◌++◌, refl, sym, ap, subst, ◌∙◌, arith, append_assoc}
-use Rattle.std.specs.Prelude.{Option, Some, None, cond, if◌then◌else◌}
-use Rattle.std.proofs.lemmas.List.{append-nil}
 use Rattle.std.proofs.lemmas.List.Elements.{filter-append}
-use Rattle.vote_run.proofs.Names.{same_node, DownCause, NodeId, Turn, MemberState, same_node-refl, Entry, Take, Go, Learn, Hear, Gate, Crash, Down, Tick, is_down, names, own, down_cause, cost_of, costs, WasNotOpened, never-false, CourierParts, Lengthens, Begins}
-use Rattle.vote_courier.specs.Legal.{IsOfDowns}
+use Rattle.vote_run.proofs.Names.{same_node, DownCause, NodeId, Turn, MemberState, same_node-refl, Entry, Take, Go, Learn, Hear, Gate, Crash, Down, Tick, is_down, names, own, down_cause, cost_of, costs, WasNotOpened, never-false, CourierParts, Lengthens, Begins, ◌≡◌, ℕ, ◌+◌, Bool, true, false, List, [], ◌∷◌, ◌++◌, refl, sym, ap, subst, ◌∙◌, arith, append_assoc, Option, Some, None, cond, if◌then◌else◌, append-nil, IsOfDowns}
 
 -- ---- costs
 

@@ -1,9 +1,5 @@
 -- How members' media fare over turns, rounds and Ticks.
-use Rattle.std.proofs.Common.{◌≡◌, ◌≢◌, ℕ, ◌+◌, ◌≤◌, Bool, true, false, List, [], ◌∷◌, ◌++◌, inl, inr, refl, sym, ap, subst, ◌∙◌, arith, append_assoc, zero-add, Ok}
-use Rattle.std.proofs.lemmas.List.{append-nil}
-use Rattle.std.specs.Prelude.{Option, Some, None, ◌-◌, ◌==◌, length, drop, slice_index, IsTrue, if◌then◌else◌}
-use Rattle.std.proofs.lemmas.Bool.{cases_Bool}
-use Rattle.vote_run.proofs.Names.{same_node, DownCause, NodeId, Out, Turn, same_node-refl, Effect, medium_of, Store, MemberState, MemberNumber, First, Second, Third, PollState, member, Entry, Gate, Crash, Down, Tick, is_down, names, own, Media, down_cause, IsFallenFor, cost_of, costs, CourierParts, tick_moment, never-false, Follows, AllFare, Lengthens, Begins, EndsAs, IsDown, IsGated, IsReopened, Turns, Wants, all_late, late, some_wants, wants, Limits, Next, Over, Round, Ticked, Members, Seat, Up, Fallen, Wanting}
+use Rattle.vote_run.proofs.Names.{same_node, DownCause, NodeId, Out, Turn, same_node-refl, Effect, medium_of, Store, MemberState, MemberNumber, First, Second, Third, PollState, member, Entry, Gate, Crash, Down, Tick, is_down, names, own, Media, down_cause, IsFallenFor, cost_of, costs, CourierParts, tick_moment, never-false, Follows, AllFare, Lengthens, Begins, EndsAs, IsDown, IsGated, IsReopened, Turns, Wants, all_late, late, some_wants, wants, Limits, Next, Over, Round, Ticked, Members, Seat, Up, Fallen, Wanting, ◌≡◌, ◌≢◌, ℕ, ◌+◌, ◌≤◌, Bool, true, false, List, [], ◌∷◌, ◌++◌, inl, inr, refl, sym, ap, subst, ◌∙◌, arith, append_assoc, zero-add, Ok, append-nil, Option, Some, None, ◌-◌, ◌==◌, length, drop, slice_index, IsTrue, if◌then◌else◌, cases_Bool, Grows, HasGrown, Fares, FaresWell, FellLater, HasPaid, NeverOpened}
 use Rattle.pseudo_time.specs.declared.down_causes.DownCause.TheVariants as down
 use Rattle.stream_port.specs.Causes.{RoseBy, rises_add}
 use Rattle.medium_port.specs.Image.{Image, page_of}
@@ -11,8 +7,6 @@ use Rattle.page_gate.specs.States.{is_blank, state_of}
 use Rattle.page_gate.specs.declared.pages.PageState.{PageState}
 use Rattle.page_gate.specs.declared.pages.PageState.TheVariants.{Blank, Gated, Spoiled}
 use Rattle.version_store.specs.Filling.{KeepsPages, StaysClean, pages_apart}
-use Rattle.vote_members.specs.Closings.{Grows, HasGrown}
-use Rattle.vote_run.specs.Fares.{Fares, FaresWell, FellLater, HasPaid, NeverOpened}
 use Rattle.vote_run.proofs.EntryLemmas.{begun-entry, begun-up, costs-more, down-more, down-still, lengthens-join, lengthens-one, lengthens-still, none-begun, out-stays, own-still}
 use Rattle.vote_run.proofs.MembersLemmas.{or-parts}
 

@@ -1,11 +1,5 @@
 -- What of members' media lasts over turns.
-use Rattle.std.proofs.Common.{◌≡◌, ℕ, List, ◌++◌, take, inl, inr, refl, sym, ap, subst, ◌∙◌, append_assoc}
-use Rattle.std.specs.Prelude.{Option, Some, None, Ok, IsTrue}
-use Rattle.vote_run.proofs.Names.{NodeId, Effect, Out, effects_of, entries, log_of, effects_in, medium_of, Store, MemberState, MemberNumber, First, Second, Third, member, Media, IsDurable, LeavesLog, CourierParts, AllLast, EndsAs, Turns, Wants, all_late, late, Members, Seat, Up, Fallen, Wanting}
-use Rattle.version_store.specs.Storage.{storage}
-use Rattle.run_media.specs.Media.{IsBack}
-use Rattle.vote_members.specs.Closings.{LeavesFront}
-use Rattle.vote_run.specs.Lasts.{KeepsWhole, Lasts, LosesNothing, medium_in}
+use Rattle.vote_run.proofs.Names.{NodeId, Effect, Out, effects_of, entries, log_of, effects_in, medium_of, Store, MemberState, MemberNumber, First, Second, Third, member, Media, IsDurable, LeavesLog, CourierParts, AllLast, EndsAs, Turns, Wants, all_late, late, Members, Seat, Up, Fallen, Wanting, ◌≡◌, ℕ, List, ◌++◌, take, inl, inr, refl, sym, ap, subst, ◌∙◌, append_assoc, Option, Some, None, Ok, IsTrue, storage, IsBack, LeavesFront, KeepsWhole, Lasts, LosesNothing, medium_in}
 use Rattle.vote_run.proofs.SittingLemmas.{read-so}
 
 module _ {M : Type 0} {g : _} (w : Media M) (told : IsTrue w.tells) where

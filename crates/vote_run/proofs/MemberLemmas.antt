@@ -1,21 +1,7 @@
 -- Turns of members keep the trace legal.
-use Rattle.std.proofs.Common.{◌≡◌, ℕ, ◌≤◌, Bool, true, false, List, [], ◌++◌, take, length, refl, sym, ap, subst, ◌∙◌}
-use Rattle.std.specs.Prelude.{Option, Some, None, ◌&&◌, not, is_some, if◌then◌else◌}
-use Rattle.std.specs.Option.{unwrap_or}
-use Rattle.std.proofs.lemmas.List.{append-nil}
-use Rattle.vote_run.proofs.Names.{same_node, DownCause, NodeId, Repository, Effect, Out, Turn, state_of, same_node-refl, MemberState, MemberNumber, First, Second, Third, member, number_of, Line, Member, Entry, Take, Hear, Gate, Crash, Down, is_behind, Flags, Base, Hall, world_of, base_of, CourierParts, HasSent, with_entry, Stands, hall_of, trace_of, Keeps, and-false, keeps-still, never-false, Begins, moment_of, MemberIsAt, MemberOwes}
+use Rattle.vote_run.proofs.Names.{same_node, DownCause, NodeId, Repository, Effect, Out, Turn, state_of, same_node-refl, MemberState, MemberNumber, First, Second, Third, member, number_of, Line, Member, Entry, Take, Hear, Gate, Crash, Down, is_behind, Flags, Base, Hall, world_of, base_of, CourierParts, HasSent, with_entry, Stands, hall_of, trace_of, Keeps, and-false, keeps-still, never-false, Begins, moment_of, MemberIsAt, MemberOwes, ◌≡◌, ℕ, ◌≤◌, Bool, true, false, List, [], ◌++◌, take, length, refl, sym, ap, subst, ◌∙◌, Option, Some, None, ◌&&◌, not, is_some, if◌then◌else◌, unwrap_or, append-nil, was_shut, crashed, heard, shut, took, with_due, behind-parts, life_of, life_with, member_heard, member_took, owes, takes-legal, notes-legal, gates-legal, downs-legal, Called, down-called, flags-on, heard-due, keeps, leads, member-on, noted, sent-called, taken-is, took-called, HearsMoment, TakesCopy, MemberIsDown}
 use Rattle.message_form.specs.Posts.{Post}
-use Rattle.message_core.specs.Flights.{was_shut}
 use Rattle.record_votes.specs.Members.{Given, on_message, on_moment}
-use Rattle.record_votes.specs.Voting.{crashed, heard, shut, took}
-use Rattle.world_core.specs.Walks.{with_due}
-use Rattle.vote_courier.proofs.QuietLemmas.{behind-parts}
-use Rattle.vote_courier.specs.Walks.{life_of, life_with, member_heard, member_took}
-use Rattle.vote_courier.specs.Stations.{owes}
-use Rattle.vote_courier.proofs.StationLemmas.{takes-legal, notes-legal, gates-legal, downs-legal}
-use Rattle.vote_courier.proofs.PlaceLemmas.{Called, down-called, flags-on, heard-due, keeps, leads, member-on, noted, sent-called, taken-is, took-called}
-use Rattle.vote_run.specs.MemberTurns.{HearsMoment, TakesCopy}
-use Rattle.vote_run.specs.Seats.{MemberIsDown}
 
 life-member : (h : Hall) (s : MemberNumber) → life_of h Repository (number_of s) ≡ life_with (h.members s).gated (h.members s).fresh (h.members s).owed
 life-member h First = refl

@@ -1,8 +1,5 @@
 -- The turns of all members.
-use Rattle.std.proofs.Common.{◌≡◌, ℕ, Bool, true, false, List, refl, sym, ap, subst, ◌∙◌, inl, inr}
-use Rattle.std.specs.Prelude.{Some, None, ◌||◌, not, IsTrue}
-use Rattle.vote_run.proofs.Names.{is_broker, repository, same_node, NodeId, NodeKind, Repository, Broker, MemberNumber, First, Second, Third, member, number_of, Line, Member, Flags, Media, down_cause, WasNotOpened, CourierParts, Stands, hall_of, Adds, Keeps, OnlyChanges, keeps-join, keeps-wider, never-false, is_member, wants, Turns, SatOn, Sits, Members, Seat, Up, Fallen, Wanting}
-use Rattle.vote_run.specs.Members.{AllSat, SitAll}
+use Rattle.vote_run.proofs.Names.{is_broker, repository, same_node, NodeId, NodeKind, Repository, Broker, MemberNumber, First, Second, Third, member, number_of, Line, Member, Flags, Media, down_cause, WasNotOpened, CourierParts, Stands, hall_of, Adds, Keeps, OnlyChanges, keeps-join, keeps-wider, never-false, is_member, wants, Turns, SatOn, Sits, Members, Seat, Up, Fallen, Wanting, ◌≡◌, ℕ, Bool, true, false, List, refl, sym, ap, subst, ◌∙◌, inl, inr, Some, None, ◌||◌, not, IsTrue, AllSat, SitAll}
 use Rattle.vote_run.proofs.EntryLemmas.{down-still, out-stays}
 use Rattle.vote_run.proofs.PollLemmas.{ready-stays}
 use Rattle.vote_run.proofs.SittingLemmas.{sat-on}

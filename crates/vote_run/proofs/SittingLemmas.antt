@@ -1,14 +1,6 @@
 -- Turns of members over their media.
-use Rattle.std.proofs.Common.{◌≡◌, ℕ, ◌+◌, ◌-◌, ◌≤◌, Bool, true, false, List, [], ◌∷◌, ◌++◌, take, length, inl, inr, refl, sym, ap, subst, ◌∙◌, arith}
-use Rattle.std.specs.Prelude.{Some, None, ◌⊎◌, is_some, IsTrue, Result, Ok, Err, if◌then◌else◌}
-use Rattle.std.proofs.lemmas.List.{length-append, length-take-le}
-use Rattle.vote_run.proofs.Names.{same_node, DownCause, NodeId, same_node-refl, Effect, Turn, effects_of, entries, log_of, effects_in, medium_of, Store, MemberState, MemberNumber, member, number_of, Line, Crash, Down, Gate, Media, down_cause, IsDurable, IsFallenFor, LeavesLog, Hall, CourierParts, with_entry, Stands, hall_of, Keeps, keeps-join, keeps-still, Begins, EndsAs, IsDown, IsGated, IsReopened, Turns, Wants, moment_of, MemberIsAt, MemberOwes, SatOn, Sits, Seat, Up, Fallen, Wanting}
+use Rattle.vote_run.proofs.Names.{same_node, DownCause, NodeId, same_node-refl, Effect, Turn, effects_of, entries, log_of, effects_in, medium_of, Store, MemberState, MemberNumber, member, number_of, Line, Crash, Down, Gate, Media, down_cause, IsDurable, IsFallenFor, LeavesLog, Hall, CourierParts, with_entry, Stands, hall_of, Keeps, keeps-join, keeps-still, Begins, EndsAs, IsDown, IsGated, IsReopened, Turns, Wants, moment_of, MemberIsAt, MemberOwes, SatOn, Sits, Seat, Up, Fallen, Wanting, ◌≡◌, ℕ, ◌+◌, ◌-◌, ◌≤◌, Bool, true, false, List, [], ◌∷◌, ◌++◌, take, length, inl, inr, refl, sym, ap, subst, ◌∙◌, arith, Some, None, ◌⊎◌, is_some, IsTrue, Result, Ok, Err, if◌then◌else◌, length-append, length-take-le, Log, effects_found, log_or_none, opened, LeavesPrefix, ShowsCause, SitsDown, SitsFallen, SitsUp}
 use Rattle.pseudo_time.specs.declared.down_causes.DownCause.TheVariants as down
-use Rattle.version_store.specs.Entries.{Log}
-use Rattle.version_store.specs.Storage.{effects_found, log_or_none}
-use Rattle.record_votes.specs.Voting.{opened}
-use Rattle.vote_members.specs.Closings.{LeavesPrefix}
-use Rattle.vote_run.specs.Sittings.{ShowsCause, SitsDown, SitsFallen, SitsUp}
 use Rattle.vote_run.proofs.EntryLemmas.{begun-up, down-more, none-begun}
 use Rattle.vote_run.proofs.MemberLemmas.{begins-kept, crash-kept, down-kept, gates-kept, none-kept}
 

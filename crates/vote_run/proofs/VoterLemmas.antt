@@ -1,14 +1,8 @@
 -- Just the members and the polls were opened.
-use Rattle.std.proofs.Common.{◌≡◌, ℕ, zero, suc, ◌+◌, ◌≤◌, Bool, true, false, List, [], ◌∷◌, ◌++◌, inl, inr, refl, sym, ap, subst, ◌∙◌, arith}
-use Rattle.std.specs.Prelude.{Option, Some, None, ◌==◌, ◌||◌, ◌⊎◌, cond, is_some, if◌then◌else◌}
 use Rattle.std.specs.List.{count_by}
-use Rattle.std.proofs.lemmas.Bool.{eqb-true}
-use Rattle.std.proofs.lemmas.Bool.Decides.{nat_tests}
 use Rattle.std.proofs.lemmas.List.Sums.{sum_by-append, sum_by-cons}
-use Rattle.vote_run.proofs.Names.{broker, is_broker, repository, same_node, NodeId, NodeKind, Repository, Broker, Effect, opened_log, is_within, most_of, never-false}
-use Rattle.message_core.proofs.NodeLemmas.{same_is}
+use Rattle.vote_run.proofs.Names.{broker, is_broker, repository, same_node, NodeId, NodeKind, Repository, Broker, Effect, opened_log, is_within, most_of, never-false, ◌≡◌, ℕ, zero, suc, ◌+◌, ◌≤◌, Bool, true, false, List, [], ◌∷◌, ◌++◌, inl, inr, refl, sym, ap, subst, ◌∙◌, arith, Option, Some, None, ◌==◌, ◌||◌, ◌⊎◌, cond, is_some, if◌then◌else◌, eqb-true, nat_tests, same_is, JustVoters, is_node}
 use Rattle.world_core.specs.declared.traces.Opened.{Opened}
-use Rattle.vote_courier.specs.Legal.{JustVoters, is_node}
 use Rattle.vote_run.specs.Voters.{opened_members, opened_voters}
 
 -- how often it stands there

@@ -1,15 +1,8 @@
 -- Each decision of a member has its cause.
-use Rattle.std.proofs.Common.{◌≡◌, ℕ, zero, suc, ◌+◌, ◌≤◌, Bool, true, false, List, [], ◌∷◌, ◌++◌, map, take, drop, length, inl, inr, refl, sym, ap, subst, ◌∙◌, arith}
-use Rattle.std.specs.Prelude.{Option, Some, None, ◌==◌, ◌&&◌, ◌⊎◌, is_some, nat_le, reverse, cond, if◌then◌else◌}
 use Rattle.std.specs.List.{filter}
 use Rattle.std.specs.Option.{unwrap_or}
-use Rattle.std.proofs.lemmas.Bool.{and_parts, le-leb}
 use Rattle.std.proofs.lemmas.Bool.Decides.{nat_tests}
-use Rattle.std.proofs.lemmas.List.{append-nil, append_assoc, reverse-append, take-append-drop}
-use Rattle.vote_traces.proofs.Names.{Has, has-left, has-right, repository, broker, is_broker, same_stamp, NodeId, NodeKind, Message, Out, Post, posts, numbered, Asked, Fate, first_begin, decision_of, MemberNumber, First, Second, Third, on_message, member, voter_at, voter_of, PollState, held, poll_goes, poll_hears, poll_takes, Member, Line, took, heard, shut, crashed, Entry, Take, Go, Learn, Hear, Gate, Crash, Down, Tick, Trace, fates_of, Sending, names, Base, Hall, line_at, log_at, start_hall, world_of, member_took, member_heard, poll_took, poll_heard, voter_life, step, walk_from, Rule, Meets, Legal, base_of, hall_after}
-use Rattle.pseudo_time.specs.Lists.{Every}
-use Rattle.pseudo_time.proofs.ListLemmas.{every-append}
-use Rattle.pseudo_time.specs.Nodes.{same_node}
+use Rattle.vote_traces.proofs.Names.{Has, has-left, has-right, repository, broker, is_broker, same_stamp, NodeId, NodeKind, Message, Out, Post, posts, numbered, Asked, Fate, first_begin, decision_of, MemberNumber, First, Second, Third, on_message, member, voter_at, voter_of, PollState, held, poll_goes, poll_hears, poll_takes, Member, Line, took, heard, shut, crashed, Entry, Take, Go, Learn, Hear, Gate, Crash, Down, Tick, Trace, fates_of, Sending, names, Base, Hall, line_at, log_at, start_hall, world_of, member_took, member_heard, poll_took, poll_heard, voter_life, step, walk_from, Rule, Meets, Legal, base_of, hall_after, ◌≡◌, ℕ, zero, suc, ◌+◌, ◌≤◌, Bool, true, false, List, [], ◌∷◌, ◌++◌, map, take, drop, length, inl, inr, refl, sym, ap, subst, ◌∙◌, arith, Option, Some, None, ◌==◌, ◌&&◌, ◌⊎◌, is_some, nat_le, reverse, cond, if◌then◌else◌, and_parts, le-leb, append-nil, append_assoc, reverse-append, take-append-drop, Every, every-append, same_node, first_said, begun_by, record_from, record_of, begun, own, book, quiet, owed, begin_by, close_by, row, on_moment, decides, Given, PollGiven, ballot, with_ballot, to_member, wish_for, outstanding, asked, asked_again, unless_held, begin_to, begun_heard, vote_heard, heard_from, heard_by, ignored, all_effects, is_within, Flags, opened_log, flagged, last_after, no_line, member_on, poll_on, owed_on, life_of, leaving, is_node}
 use Rattle.pseudo_time.specs.StampParts.{StampParts}
 use Rattle.pseudo_time.specs.declared.decisions.Decision.{Decision}
 use Rattle.pseudo_time.specs.declared.decisions.Decision.TheVariants as decision
@@ -20,18 +13,10 @@ use Rattle.message_form.specs.declared.messages.Message.TheVariants as message
 use Rattle.message_core.proofs.NodeLemmas.{same_is}
 use Rattle.commit_record.specs.declared.states.RecordState.{RecordState}
 use Rattle.commit_record.specs.declared.states.RecordState.TheVariants.{Unknown, Decided}
-use Rattle.repository_log.specs.Logs.{first_said, begun_by, record_from, record_of, begun}
 use Rattle.repository_log.specs.Expiries.{is_due, expiry_of, expiries}
 use Rattle.record_votes.specs.declared.ballots.Wish.{Wish}
 use Rattle.record_votes.specs.declared.ballots.Wish.TheVariants as wish
 use Rattle.record_votes.specs.declared.ballots.Ballot.{Ballot}
-use Rattle.record_votes.specs.Members.{own, book, quiet, owed, begin_by, close_by, row, on_moment, decides, Given}
-use Rattle.record_votes.specs.Polls.{PollGiven, ballot, with_ballot, to_member, wish_for, outstanding, asked, asked_again, unless_held, begin_to, begun_heard, vote_heard, heard_from, heard_by, ignored}
-use Rattle.record_votes.specs.Voting.{all_effects}
-use Rattle.world_core.specs.Legal.{is_within}
-use Rattle.world_core.specs.Walks.{Flags, opened_log, flagged, last_after}
-use Rattle.vote_traces.specs.Walks.{no_line, member_on, poll_on, owed_on, life_of, leaving}
-use Rattle.vote_traces.specs.Legal.{is_node}
 use Rattle.vote_traces.specs.Causes.{IsWanted, IsCaused, HasCause, HaveCauses}
 
 -- ---- causes stay as entries and logs go on

@@ -1,10 +1,5 @@
 -- The worked trace, computed.
-use Rattle.std.proofs.Common.{◌≡◌, ℕ, ◌<◌, length, true, false, inl, refl, sym, subst, arith}
-use Rattle.std.specs.Prelude.{Some}
-use Rattle.pseudo_time.specs.declared.nodes.NodeId.{NodeId}
-use Rattle.world_core.specs.Walks.{Sending, World}
-use Rattle.world_core.specs.Legal.{HasGone, HasHeard, IsReleased, MayTake, times_taken}
-use Rattle.vote_traces.proofs.Names.{repository, broker, same_stamp, numbered, Fate, first_begin, decision_of, on_message, held, poll_goes, poll_takes, start_hall, walk, walk_from, Meets}
+use Rattle.vote_traces.proofs.Names.{repository, broker, same_stamp, numbered, Fate, first_begin, decision_of, on_message, held, poll_goes, poll_takes, start_hall, walk, walk_from, Meets, ◌≡◌, ℕ, ◌<◌, length, true, false, inl, refl, sym, subst, arith, Some, NodeId, Sending, World, HasGone, HasHeard, IsReleased, MayTake, times_taken}
 use Rattle.pseudo_time.specs.declared.decisions.Decision.TheVariants as decision
 use Rattle.message_form.specs.declared.messages.Message.TheVariants as message
 use Rattle.stream_port.specs.Fates.{copies_of}

@@ -1,20 +1,12 @@
 -- Over marks without a floor no object is refused as retired, and each object that has a total is in range.
-use Rattle.std.proofs.Common.{◌≡◌, ◌⊎◌, ℤ, pos, Bool, true, false, List, [], ◌∷◌, map, filter, refl, sym, ◌∙◌, ap, subst, Option, Some, None, if◌then◌else◌, ◌&&◌, inl, inr}
-use Rattle.watch_command.proofs.Names.{Result, Ok, Err, is_some, true≢false, false≢true, Every, TimeParts, ObjectId, IsObject, Effect, AreEffects, Mark, same_object, floor_of, AreMarks, same_object-is, WatchFault, Moved, Version, advanced, cursor_of, moved_at, or_before, IsRefusal, if_of, last_total, total_put, Rule, AreTotals, outcome_of}
+use Rattle.watch_command.proofs.Names.{Result, Ok, Err, is_some, true≢false, false≢true, Every, TimeParts, ObjectId, IsObject, Effect, AreEffects, Mark, same_object, floor_of, AreMarks, same_object-is, WatchFault, Moved, Version, advanced, cursor_of, moved_at, or_before, IsRefusal, if_of, last_total, total_put, Rule, AreTotals, outcome_of, ◌≡◌, ◌⊎◌, ℤ, pos, Bool, true, false, List, [], ◌∷◌, map, filter, refl, sym, ◌∙◌, ap, subst, Option, Some, None, if◌then◌else◌, ◌&&◌, inl, inr, IsEffect, Seen, version_count, same_object-of, and_then, fresh, is_retired, moved_over, moved_to, unless_retired, version_of, total_of, next_of, IsPlain}
 use Rattle.value_form.specs.declared.values.Value.{Value}
 use Rattle.value_form.specs.declared.values.Value.TheVariants.{Nothing, Number, Text}
 use Rattle.effect_form.specs.declared.effects.Effect.TheVariants as effect
-use Rattle.effect_form.specs.Effects.{IsEffect}
 use Rattle.object_history.specs.declared.marks.Mark.TheVariants.{Put, Stretch, Settle, Floor}
-use Rattle.object_history.specs.History.{Seen, version_count}
 use Rattle.object_history.specs.Kept.{is_below, is_past}
 use Rattle.object_history.specs.Settled.{insert, listed, settled_versions}
-use Rattle.object_history.proofs.ObjectLemmas.{same_object-of}
 use Rattle.commit_watch.specs.declared.faults.WatchFault.TheVariants as fault
-use Rattle.commit_watch.specs.Folds.{and_then, fresh, is_retired, moved_over, moved_to, unless_retired, version_of}
-use Rattle.commit_watch.specs.Lists.{total_of}
-use Rattle.watch_command.specs.Totals.{next_of}
-use Rattle.watch_command.specs.Watches.{IsPlain}
 
 -- ---- what an object comes to
 

@@ -1,9 +1,6 @@
 -- What happens to a node, and time that passes.
-use Rattle.std.proofs.Common.{◌≡◌, ℕ, ◌≤◌, Bool, true, false, List, [], ◌∷◌, length, refl, sym, ap, subst, ◌∙◌, Option, Some, IsTrue, arith}
-use Rattle.std.specs.Option.{unwrap_or}
-use Rattle.wire_core.proofs.Names.{DownCause, NodeId, is_broker, Asked, Adds, Arrival, IsFront, State, waiting, taken, passed, was_shut, FlightParts, state_of, Take, Go, Learn, Hear, Crash, Down, Tick, Sent, Base, World, numbered, opened_log, step, start_world, walk, is_behind, fates_of, Story, IsQuiet, next_moment, posted, IsTied, IsFlown, IsSound, parts_with, HasOneMore, Origin, base_from}
+use Rattle.wire_core.proofs.Names.{DownCause, NodeId, is_broker, Asked, Adds, Arrival, IsFront, State, waiting, taken, passed, was_shut, FlightParts, state_of, Take, Go, Learn, Hear, Crash, Down, Tick, Sent, Base, World, numbered, opened_log, step, start_world, walk, is_behind, fates_of, Story, IsQuiet, next_moment, posted, IsTied, IsFlown, IsSound, parts_with, HasOneMore, Origin, base_from, ◌≡◌, ℕ, ◌≤◌, Bool, true, false, List, [], ◌∷◌, length, refl, sym, ap, subst, ◌∙◌, Option, Some, IsTrue, arith, unwrap_or, HasGone, MayTake, MayTick, IsDecidedAs}
 use Rattle.pseudo_time.specs.StampParts.{StampParts}
-use Rattle.world_core.specs.Legal.{HasGone, MayTake, MayTick, IsDecidedAs}
 use Rattle.wire_core.proofs.CopyLemmas.{tied-take, tied-tick, tied-down}
 use Rattle.wire_core.proofs.DueLemmas.{due-front, fate-of, front-cons, numbered-to}
 use Rattle.wire_core.proofs.FitLemmas.{up-known}

@@ -1,15 +1,10 @@
 -- Which copies are due, by the messages that were sent.
-use Rattle.std.proofs.Common.{◌≡◌, ℕ, zero, suc, ◌+◌, ◌-◌, ◌≤◌, ◌<◌, true, List, [], ◌∷◌, map, refl, sym, ap, ◌∙◌, Option, Some, None, is_some, slice_get, arith}
-use Rattle.std.specs.Option.{option_map, unwrap_or}
 use Rattle.std.proofs.lemmas.Option.{slice_get-map}
-use Rattle.wire_core.proofs.Names.{NodeId, Fate, Arrival, IsFront, State, waiting, AllInRange, count, Sent, Sending, World, numbered, times_taken, post_of, fates_of, IsCopyOf, TookAll, Marked, sent_of, posted, tallied, IsTied}
+use Rattle.wire_core.proofs.Names.{NodeId, Fate, Arrival, IsFront, State, waiting, AllInRange, count, Sent, Sending, World, numbered, times_taken, post_of, fates_of, IsCopyOf, TookAll, Marked, sent_of, posted, tallied, IsTied, ◌≡◌, ℕ, zero, suc, ◌+◌, ◌-◌, ◌≤◌, ◌<◌, true, List, [], ◌∷◌, map, refl, sym, ap, ◌∙◌, Option, Some, None, is_some, slice_get, arith, option_map, unwrap_or, IsDue, front-due, empty-taken, IsReleased}
 use Rattle.message_form.proofs.ReadLaws.{message_bytes-apart}
 use Rattle.stream_port.specs.Fates.{copies_of}
-use Rattle.message_core.specs.Tallies.{IsDue}
 use Rattle.message_core.specs.Tallies as tallies
 use Rattle.message_core.proofs.SenderLemmas.{was_sent}
-use Rattle.message_core.proofs.TallyLemmas.{front-due, empty-taken}
-use Rattle.world_core.specs.Legal.{IsReleased}
 
 -- ---- numbers of lists that a map gives
 

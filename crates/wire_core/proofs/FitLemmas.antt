@@ -1,10 +1,6 @@
 -- What the code keeps of the nodes goes on as the walk does.
-use Rattle.std.proofs.Common.{◌≡◌, ℕ, ◌+◌, ◌≤◌, ◌==◌, Bool, true, false, ◌&&◌, not, List, if◌then◌else◌, refl, sym, ap, subst, ◌∙◌, Option, Some, None, is_some, arith}
-use Rattle.std.specs.Option.{option_map}
 use Rattle.std.proofs.lemmas.Bool.Decides.{nat_tests}
-use Rattle.wire_core.proofs.Names.{NodeId, NodeKind, Repository, Broker, Entry, Take, Go, Learn, Hear, Gate, Crash, Down, Tick, Base, World, Flags, names, flagged, flags_after, last_after, ticks_after, step, is_behind, NodeFlags, Story, flags_at, flags_of, shown, after_own, is_late, standing_at, Fits, HasOneMore}
-use Rattle.world_core.specs.Walks.{heard_after}
-use Rattle.wire_core.specs.Flagged.{heard_then, heard_last}
+use Rattle.wire_core.proofs.Names.{NodeId, NodeKind, Repository, Broker, Entry, Take, Go, Learn, Hear, Gate, Crash, Down, Tick, Base, World, Flags, names, flagged, flags_after, last_after, ticks_after, step, is_behind, NodeFlags, Story, flags_at, flags_of, shown, after_own, is_late, standing_at, Fits, HasOneMore, ◌≡◌, ℕ, ◌+◌, ◌≤◌, ◌==◌, Bool, true, false, ◌&&◌, not, List, if◌then◌else◌, refl, sym, ap, subst, ◌∙◌, Option, Some, None, is_some, arith, option_map, heard_after, heard_then, heard_last}
 
 -- ---- flags
 

@@ -1,15 +1,8 @@
 -- A gate sends messages.
-use Rattle.std.proofs.Common.{◌≡◌, ℕ, ◌+◌, ◌<◌, ◌^◌, Bool, true, false, List, [], ◌∷◌, ◌++◌, map, length, if◌then◌else◌, refl, sym, ap, subst, ◌∙◌, Option, IsTrue, length-append, append_assoc, arith}
-use Rattle.std.specs.List.{filter}
-use Rattle.std.proofs.lemmas.List.{map-append, length-map}
-use Rattle.wire_core.proofs.Names.{NodeId, every-append, Out, Post, post, posts, Asked, Fate, FlightParts, state_of, AllInRange, Gate, Sent, Base, World, Sending, sendings_after, sent_by, start_world, walk, Meets, Numbered, post_of, fates_of, asked_of, Story, Marked, posted, IsTied, all_marked, IsFlown, IsSound, parts_with, HasOneMore, Origin, base_from}
-use Rattle.message_form.specs.Messages.{IsMessage}
+use Rattle.wire_core.proofs.Names.{NodeId, every-append, Out, Post, post, posts, Asked, Fate, FlightParts, state_of, AllInRange, Gate, Sent, Base, World, Sending, sendings_after, sent_by, start_world, walk, Meets, Numbered, post_of, fates_of, asked_of, Story, Marked, posted, IsTied, all_marked, IsFlown, IsSound, parts_with, HasOneMore, Origin, base_from, ◌≡◌, ℕ, ◌+◌, ◌<◌, ◌^◌, Bool, true, false, List, [], ◌∷◌, ◌++◌, map, length, if◌then◌else◌, refl, sym, ap, subst, ◌∙◌, Option, IsTrue, length-append, append_assoc, arith, filter, map-append, length-map, IsMessage, leaving, all_effects, meets-grown, owed}
 use Rattle.message_form.specs.Ranges.{AreOuts}
 use Rattle.world_core.specs.Nodes.{leaves}
-use Rattle.world_core.specs.Walks.{leaving, all_effects}
 use Rattle.world_core.proofs.Legality.{numbered-join}
-use Rattle.world_core.proofs.Rules.{meets-grown}
-use Rattle.wire_core.specs.Changes.{owed}
 use Rattle.wire_core.proofs.CopyLemmas.{tied-left}
 use Rattle.wire_core.proofs.FitLemmas.{up-known}
 use Rattle.wire_core.proofs.MomentLemmas.{clocked-still}

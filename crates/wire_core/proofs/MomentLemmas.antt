@@ -1,10 +1,5 @@
 -- Moments and the clock's answers, entry by entry.
-use Rattle.std.proofs.Common.{◌≡◌, ℕ, List, [], ◌∷◌, ◌++◌, refl, sym, ap, ◌∙◌, Option}
-use Rattle.std.specs.Option.{unwrap_or}
-use Rattle.std.proofs.lemmas.List.{append-nil}
-use Rattle.wire_core.proofs.Names.{Adds, Entry, Take, Go, Learn, Hear, Gate, Crash, Down, Tick, Base, World, step, walk_from, IsClocked, tick_moments, next_moment}
-use Rattle.stream_port.specs.Clocks.{adds_joins}
-use Rattle.wire_core.specs.Clocked.{moments_of}
+use Rattle.wire_core.proofs.Names.{Adds, Entry, Take, Go, Learn, Hear, Gate, Crash, Down, Tick, Base, World, step, walk_from, IsClocked, tick_moments, next_moment, ◌≡◌, ℕ, List, [], ◌∷◌, ◌++◌, refl, sym, ap, ◌∙◌, Option, unwrap_or, append-nil, adds_joins, moments_of}
 
 pub moments-append : (es fs : List Entry) → tick_moments (es ++ fs) ≡ tick_moments es ++ tick_moments fs
 moments-append [] fs = refl

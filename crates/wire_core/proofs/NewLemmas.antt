@@ -1,15 +1,6 @@
 -- A new wire is sound.
-use Rattle.std.proofs.Common.{◌≡◌, ℕ, ◌<◌, ◌^◌, Bool, true, false, ◌||◌, ◌&&◌, ◌==◌, List, [], ◌∷◌, map, length, if◌then◌else◌, refl, sym, ap, subst, ◌∙◌, Option, Some, None, is_some, arith}
-use Rattle.wire_core.proofs.Names.{Every, NodeId, same_node, Asked, Adds, State, start, FlightParts, state_of, Entry, Sent, Base, World, Sending, opened_log, start_world, walk_from, walk, Meets, NodeFlags, Story, tick_moments, IsTied, new_flags, shown, names_of, IsSound, parts_with, Fits, IsOpened, Origin, base_from}
-use Rattle.std.specs.Option.{unwrap_or}
-use Rattle.std.specs.List.{list_any}
-use Rattle.std.proofs.lemmas.List.{append-nil}
-use Rattle.message_core.specs.Tallies.{blank_tally}
-use Rattle.message_core.proofs.StayLemmas.{made}
-use Rattle.message_core.proofs.TallyLemmas.{tallied_start}
+use Rattle.wire_core.proofs.Names.{Every, NodeId, same_node, Asked, Adds, State, start, FlightParts, state_of, Entry, Sent, Base, World, Sending, opened_log, start_world, walk_from, walk, Meets, NodeFlags, Story, tick_moments, IsTied, new_flags, shown, names_of, IsSound, parts_with, Fits, IsOpened, Origin, base_from, ◌≡◌, ℕ, ◌<◌, ◌^◌, Bool, true, false, ◌||◌, ◌&&◌, ◌==◌, List, [], ◌∷◌, map, length, if◌then◌else◌, refl, sym, ap, subst, ◌∙◌, Option, Some, None, is_some, arith, unwrap_or, list_any, append-nil, blank_tally, made, tallied_start, opened_flags, counted}
 use Rattle.world_core.specs.declared.traces.Opened.{Opened}
-use Rattle.world_core.specs.Walks.{opened_flags}
-use Rattle.wire_core.specs.Clocked.{counted}
 
 -- ---- which nodes were opened
 

@@ -1,16 +1,10 @@
 -- How nodes stand, in the code's map.
-use Rattle.std.proofs.Common.{◌≡◌, ◌⊎◌, inl, inr, ℕ, suc, ◌+◌, ◌<◌, ◌||◌, Bool, true, false, cond, List, [], ◌∷◌, ◌++◌, length, take, get_or, refl, sym, ap, ◌∙◌, arith}
-use Rattle.std.specs.Prelude.{Option, Some, None, if◌then◌else◌}
-use Rattle.std.specs.Option.{option_map}
-use Rattle.std.specs.List.{list_any}
 use Rattle.std.specs.Map.{lookup}
 use Rattle.std.specs.BTreeMap.{is_at}
 use Rattle.std.proofs.Math.Seq.{take-suc}
 use Rattle.std.proofs.lemmas.List.Folds.{list_any-append}
-use Rattle.wire_core.proofs.Names.{NodeId, same_node, found_same, Entry, names, NodeFlags, flags_at, new_flags, after_own, is_idle_at}
+use Rattle.wire_core.proofs.Names.{NodeId, same_node, found_same, Entry, names, NodeFlags, flags_at, new_flags, after_own, is_idle_at, ◌≡◌, ◌⊎◌, inl, inr, ℕ, suc, ◌+◌, ◌<◌, ◌||◌, Bool, true, false, cond, List, [], ◌∷◌, ◌++◌, length, take, get_or, refl, sym, ap, ◌∙◌, arith, Option, Some, None, if◌then◌else◌, option_map, list_any, same_is, finds_same, after_entry}
 use Rattle.pseudo_time.specs.contracts.nodes.NodeIdOrd.TheImpl as order
-use Rattle.message_core.proofs.NodeLemmas.{same_is, finds_same}
-use Rattle.wire_core.specs.Flagged.{after_entry}
 
 -- ---- one node changes
 

@@ -1,11 +1,5 @@
 -- A wire with nothing to do, and idle places.
-use Rattle.std.proofs.Common.{◌≡◌, ℕ, Bool, true, false, ◌&&◌, ◌||◌, not, List, [], if◌then◌else◌, refl, sym, ap, ◌∙◌, Option, Some, None, is_some, inl, inr, IsTrue}
-use Rattle.std.specs.Prelude.{◌⊎◌, ◌↔◌}
-use Rattle.std.specs.Option.{unwrap_or}
-use Rattle.wire_core.proofs.Names.{NodeId, NodeKind, is_broker, waiting, state_of, World, Flags, Idle, is_behind, fates_of, NodeFlags, IsQuiet, TookAll, flags_at, flags_of, shown, is_late, is_idle_at, IsSound, WireParts, world_of}
-use Rattle.message_core.specs.Flights.{AllEmpty}
-use Rattle.world_core.specs.Legal.{HasHeard}
-use Rattle.wire_core.specs.Flagged.{is_idle}
+use Rattle.wire_core.proofs.Names.{NodeId, NodeKind, is_broker, waiting, state_of, World, Flags, Idle, is_behind, fates_of, NodeFlags, IsQuiet, TookAll, flags_at, flags_of, shown, is_late, is_idle_at, IsSound, WireParts, world_of, ◌≡◌, ℕ, Bool, true, false, ◌&&◌, ◌||◌, not, List, [], if◌then◌else◌, refl, sym, ap, ◌∙◌, Option, Some, None, is_some, inl, inr, IsTrue, ◌⊎◌, ◌↔◌, unwrap_or, AllEmpty, HasHeard, is_idle}
 use Rattle.wire_core.proofs.DueLemmas.{took-all, took-empty}
 use Rattle.wire_core.proofs.FitLemmas.{up-found, found-behind}
 

@@ -1,7 +1,5 @@
 -- Messages of a gate, one after another.
-use Rattle.std.proofs.Common.{◌≡◌, ℕ, suc, ◌+◌, ◌<◌, List, [], ◌∷◌, ◌++◌, map, length, take, slice_index_or, sym, ap, subst, ◌∙◌, append_assoc, add-zero, arith}
-use Rattle.std.proofs.lemmas.List.{map-append, take_more}
-use Rattle.wire_core.proofs.Names.{NodeId, Asked, Out, post, posts, State, Sent, World, Numbered, post_of, asked_of, Marked, IsTied, all_marked}
+use Rattle.wire_core.proofs.Names.{NodeId, Asked, Out, post, posts, State, Sent, World, Numbered, post_of, asked_of, Marked, IsTied, all_marked, ◌≡◌, ℕ, suc, ◌+◌, ◌<◌, List, [], ◌∷◌, ◌++◌, map, length, take, slice_index_or, sym, ap, subst, ◌∙◌, append_assoc, add-zero, arith, map-append, take_more}
 
 pub asked-more : (l0 l1 l2 : List Asked) (all now : List Sent) (s : Sent) → l1 ≡ l0 ++ map asked_of all → l2 ≡ l1 ++ asked_of s ∷ [] → now ≡ all ++ s ∷ [] → l2 ≡ l0 ++ map asked_of now
 asked-more l0 l1 l2 all now s e1 e2 e3 =

@@ -1,12 +1,8 @@
 -- One entry more keeps a wire sound.
-use Rattle.std.proofs.Common.{◌≡◌, ℕ, ◌+◌, ◌≤◌, ◌<◌, ◌^◌, Bool, false, List, [], ◌∷◌, ◌++◌, map, length, refl, sym, ap, subst, ◌∙◌, Option, IsTrue, length-append, arith}
-use Rattle.std.specs.Option.{unwrap_or}
-use Rattle.wire_core.proofs.Names.{Every, every-append, NodeId, Plan, Asked, FlightParts, state_of, AllInRange, Entry, Sent, Base, World, Sending, sent_by, sendings_after, last_after, step, start_world, walk, Meets, Numbered, post_of, fates_of, asked_of, IsLegal, NodeFlags, Story, IsClocked, tick_moments, Marked, posted, IsTied, IsFlown, IsSound, parts_with, Fits, HasOneMore, Origin, WireParts, base_from, world_of, IsRunOf, trace_of}
+use Rattle.wire_core.proofs.Names.{Every, every-append, NodeId, Plan, Asked, FlightParts, state_of, AllInRange, Entry, Sent, Base, World, Sending, sent_by, sendings_after, last_after, step, start_world, walk, Meets, Numbered, post_of, fates_of, asked_of, IsLegal, NodeFlags, Story, IsClocked, tick_moments, Marked, posted, IsTied, IsFlown, IsSound, parts_with, Fits, HasOneMore, Origin, WireParts, base_from, world_of, IsRunOf, trace_of, ◌≡◌, ℕ, ◌+◌, ◌≤◌, ◌<◌, ◌^◌, Bool, false, List, [], ◌∷◌, ◌++◌, map, length, refl, sym, ap, subst, ◌∙◌, Option, IsTrue, length-append, arith, unwrap_or, Rule, AllReady, base_of, meets-more}
 use Rattle.broker_core.specs.Readings.{reading}
 use Rattle.broker_core.specs.Tasks.{Scripted}
-use Rattle.world_core.specs.Legal.{Rule, AllReady, base_of}
 use Rattle.world_core.proofs.Lives.{walk-more}
-use Rattle.world_core.proofs.Rules.{meets-more}
 use Rattle.wire_core.proofs.CopyLemmas.{LeavesCopies, tied-left}
 use Rattle.wire_core.proofs.FitLemmas.{fits-on}
 use Rattle.wire_core.proofs.MomentLemmas.{moments-append, clocked-still}

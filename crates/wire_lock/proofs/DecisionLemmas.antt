@@ -1,17 +1,11 @@
 -- Numbers on the board, and what they tell.
-use Rattle.wire_lock.proofs.Names.{◌≡◌, ◌≤◌, ℕ, ◌+◌, ◌==◌, Bool, true, false, List, [], ◌∷◌, ◌++◌, length, ◌<◌, zero, suc, Some, None, IsTrue, if◌then◌else◌, StampParts, NodeId, same_node, same_is, same_node-refl, Entry, Gate, Base, Life, World, gated_life, walk, IsDecidedAs, Origin, base_from, place_of, number_of, Decided, decided_by, answer_of}
-use Rattle.std.specs.Prelude.{◌⊎◌, ◌*◌, ◌^◌}
-use Rattle.std.proofs.Common.{refl, ap, sym, ◌∙◌, subst, arith, inl, inr, get_or}
-use Rattle.pseudo_time.specs.StampParts.{IsStamp}
+use Rattle.wire_lock.proofs.Names.{◌≡◌, ◌≤◌, ℕ, ◌+◌, ◌==◌, Bool, true, false, List, [], ◌∷◌, ◌++◌, length, ◌<◌, zero, suc, Some, None, IsTrue, if◌then◌else◌, StampParts, NodeId, same_node, same_is, same_node-refl, Entry, Gate, Base, Life, World, gated_life, walk, IsDecidedAs, Origin, base_from, place_of, number_of, Decided, decided_by, answer_of, ◌⊎◌, ◌*◌, ◌^◌, refl, ap, sym, ◌∙◌, subst, arith, inl, inr, get_or, IsStamp, repository, IsDecided, MayHold, decision_in}
 use Rattle.pseudo_time.specs.Lists.{Every, Has}
 use Rattle.pseudo_time.specs.declared.decisions.Decision.{Decision}
-use Rattle.pseudo_time.specs.Nodes.{repository}
 use Rattle.pseudo_time.proofs.ListLemmas.{every-append, every-map, has-right}
 use Rattle.effect_form.specs.declared.effects.Effect.{Effect}
 use Rattle.effect_form.specs.declared.effects.Effect.TheVariants as effect
 use Rattle.repository_core.specs.Logs.{is_commit}
-use Rattle.wire_core.specs.Boards.{IsDecided, MayHold}
-use Rattle.wire_lock.specs.Decisions.{decision_in}
 use Rattle.wire_lock.proofs.SightLemmas.{up-known, life-own}
 
 -- ---- no two decisions have the same number

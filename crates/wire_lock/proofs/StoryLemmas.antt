@@ -1,9 +1,5 @@
 -- A story that has all entries of each owner is the whole list.
-use Rattle.wire_lock.proofs.Names.{◌≡◌, ℕ, zero, suc, ◌≤◌, ◌==◌, Bool, List, [], ◌∷◌, ◌++◌, filter-append, IsOneOf, Begins, entries_of, Entry, owner_of}
-use Rattle.std.specs.Prelude.{All}
-use Rattle.std.proofs.Common.{refl, ap, sym, ◌∙◌, subst, cond, arith, eq-eqb}
-use Rattle.std.proofs.lemmas.List.{append-nil}
-use Rattle.seat_lock.specs.Rule.{same, total}
+use Rattle.wire_lock.proofs.Names.{◌≡◌, ℕ, zero, suc, ◌≤◌, ◌==◌, Bool, List, [], ◌∷◌, ◌++◌, filter-append, IsOneOf, Begins, entries_of, Entry, owner_of, All, refl, ap, sym, ◌∙◌, subst, cond, arith, eq-eqb, append-nil, same, total}
 
 nothing-added : (xs ys : List Entry) → xs ++ ys ≡ xs → ys ≡ []
 nothing-added [] ys h = h

@@ -1,12 +1,8 @@
 -- What is known of a trace that no one is told.
-use Rattle.wire_lock.proofs.Names.{◌≡◌, Bool, List, ◌++◌, map, IsTrue, Trace, sent_by, Origin, WireParts, trace_of, world_of, end_of}
-use Rattle.std.proofs.Common.{ap, sym, subst, ◌∙◌}
+use Rattle.wire_lock.proofs.Names.{◌≡◌, Bool, List, ◌++◌, map, IsTrue, Trace, sent_by, Origin, WireParts, trace_of, world_of, end_of, ap, sym, subst, ◌∙◌, post_of, asked_of, IsRunOf, IsUntold}
 use Rattle.stream_port.specs.declared.fates.Asked.{Asked}
 use Rattle.plan_form.specs.declared.plans.Plan.{Plan}
-use Rattle.world_core.specs.Legal.{post_of, asked_of}
 use Rattle.world_core.specs.Readings.{IsLegal}
-use Rattle.wire_core.specs.Wires.{IsRunOf}
-use Rattle.wire_lock.specs.Stories.{IsUntold}
 
 pub untold : (told : Bool) (w : WireParts) (o : Origin) (t : Trace) → w.origin ≡ o → t ≡ trace_of w → (IsTrue told → map post_of w.sent ≡ sent_by (world_of w))
     → (IsTrue told → (plan : Plan) → IsRunOf plan w.origin → IsLegal plan (w.origin.asked ++ map asked_of w.sent) t) → IsUntold told o (trace_of w)

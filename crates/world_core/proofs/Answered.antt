@@ -1,19 +1,10 @@
 -- In a legal trace each refusal that was sent answers a Take of that write, or of that read.
 use Rattle.std.proofs.Common.{slice_get, suc, zero, inr, inl, ◌≡◌, ℕ, ◌==◌, Bool, true, false, ◌&&◌, List, [], ◌∷◌, ◌++◌, append-nil, append_assoc, map, refl, sym, ◌∙◌, ap, subst, Option, Some, None, if◌then◌else◌}
-use Rattle.std.proofs.lemmas.Bool.{eqb-true}
-use Rattle.std.specs.Prelude.{◌⊎◌, reverse}
-use Rattle.std.proofs.lemmas.List.{reverse-append}
-use Rattle.std.specs.List.{filter}
-use Rattle.world_core.proofs.Names.{Every, Has, every-append, has-left, TimeParts, NodeId, NodeKind, Repository, Broker, ObjectId, Value, ActSpec, Effect, Message, Out, Post, Fate, same_node, WriteStep, floor_of, read_step, write_step, IsOnFloor, Tree, marks, accepts, Hand, now, HeldRead, Entry, Take, Go, Learn, Hear, Gate, Crash, Down, Tick, Mind, Input, Given, gives, repository, Going, Taking, Learning, Hearing, Base, Life, World, Sending, numbered, all_effects, after_input, took, hears, lives_on, life_after, names, leaving, sendings_after, step, start_world, walk_from, walk, sent_by, Rule, Meets}
-use Rattle.pseudo_time.proofs.ListLemmas.{every-map, every-has}
+use Rattle.world_core.proofs.Names.{Every, Has, every-append, has-left, TimeParts, NodeId, NodeKind, Repository, Broker, ObjectId, Value, ActSpec, Effect, Message, Out, Post, Fate, same_node, WriteStep, floor_of, read_step, write_step, IsOnFloor, Tree, marks, accepts, Hand, now, HeldRead, Entry, Take, Go, Learn, Hear, Gate, Crash, Down, Tick, Mind, Input, Given, gives, repository, Going, Taking, Learning, Hearing, Base, Life, World, Sending, numbered, all_effects, after_input, took, hears, lives_on, life_after, names, leaving, sendings_after, step, start_world, walk_from, walk, sent_by, Rule, Meets, eqb-true, ◌⊎◌, reverse, reverse-append, filter, every-map, every-has, posts, kind_number, is_broker, is_broker_of, broker, leaves}
 use Rattle.message_form.specs.declared.messages.Message.TheVariants as message
-use Rattle.message_form.specs.Posts.{posts}
-use Rattle.pseudo_time.specs.Nodes.{kind_number, is_broker}
 use Rattle.object_history.specs.declared.steps.WriteStep.TheVariants as write
 use Rattle.object_history.specs.declared.steps.ReadStep.TheVariants as read
-use Rattle.repository_core.specs.Rows.{is_broker_of}
 use Rattle.repository_core.specs.Turns as turns
-use Rattle.world_core.specs.Nodes.{broker, leaves}
 use Rattle.world_core.specs.Answered.{WasAnswered, WasRefused}
 use Rattle.world_core.proofs.Lives.{sent-grows}
 use Rattle.world_core.proofs.Refusals.{Says, Fine, OfRequest, Ok, on-message, on-learn, on-moment}

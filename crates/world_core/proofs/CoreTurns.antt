@@ -1,9 +1,6 @@
 -- The turns of cores are those of the rules, whatever histories a repository keeps.
-use Rattle.std.proofs.Common.{◌≡◌, ℕ, ◌++◌, List, [], reverse, refl, sym, ap, subst, ◌∙◌, Result, Ok, Err}
-use Rattle.std.specs.Prelude.{IfOk, OnOk}
 use Rattle.std.specs.declared.alloc.AllocError.{AllocError}
-use Rattle.std.proofs.lemmas.List.{append-nil}
-use Rattle.world_core.proofs.Names.{NodeId, Repository, Broker, ActSpec, Effect, Tree, Scripted, tasks, Mind, Input, gives, kind_gives, broker_gives, with_desk, nothing_given, Base}
+use Rattle.world_core.proofs.Names.{NodeId, Repository, Broker, ActSpec, Effect, Tree, Scripted, tasks, Mind, Input, gives, kind_gives, broker_gives, with_desk, nothing_given, Base, ◌≡◌, ℕ, ◌++◌, List, [], reverse, refl, sym, ap, subst, ◌∙◌, Result, Ok, Err, IfOk, OnOk, append-nil, repository_gives, with_hands, desk_after}
 use Rattle.message_form.specs.declared.turns.Turn.{Turn}
 use Rattle.object_history.specs.declared.steps.HistoryFault.{HistoryFault}
 use Rattle.repository_core.specs.Cores.{Core, given}
@@ -11,7 +8,6 @@ use Rattle.repository_core.specs.Turns as turns
 use Rattle.broker_core.specs.Brokers.{Gives, turn_of}
 use Rattle.broker_core.specs.Parts.{BrokerParts}
 use Rattle.broker_core.specs.Turns as desks
-use Rattle.world_core.specs.Nodes.{repository_gives, with_hands, desk_after}
 use Rattle.world_core.specs.Cores.{IsRepository, IsBroker, RepositoryGave, BrokerGave}
 
 -- ---- which rules are a node's

@@ -1,11 +1,6 @@
 -- What entries leave of nodes and messages.
-use Rattle.std.proofs.Common.{◌≡◌, ℕ, Bool, true, false, ◌&&◌, List, [], ◌∷◌, ◌++◌, map, take, cond, if◌then◌else◌, refl, sym, ap, subst, ◌∙◌, Option, Some, None, append_assoc}
-use Rattle.std.proofs.lemmas.List.{append-nil, map-append}
-use Rattle.std.proofs.lemmas.List.Elements.{filter-append}
-use Rattle.world_core.proofs.Names.{Has, StampParts, NodeId, has-left, Effect, Post, Entry, Take, Go, Learn, Hear, Gate, Crash, Down, Tick, Input, repository, Going, Taking, Learning, Hearing, Base, Life, Sending, World, numbered, sent_by, names, own, after_input, took, hears, lives_on, leaving, step, start_world, walk_from, walk}
+use Rattle.world_core.proofs.Names.{Has, StampParts, NodeId, has-left, Effect, Post, Entry, Take, Go, Learn, Hear, Gate, Crash, Down, Tick, Input, repository, Going, Taking, Learning, Hearing, Base, Life, Sending, World, numbered, sent_by, names, own, after_input, took, hears, lives_on, leaving, step, start_world, walk_from, walk, ◌≡◌, ℕ, Bool, true, false, ◌&&◌, List, [], ◌∷◌, ◌++◌, map, take, cond, if◌then◌else◌, refl, sym, ap, subst, ◌∙◌, Option, Some, None, append_assoc, append-nil, map-append, filter-append, gated_life, crashed_life, IsDecidedAs}
 use Rattle.effect_form.specs.declared.effects.Effect.TheVariants as effect
-use Rattle.world_core.specs.Walks.{gated_life, crashed_life}
-use Rattle.world_core.specs.Legal.{IsDecidedAs}
 
 module _ (b : Base) where
   pub walk-append : (w : World) (es more : List Entry) → walk_from b w (es ++ more) ≡ walk_from b (walk_from b w es) more

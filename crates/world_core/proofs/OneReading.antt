@@ -1,10 +1,6 @@
 -- One reading for a plan and all plans of the past.
-use Rattle.std.proofs.Common.{◌≡◌, ℕ, Bool, true, false, List, [], ◌∷◌, ◌++◌, refl, ◌∙◌, ap, if◌then◌else◌, take}
-use Rattle.world_core.proofs.Names.{Every, Has, every-append, has-left, NodeId, ActSpec, Effect, Asked, Tree, Plan, IsOfLanguage, Scripted, Trace, World, Legal, in_plan, Call, AreCalls, HasPast, logs_after, log_left, IsBrokerAct}
-use Rattle.pseudo_time.proofs.ListLemmas.{has-right}
-use Rattle.world_core.specs.Pasts.{alike, own_reading}
+use Rattle.world_core.proofs.Names.{Every, Has, every-append, has-left, NodeId, ActSpec, Effect, Asked, Tree, Plan, IsOfLanguage, Scripted, Trace, World, Legal, in_plan, Call, AreCalls, HasPast, logs_after, log_left, IsBrokerAct, ◌≡◌, ℕ, Bool, true, false, List, [], ◌∷◌, ◌++◌, refl, ◌∙◌, ap, if◌then◌else◌, take, has-right, alike, own_reading, reads-all, reads-own}
 use Rattle.broker_core.specs.Readings.{reading}
-use Rattle.broker_core.proofs.ReadingLemmas.{reads-all, reads-own}
 use Rattle.world_core.proofs.PlanRangeLemmas.{plan-acts}
 use Rattle.world_core.specs.Readings.{IsLegal, WereLeft}
 use Rattle.world_core.proofs.SameWorlds.{walk-same, legal-same}

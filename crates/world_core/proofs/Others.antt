@@ -1,9 +1,6 @@
 -- What entries of others leave of a node: its flags, and that it is behind.
-use Rattle.std.proofs.Common.{◌≡◌, ℕ, Bool, true, false, ◌&&◌, not, List, [], ◌∷◌, ◌++◌, cond, if◌then◌else◌, refl, sym, ap, subst, ◌∙◌, Option, Some, None, is_some}
-use Rattle.std.proofs.lemmas.List.Elements.{filter-append}
-use Rattle.world_core.proofs.Names.{NodeId, same_node, Entry, Take, Go, Learn, Hear, Gate, Crash, Down, Tick, Base, World, Flags, names, own, flagged, flags_after, heard_after, last_after, step, start_world, walk_from, walk}
+use Rattle.world_core.proofs.Names.{NodeId, same_node, Entry, Take, Go, Learn, Hear, Gate, Crash, Down, Tick, Base, World, Flags, names, own, flagged, flags_after, heard_after, last_after, step, start_world, walk_from, walk, ◌≡◌, ℕ, Bool, true, false, ◌&&◌, not, List, [], ◌∷◌, ◌++◌, cond, if◌then◌else◌, refl, sym, ap, subst, ◌∙◌, Option, Some, None, is_some, filter-append, is_behind}
 use Rattle.world_core.proofs.Lives.{walk-append}
-use Rattle.world_core.specs.Legal.{is_behind}
 
 -- lists with no own entry of the node, entry by entry
 abbrev pub Silent : NodeId → List Entry → Type 0

@@ -1,14 +1,8 @@
 -- The acts of a plan of the language are acts that a broker can have, and their scripts are in range.
-use Rattle.std.proofs.Common.{ℕ, ◌+◌, ◌≤◌, Bool, true, false, cond, List, [], ◌∷◌, length, arith}
-use Rattle.std.specs.Prelude.{◌==◌}
-use Rattle.std.specs.List.{filter}
 use Rattle.std.proofs.lemmas.List.Sums.{length-filter, count_by-le-length}
-use Rattle.world_core.proofs.Names.{Every, ActSpec, block, Plan, IsOfLanguage, IsBrokerAct, acts_of}
+use Rattle.world_core.proofs.Names.{Every, ActSpec, block, Plan, IsOfLanguage, IsBrokerAct, acts_of, ℕ, ◌+◌, ◌≤◌, Bool, true, false, cond, List, [], ◌∷◌, length, arith, ◌==◌, filter, of-whole, AreBrokerActs, printable-up}
 use Rattle.plan_form.specs.PlanTexts as plans
-use Rattle.plan_form.proofs.PlanRangeLemmas.{of-whole}
 use Rattle.serial_model.specs.Ranges.{BlockInRange}
-use Rattle.broker_core.specs.Ledgers.{AreBrokerActs}
-use Rattle.broker_core.proofs.ReadingLemmas.{printable-up}
 use Rattle.serial_model.proofs.ScriptRangeLemmas.{printable-InRange}
 
 act-is : (repositories brokers k : ℕ) (act : ActSpec) → repositories ≤ 16 → 1 ≤ k → k ≤ 10000 → plans.IsAct repositories brokers k act → IsBrokerAct act

@@ -1,12 +1,8 @@
 -- A repository refuses what its history refuses: writes, and reads below the floor.
-use Rattle.std.proofs.Common.{◌≡◌, ◌≢◌, ℕ, ◌+◌, ◌==◌, Bool, true, false, ◌||◌, not, nat_le, List, [], ◌∷◌, refl, sym, ◌∙◌, subst, Option, Some, None, if◌then◌else◌}
-use Rattle.std.proofs.lemmas.Bool.{true≢false}
 use Rattle.std.specs.Map.{remove_entry}
 use Rattle.std.specs.BTreeMap.{insert_entry, is_at}
 use Rattle.std.specs.BTreeSet.{insert_key}
-use Rattle.std.specs.List.{filter}
-use Rattle.world_core.proofs.Names.{Every, every-append, StampParts, TimeParts, NodeId, ObjectId, Value, Effect, Message, Out, WriteStep, floor_of, read_step, write_step, IsOnFloor, HeldRead, marks, Hand, now, accepts}
-use Rattle.pseudo_time.specs.TimeParts.{time_cmp}
+use Rattle.world_core.proofs.Names.{Every, every-append, StampParts, TimeParts, NodeId, ObjectId, Value, Effect, Message, Out, WriteStep, floor_of, read_step, write_step, IsOnFloor, HeldRead, marks, Hand, now, accepts, ◌≡◌, ◌≢◌, ℕ, ◌+◌, ◌==◌, Bool, true, false, ◌||◌, not, nat_le, List, [], ◌∷◌, refl, sym, ◌∙◌, subst, Option, Some, None, if◌then◌else◌, true≢false, filter, time_cmp, Seen, settle_of, is_settled, sees, needs_stretch, read_seen, read_from, is_commit, known, record_of, note, send, asker_cmp, unhold, hold, waits_for, ask_for, read_as, read_known, on_read, reread, release, tells, tell_askers, begin_as, on_begin, close_as, on_close, write_as, on_write, ask_as, on_ask, learn_as, on_learn, row, on_message}
 use Rattle.pseudo_time.specs.Order.{same_stamp, lt}
 use Rattle.pseudo_time.specs.declared.decisions.Decision.{Decision}
 use Rattle.pseudo_time.specs.declared.decisions.Decision.TheVariants as decision
@@ -18,15 +14,10 @@ use Rattle.object_history.specs.declared.steps.ReadStep.{ReadStep}
 use Rattle.object_history.specs.declared.steps.ReadStep.TheVariants as read
 use Rattle.object_history.specs.declared.steps.WriteStep.TheVariants as write
 use Rattle.object_history.specs.declared.marks.Mark.{Mark}
-use Rattle.object_history.specs.History.{Seen, settle_of, is_settled, sees}
-use Rattle.object_history.specs.Answers.{needs_stretch, read_seen, read_from}
 use Rattle.repository_log.proofs.MarkLemmas.{floor-other}
 use Rattle.repository_core.proofs.HeldLemmas.{every-filter, every-remove, every-put}
 use Rattle.repository_core.specs.declared.waits.Asker.{Asker}
-use Rattle.repository_core.specs.Logs.{is_commit, known, record_of}
-use Rattle.repository_core.specs.Hands.{note, send, asker_cmp}
 use Rattle.pseudo_time.specs.Nodes.{repository}
-use Rattle.repository_core.specs.Rows.{unhold, hold, waits_for, ask_for, read_as, read_known, on_read, reread, release, tells, tell_askers, begin_as, on_begin, close_as, on_close, write_as, on_write, ask_as, on_ask, learn_as, on_learn, row, on_message}
 use Rattle.repository_core.specs.Hearing.{expire_as, expire, expire_all, waited, asks, ask_again, on_moment}
 use Rattle.repository_log.specs.Expiries.{due}
 

@@ -1,9 +1,6 @@
 -- Rules and the fates that they ask for.
-use Rattle.std.proofs.Common.{◌≡◌, ℕ, zero, suc, ◌+◌, ◌≤◌, Bool, true, false, List, [], ◌∷◌, ◌++◌, map, length, refl, sym, ap, subst, ◌∙◌, Option, Some, None, append_assoc, arith}
-use Rattle.std.proofs.lemmas.List.{append-nil, map-append, length-append}
-use Rattle.world_core.proofs.Names.{NodeId, Fate, Entry, Take, Go, Learn, Hear, Gate, Crash, Down, Tick, Base, Sending, World, numbered, step, walk_from, Rule, Meets}
+use Rattle.world_core.proofs.Names.{NodeId, Fate, Entry, Take, Go, Learn, Hear, Gate, Crash, Down, Tick, Base, Sending, World, numbered, step, walk_from, Rule, Meets, ◌≡◌, ℕ, zero, suc, ◌+◌, ◌≤◌, Bool, true, false, List, [], ◌∷◌, ◌++◌, map, length, refl, sym, ap, subst, ◌∙◌, Option, Some, None, append_assoc, arith, append-nil, map-append, length-append, MayTake, IsIdle, Idle, MayTick, IsReleased, times_taken}
 use Rattle.stream_port.specs.Fates.{copies_of}
-use Rattle.world_core.specs.Legal.{MayTake, IsIdle, Idle, MayTick, IsReleased, times_taken}
 use Rattle.world_core.proofs.Lists.{numbered-append, numbered-front}
 use Rattle.world_core.proofs.Lives.{sendings-walk}
 

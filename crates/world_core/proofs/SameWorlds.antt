@@ -1,13 +1,9 @@
 -- Two readings that both read a plan's scripts give the same runs of it.
-use Rattle.std.proofs.Common.{◌≡◌, ℕ, zero, suc, ◌==◌, Bool, true, false, ◌&&◌, List, [], ◌∷◌, refl, sym, ◌∙◌, ap, subst, Option, Some, None, if◌then◌else◌}
-use Rattle.std.specs.Prelude.{reverse, is_none}
 use Rattle.std.specs.List.{slice_get}
-use Rattle.world_core.proofs.Names.{NodeId, NodeKind, Repository, Broker, ActSpec, block, Effect, Asked, Fate, Tree, Plan, tasks, Scripted, Entry, Take, Go, Learn, Hear, Gate, Crash, Down, Tick, Trace, Mind, Input, gives, kind_gives, broker_gives, acts_of, with_desk, Going, Taking, Learning, Hearing, Base, Life, World, Sending, all_effects, after_input, took, hears, lives_on, life_after, flags_after, heard_after, sendings_after, taken_after, ticks_after, last_after, is_down, names, numbered, with_given, step, start_world, walk_from, walk, sent_by, Rule, Meets, Legal, base_of, fates_of}
+use Rattle.world_core.proofs.Names.{NodeId, NodeKind, Repository, Broker, ActSpec, block, Effect, Asked, Fate, Tree, Plan, tasks, Scripted, Entry, Take, Go, Learn, Hear, Gate, Crash, Down, Tick, Trace, Mind, Input, gives, kind_gives, broker_gives, acts_of, with_desk, Going, Taking, Learning, Hearing, Base, Life, World, Sending, all_effects, after_input, took, hears, lives_on, life_after, flags_after, heard_after, sendings_after, taken_after, ticks_after, last_after, is_down, names, numbered, with_given, step, start_world, walk_from, walk, sent_by, Rule, Meets, Legal, base_of, fates_of, ◌≡◌, ℕ, zero, suc, ◌==◌, Bool, true, false, ◌&&◌, List, [], ◌∷◌, refl, sym, ◌∙◌, ap, subst, Option, Some, None, if◌then◌else◌, reverse, is_none, Task, task_of, is_ready, kind_ready}
 use Rattle.script_form.specs.RowTexts.{script_text}
-use Rattle.broker_core.specs.Tasks.{Task, task_of}
 use Rattle.broker_core.specs.Turns as desks
 use Rattle.world_core.specs.declared.traces.Opened.{Opened}
-use Rattle.world_core.specs.Nodes.{is_ready, kind_ready}
 use Rattle.broker_core.proofs.SameTurns.{desk-same, fault-same}
 
 -- ---- readings of a broker's acts

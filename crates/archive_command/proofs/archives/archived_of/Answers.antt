@@ -1,5 +1,4 @@
-use Rattle.std.proofs.Common.{arith}
-use Rattle.repository_log.specs.Logs.{marks}
+use Rattle.archive_command.proofs.Names.{arith, marks}
 use Rattle.archive_command.proofs.ArchiveLemmas.{archived-step, some-step}
 use Rattle.archive_command.proofs.archives.archived_of.Goals as goal
 

@@ -1,7 +1,4 @@
-use Rattle.std.proofs.Common.{◌≡◌, ◌<◌, ◌≤◌, ◌++◌, length, map, drop}
-use Rattle.repository_log.specs.Logs.{marks}
-use Rattle.run_volumes.specs.Volumes.{logs_of}
-use Rattle.archive_command.specs.Archives.{archive_of, complete_from, volumes_of}
+use Rattle.archive_command.proofs.Names.{◌≡◌, ◌<◌, ◌≤◌, ◌++◌, length, map, drop, marks, logs_of, archive_of, complete_from, volumes_of}
 use Rattle.archive_command.proofs.archives.archived_of.Given as goal
 
 -- those that were read, and those to come

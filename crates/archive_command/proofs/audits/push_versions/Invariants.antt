@@ -1,7 +1,5 @@
-use Rattle.std.proofs.Common.{◌≡◌, ◌++◌, take}
+use Rattle.archive_command.proofs.Names.{◌≡◌, ◌++◌, take, flat_map, told_line}
 use Rattle.std.specs.FinMap as finite
-use Rattle.std.specs.List.{flat_map}
-use Rattle.archive_command.specs.Versions.{told_line}
 use Rattle.archive_command.proofs.audits.push_versions.Given as goal
 
 abbrev pub invariant-loop-version : goal.invariant-loop-version

@@ -1,6 +1,4 @@
-use Rattle.std.proofs.Common.{inr, subst}
-use Rattle.run_volumes.specs.Shelves.{shelf_sight}
-use Rattle.archive_command.specs.Answers.{Answers}
+use Rattle.archive_command.proofs.Names.{inr, subst, shelf_sight, Answers}
 use Rattle.archive_command.proofs.AnswerLemmas.{answers-over, handed-back}
 use Rattle.archive_command.proofs.calls.ask.Goals as goal
 

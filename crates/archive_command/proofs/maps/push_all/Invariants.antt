@@ -1,6 +1,4 @@
-use Rattle.std.proofs.Common.{◌≡◌, ◌++◌, take}
-use Rattle.std.specs.List.{flat_map}
-use Rattle.archive_command.specs.Lines.{moved_line}
+use Rattle.archive_command.proofs.Names.{◌≡◌, ◌++◌, take, flat_map, moved_line}
 use Rattle.archive_command.proofs.maps.push_all.Given as goal
 
 abbrev pub invariant-loop-moved : goal.invariant-loop-moved

@@ -1,8 +1,5 @@
-use Rattle.std.proofs.Common.{◌∙◌, ◌++◌, ap}
-use Rattle.std.specs.Prelude.{codes}
-use Rattle.std.proofs.lemmas.List.{append_assoc}
+use Rattle.archive_command.proofs.Names.{◌∙◌, ◌++◌, ap, codes, append_assoc, mark_text}
 use Rattle.report_writer.specs.Reports.{named}
-use Rattle.archive_command.specs.Lines.{mark_text}
 use Rattle.archive_command.proofs.maps.push_head.Goals as goal
 
 pub returns : goal.returns

@@ -1,5 +1,4 @@
-use Rattle.std.proofs.Common.{◌≡◌, ◌+◌, drop}
-use Rattle.archive_command.specs.Versions.{count_until}
+use Rattle.archive_command.proofs.Names.{◌≡◌, ◌+◌, drop, count_until}
 use Rattle.archive_command.proofs.versions.place_behind.Given as goal
 
 -- the versions so far start no later

@@ -1,5 +1,4 @@
-use Rattle.std.proofs.Common.{◌≡◌, reverse, take}
-use Rattle.archive_command.specs.Versions.{versions_of}
+use Rattle.archive_command.proofs.Names.{◌≡◌, reverse, take, versions_of}
 use Rattle.archive_command.proofs.versions.versions_of.Given as goal
 
 abbrev pub invariant-loop-mark : goal.invariant-loop-mark

@@ -1,5 +1,4 @@
-use Rattle.std.proofs.Common.{◌≡◌, drop}
-use Rattle.archive_store.specs.Joined.{has_start}
+use Rattle.archive_store.proofs.Names.{◌≡◌, drop, has_start}
 use Rattle.archive_store.proofs.holders.has_put.Given as goal
 
 -- it stands among those that are left, or not at all

@@ -1,5 +1,4 @@
-use Rattle.std.proofs.Common.{◌≡◌, ◌<◌, ◌≤◌, ◌+◌, ◌-◌, ap, sym, ◌∙◌, map, drop, length, arith}
-use Rattle.archive_store.specs.Joined.{has_start, holder_of}
+use Rattle.archive_store.proofs.Names.{◌≡◌, ◌<◌, ◌≤◌, ◌+◌, ◌-◌, ap, sym, ◌∙◌, map, drop, length, arith, has_start, holder_of}
 use Rattle.archive_store.proofs.HolderLemmas.{holds-here, holds-none, holds-not}
 use Rattle.archive_store.proofs.holders.holder_among.Goals as goal
 

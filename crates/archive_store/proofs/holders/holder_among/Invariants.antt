@@ -1,5 +1,4 @@
-use Rattle.std.proofs.Common.{◌≡◌, ◌≤◌, length, map, drop, None}
-use Rattle.archive_store.specs.Joined.{holder_of}
+use Rattle.archive_store.proofs.Names.{◌≡◌, ◌≤◌, length, map, drop, None, holder_of}
 use Rattle.archive_store.proofs.holders.holder_among.Given as goal
 
 -- none from this place on has it

@@ -1,6 +1,4 @@
-use Rattle.std.proofs.Common.{sym, subst, take}
-use Rattle.archive_store.specs.Joined.{firsts, met_after}
-use Rattle.archive_store.specs.Met.{Meets}
+use Rattle.archive_store.proofs.Names.{sym, subst, take, firsts, met_after, Meets}
 use Rattle.archive_store.proofs.JoinLemmas.{append-none, firsts-step, met-step, take-end}
 use Rattle.archive_store.proofs.joins.add_firsts.Goals as goal
 

@@ -1,7 +1,4 @@
-use Rattle.std.proofs.Common.{◌≡◌, ◌++◌, List, take}
-use Rattle.object_history.specs.declared.marks.Mark.{Mark}
-use Rattle.archive_store.specs.Joined.{firsts, met_after}
-use Rattle.archive_store.specs.Met.{Meets}
+use Rattle.archive_store.proofs.Names.{◌≡◌, ◌++◌, List, take, Mark, firsts, met_after, Meets}
 use Rattle.archive_store.proofs.joins.add_firsts.Given as goal
 
 -- the marks so far

@@ -1,6 +1,4 @@
-use Rattle.std.proofs.Common.{ap, ◌∙◌, ◌+◌, ◌++◌, List, map, drop, reverse, refl}
-use Rattle.object_history.specs.declared.marks.Mark.{Mark}
-use Rattle.archive_store.specs.Joined.{all_firsts, met_after}
+use Rattle.archive_store.proofs.Names.{ap, ◌∙◌, ◌+◌, ◌++◌, List, map, drop, reverse, refl, Mark, all_firsts, met_after}
 use Rattle.archive_store.proofs.JoinLemmas.{drop-item, drop-end, given-step, given-done}
 use Rattle.archive_store.proofs.joins.given_up.Goals as goal
 

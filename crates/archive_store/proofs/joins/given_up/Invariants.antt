@@ -1,7 +1,4 @@
-use Rattle.std.proofs.Common.{◌≡◌, ◌++◌, List, map, drop, reverse}
-use Rattle.object_history.specs.declared.marks.Mark.{Mark}
-use Rattle.archive_store.specs.Joined.{all_firsts, given_up}
-use Rattle.archive_store.specs.Met.{Meets}
+use Rattle.archive_store.proofs.Names.{◌≡◌, ◌++◌, List, map, drop, reverse, Mark, all_firsts, given_up, Meets}
 use Rattle.archive_store.proofs.joins.given_up.Given as goal
 
 -- what was added, with what the logs that are left add

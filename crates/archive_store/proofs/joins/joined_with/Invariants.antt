@@ -1,5 +1,4 @@
-use Rattle.std.proofs.Common.{◌≡◌, ◌++◌, map, filter, not, take}
-use Rattle.archive_store.specs.Joined.{given_up, is_floor}
+use Rattle.archive_store.proofs.Names.{◌≡◌, ◌++◌, map, filter, not, take, given_up, is_floor}
 use Rattle.archive_store.proofs.joins.joined_with.Given as goal
 
 -- the marks so far

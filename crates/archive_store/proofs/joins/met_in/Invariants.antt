@@ -1,5 +1,4 @@
-use Rattle.std.proofs.Common.{reverse, take}
-use Rattle.archive_store.specs.Met.{Meets}
+use Rattle.archive_store.proofs.Names.{reverse, take, Meets}
 use Rattle.archive_store.proofs.joins.met_in.Given as goal
 
 -- the marks so far

@@ -1,5 +1,4 @@
-use Rattle.std.proofs.Common.{ap, reverse, ◌∙◌}
-use Rattle.commit_watch.specs.Lists.{moved_at}
+use Rattle.archive_store.proofs.Names.{ap, reverse, ◌∙◌, moved_at}
 use Rattle.archive_store.proofs.LatestLemmas.{latest-is, only-wanting}
 use Rattle.archive_store.proofs.latest.folded_by.Goals as goal
 

@@ -1,6 +1,5 @@
-use Rattle.std.proofs.Common.{ap, sym, ◌∙◌, reverse, take}
+use Rattle.archive_store.proofs.Names.{ap, sym, ◌∙◌, reverse, take, first_among}
 use Rattle.std.specs.FinMap as finite
-use Rattle.archive_store.specs.Opens.{first_among}
 use Rattle.archive_store.proofs.JoinLemmas.{reverse-step}
 use Rattle.archive_store.proofs.opens.first_among.Goals as goal
 

@@ -1,6 +1,5 @@
-use Rattle.std.proofs.Common.{◌≡◌, reverse, take}
+use Rattle.archive_store.proofs.Names.{◌≡◌, reverse, take, first_among}
 use Rattle.std.specs.FinMap as finite
-use Rattle.archive_store.specs.Opens.{first_among}
 use Rattle.archive_store.proofs.opens.first_among.Given as goal
 
 -- the first so far

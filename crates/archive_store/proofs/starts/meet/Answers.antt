@@ -1,6 +1,4 @@
-use Rattle.std.proofs.Common.{ap, sym, ◌∙◌, ◌∷◌}
-use Rattle.object_history.specs.declared.marks.Mark.{Mark}
-use Rattle.archive_store.specs.Joined.{has_start}
+use Rattle.archive_store.proofs.Names.{ap, sym, ◌∙◌, ◌∷◌, Mark, has_start}
 use Rattle.archive_store.proofs.JoinLemmas.{meets-put}
 use Rattle.archive_store.proofs.starts.meet.Goals as goal
 

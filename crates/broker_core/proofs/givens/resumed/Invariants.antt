@@ -1,5 +1,4 @@
-use Rattle.std.proofs.Common.{◌≡◌, take}
-use Rattle.broker_core.specs.Notes.{answers_given}
+use Rattle.broker_core.proofs.Names.{◌≡◌, take, answers_given}
 use Rattle.broker_core.proofs.givens.resumed.Given as goal
 
 -- the run was given the answers so far

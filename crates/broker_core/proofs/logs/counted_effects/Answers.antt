@@ -1,6 +1,4 @@
-use Rattle.std.proofs.Common.{reverse, ◌∙◌, ap, arith}
-use Rattle.std.proofs.lemmas.List.{take_all}
-use Rattle.broker_core.specs.TakenUp.{fresh_ledger, counts_led}
+use Rattle.broker_core.proofs.Names.{reverse, ◌∙◌, ap, arith, take_all, fresh_ledger, counts_led}
 use Rattle.broker_core.proofs.LogLemmas.{counting-is}
 use Rattle.broker_core.proofs.logs.counted_effects.Goals as goal
 

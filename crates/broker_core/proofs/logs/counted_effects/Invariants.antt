@@ -1,5 +1,4 @@
-use Rattle.std.proofs.Common.{◌≡◌, reverse, take}
-use Rattle.broker_core.specs.TakenUp.{fresh_ledger, led, counts_led}
+use Rattle.broker_core.proofs.Names.{◌≡◌, reverse, take, fresh_ledger, led, counts_led}
 use Rattle.broker_core.proofs.logs.counted_effects.Given as goal
 
 abbrev pub invariant-loop-effect : goal.invariant-loop-effect

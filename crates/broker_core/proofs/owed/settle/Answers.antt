@@ -1,5 +1,4 @@
-use Rattle.std.proofs.Common.{sym, ◌∙◌, arith}
-use Rattle.broker_core.specs.Ledgers.{kept}
+use Rattle.broker_core.proofs.Names.{sym, ◌∙◌, arith, kept}
 use Rattle.broker_core.proofs.AddLemmas.{owed-may}
 use Rattle.broker_core.proofs.SettleLemmas.{on-the-way, at-rest, at-last}
 use Rattle.broker_core.proofs.owed.settle.Goals as goal

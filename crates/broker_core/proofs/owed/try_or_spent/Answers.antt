@@ -1,5 +1,4 @@
-use Rattle.std.proofs.Common.{◌∙◌, ap, sym}
-use Rattle.std.specs.Option.{option_copied}
+use Rattle.broker_core.proofs.Names.{◌∙◌, ap, sym, option_copied}
 use Rattle.broker_core.proofs.CountLemmas.{act-there}
 use Rattle.broker_core.proofs.owed.try_or_spent.Goals as goal
 

@@ -1,8 +1,5 @@
-use Rattle.std.proofs.Common.{ap, ◌∙◌}
-use Rattle.pseudo_time.specs.declared.nodes.NodeId.{NodeId}
-use Rattle.node_turn.specs.Sights.{base_at, life_at}
+use Rattle.broker_node.proofs.Names.{ap, ◌∙◌, NodeId, base_at, life_at, is_over}
 use Rattle.node_turn.specs.Nodes.{sight}
-use Rattle.broker_node.specs.Logs.{is_over}
 use Rattle.broker_node.proofs.nodes.is_done.Goals as goal
 
 pub returns : goal.returns

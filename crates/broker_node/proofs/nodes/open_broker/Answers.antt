@@ -1,11 +1,5 @@
-use Rattle.std.proofs.Common.{◌≡◌, refl, sym, subst, ◌∙◌, Some}
-use Rattle.version_store.specs.StoreWords.{medium_of}
-use Rattle.broker_core.specs.Tasks.{Scripted}
+use Rattle.broker_node.proofs.Names.{◌≡◌, refl, sym, subst, ◌∙◌, Some, medium_of, Scripted, opened_log, IsOf, base_at, origin_at, IsReady, leaves-log}
 use Rattle.seat_lock.specs.Words.{knows}
-use Rattle.world_core.specs.Walks.{opened_log}
-use Rattle.node_turn.specs.Sights.{IsOf, base_at, origin_at}
-use Rattle.node_turn.specs.Cores.{IsReady}
-use Rattle.node_turn.proofs.MediumLemmas.{leaves-log}
 use Rattle.node_turn.proofs.NewLemmas.{up-new}
 use Rattle.broker_node.proofs.CoreLemmas.{opened-broker}
 use Rattle.broker_node.proofs.nodes.open_broker.Goals as goal

@@ -1,7 +1,4 @@
-use Rattle.std.proofs.Common.{ℕ, ◌∷◌, sym, subst}
-use Rattle.std.specs.Prelude.{MatchOption, codes}
-use Rattle.command_words.specs.declared.commands.Options.{Options}
-use Rattle.command_words.specs.Words.{AreWords, IsLoad, said}
+use Rattle.command_words.proofs.Names.{ℕ, ◌∷◌, sym, subst, MatchOption, codes, Options, AreWords, IsLoad, said}
 use Rattle.command_words.proofs.WordLemmas.{load-behind}
 use Rattle.command_words.proofs.commands.load.Goals as goal
 

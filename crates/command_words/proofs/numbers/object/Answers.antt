@@ -1,7 +1,4 @@
-use Rattle.std.proofs.Common.{sym, subst, arith}
-use Rattle.std.specs.Prelude.{MatchOption}
-use Rattle.value_form.specs.declared.objects.ObjectId.{ObjectId}
-use Rattle.command_words.specs.Words.{IsObjectWord}
+use Rattle.command_words.proofs.Names.{sym, subst, arith, MatchOption, ObjectId, IsObjectWord}
 use Rattle.command_words.proofs.WordLemmas.{object-parted, object-front, object-back}
 use Rattle.command_words.proofs.numbers.object.Goals as goal
 

@@ -1,7 +1,4 @@
-use Rattle.std.proofs.Common.{sym, subst}
-use Rattle.std.specs.Prelude.{MatchOption}
-use Rattle.command_words.specs.declared.options.Given.{Given}
-use Rattle.command_words.specs.Words.{AreGiven, said}
+use Rattle.command_words.proofs.Names.{sym, subst, MatchOption, Given, AreGiven, said}
 use Rattle.command_words.proofs.WordLemmas.{none-behind, some-behind}
 use Rattle.command_words.proofs.options.+read_given.Goals as goal
 

@@ -1,6 +1,4 @@
-use Rattle.std.proofs.Common.{arith}
-use Rattle.std.proofs.lemmas.List.{length-map}
-use Rattle.command_words.specs.Words.{said}
+use Rattle.command_words.proofs.Names.{arith, length-map, said}
 use Rattle.command_words.proofs.WordLemmas.{given-few}
 use Rattle.command_words.proofs.options.few_given.Goals as goal
 

@@ -1,7 +1,5 @@
-use Rattle.std.proofs.Common.{rules, ◌≡◌, true, sym, ap, ◌∙◌}
-use Rattle.std.specs.Prelude.{is_some}
+use Rattle.command_words.proofs.Names.{rules, ◌≡◌, true, sym, ap, ◌∙◌, is_some, said}
 use Rattle.std.proofs.lemmas.Bool.{true≢false}
-use Rattle.command_words.specs.Words.{said}
 use Rattle.command_words.proofs.WordLemmas.{no-votes}
 use Rattle.command_words.proofs.options.vote_options.Goals as goal
 

@@ -1,10 +1,4 @@
-use Rattle.std.proofs.Common.{◌≡◌, not, inr, refl, sym, ap, ◌∙◌, ◌+◌, drop, filter, subst}
-use Rattle.std.specs.Prelude.{IfSome}
-use Rattle.std.specs.Option.{option_copied}
-use Rattle.commit_watch.specs.declared.versions.Version.{Version}
-use Rattle.commit_watch.specs.Folds.{moved_over}
-use Rattle.commit_watch.specs.Lists.{or_before}
-use Rattle.commit_watch.specs.Standings.{is_stopped}
+use Rattle.commit_watch.proofs.Names.{◌≡◌, not, inr, refl, sym, ap, ◌∙◌, ◌+◌, drop, filter, subst, IfSome, option_copied, Version, moved_over, or_before, is_stopped}
 use Rattle.commit_watch.proofs.FoldLemmas.{passed, taken, stuck, over-none, drop-at, drop-end}
 use Rattle.commit_watch.proofs.folds.fold.Goals.{then-not-is_stopped+in_ok-total+in-Some, else-not-is_stopped}
 use Rattle.commit_watch.proofs.folds.fold.Goals as goal

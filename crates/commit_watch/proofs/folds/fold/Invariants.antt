@@ -1,9 +1,4 @@
-use Rattle.std.proofs.Common.{◌≡◌, drop, filter, not}
-use Rattle.std.specs.Prelude.{IfSome}
-use Rattle.std.specs.Option.{option_copied}
-use Rattle.commit_watch.specs.Folds.{moved_over}
-use Rattle.commit_watch.specs.Lists.{or_before}
-use Rattle.commit_watch.specs.Standings.{is_stopped, settled_in}
+use Rattle.commit_watch.proofs.Names.{◌≡◌, drop, filter, not, IfSome, option_copied, moved_over, or_before, is_stopped, settled_in}
 use Rattle.commit_watch.proofs.folds.fold.Given as goal
 
 -- what is left of the fold comes to the same

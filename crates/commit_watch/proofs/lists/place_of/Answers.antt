@@ -1,6 +1,5 @@
-use Rattle.std.proofs.Common.{rules}
+use Rattle.commit_watch.proofs.Names.{rules, object_lt}
 use Rattle.std.proofs.lemmas.List.Sorted.{IsPartitionPoint-from_clause}
-use Rattle.commit_watch.specs.Lists.{object_lt}
 use Rattle.commit_watch.proofs.ListLemmas.{partitioned}
 use Rattle.commit_watch.proofs.lists.place_of.Goals as goal
 

@@ -1,9 +1,4 @@
-use Rattle.std.proofs.Common.{rules, ap, ◌∙◌, subst}
-use Rattle.std.specs.Prelude.{unwrap_or}
-use Rattle.value_form.specs.Objects.{object_cmp}
-use Rattle.object_history.proofs.MapLemmas.{Puts}
-use Rattle.object_history.proofs.TrackLemmas.{on_ok}
-use Rattle.commit_watch.specs.Standings.{empty_standing, with_version}
+use Rattle.commit_watch.proofs.Names.{rules, ap, ◌∙◌, subst, unwrap_or, object_cmp, Puts, on_ok, empty_standing, with_version}
 use Rattle.commit_watch.proofs.StandingLemmas.{standings-put}
 use Rattle.commit_watch.proofs.scans.add_put.Goals as goal
 

@@ -1,5 +1,4 @@
-use Rattle.std.proofs.Common.{◌≡◌, reverse, take}
-use Rattle.object_history.specs.History.{floor_of}
+use Rattle.commit_watch.proofs.Names.{◌≡◌, reverse, take, floor_of}
 use Rattle.commit_watch.proofs.scans.floor_among.Given as goal
 
 -- the floor so far

@@ -1,8 +1,4 @@
-use Rattle.std.proofs.Common.{◌≡◌, ◌∷◌, subst, sym, ap, ◌∙◌}
-use Rattle.value_form.specs.declared.objects.ObjectId.{ObjectId}
-use Rattle.object_history.specs.declared.marks.Mark.{Mark}
-use Rattle.object_history.proofs.TrackLemmas.{on_ok}
-use Rattle.commit_watch.specs.Standings.{standing_at, standing_of, terms_in}
+use Rattle.commit_watch.proofs.Names.{◌≡◌, ◌∷◌, subst, sym, ap, ◌∙◌, ObjectId, Mark, on_ok, standing_at, standing_of, terms_in}
 use Rattle.commit_watch.proofs.StandingLemmas.{standing-put, put-asked}
 use Rattle.commit_watch.proofs.scans.read_mark.Goals as goal
 

@@ -1,9 +1,5 @@
-use Rattle.std.proofs.Common.{◌≡◌, ◌∷◌, subst, sym, ap, ◌∙◌}
+use Rattle.commit_watch.proofs.Names.{◌≡◌, ◌∷◌, subst, sym, ap, ◌∙◌, StampParts, Mark, settle_of, on_ok}
 use Rattle.std.specs.FinMap as finite
-use Rattle.pseudo_time.specs.StampParts.{StampParts}
-use Rattle.object_history.specs.declared.marks.Mark.{Mark}
-use Rattle.object_history.specs.History.{settle_of}
-use Rattle.object_history.proofs.TrackLemmas.{on_ok}
 use Rattle.commit_watch.proofs.StandingLemmas.{settle-first, settle-known, none-of}
 use Rattle.commit_watch.proofs.scans.read_settle.Goals as goal
 

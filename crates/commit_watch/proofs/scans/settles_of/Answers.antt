@@ -1,8 +1,5 @@
-use Rattle.std.proofs.Common.{ap, ◌∙◌}
+use Rattle.commit_watch.proofs.Names.{ap, ◌∙◌, get-empty, stamp_cmp, settle_of}
 use Rattle.std.specs.FinMap as finite
-use Rattle.std.specs.FinMap.{get-empty}
-use Rattle.pseudo_time.specs.StampParts.{stamp_cmp}
-use Rattle.object_history.specs.History.{settle_of}
 use Rattle.commit_watch.proofs.scans.settles_of.Goals as goal
 
 pub loop-mark-init : goal.loop-mark-init

@@ -1,7 +1,5 @@
-use Rattle.std.proofs.Common.{◌≡◌, reverse, take}
+use Rattle.commit_watch.proofs.Names.{◌≡◌, reverse, take, StampParts, settle_of}
 use Rattle.std.specs.FinMap as finite
-use Rattle.pseudo_time.specs.StampParts.{StampParts}
-use Rattle.object_history.specs.History.{settle_of}
 use Rattle.commit_watch.proofs.scans.settles_of.Given as goal
 
 -- the marks so far

@@ -1,6 +1,4 @@
-use Rattle.std.proofs.Common.{◌≡◌, reverse, take}
-use Rattle.value_form.specs.declared.objects.ObjectId.{ObjectId}
-use Rattle.commit_watch.specs.Standings.{standing_at, standing_of, terms_in}
+use Rattle.commit_watch.proofs.Names.{◌≡◌, reverse, take, ObjectId, standing_at, standing_of, terms_in}
 use Rattle.commit_watch.proofs.scans.standings_of.Given as goal
 
 -- the marks so far

@@ -1,6 +1,4 @@
-use Rattle.std.proofs.Common.{ap, ◌∙◌, ◌++◌, ◌∷◌, take, drop}
-use Rattle.value_form.specs.declared.values.Value.{Value}
-use Rattle.commit_watch.specs.declared.versions.Version.{Version}
+use Rattle.commit_watch.proofs.Names.{ap, ◌∙◌, ◌++◌, ◌∷◌, take, drop, Value, Version}
 use Rattle.commit_watch.proofs.StandingLemmas.{place-us}
 use Rattle.commit_watch.proofs.standings.add_version.Goals as goal
 

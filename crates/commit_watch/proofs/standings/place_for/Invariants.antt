@@ -1,6 +1,4 @@
-use Rattle.std.proofs.Common.{◌≡◌, ◌≤◌, ℕ, length, true}
-use Rattle.std.specs.List.{AllWithin}
-use Rattle.pseudo_time.specs.Order.{lt}
+use Rattle.commit_watch.proofs.Names.{◌≡◌, ◌≤◌, ℕ, length, true, AllWithin, lt}
 use Rattle.commit_watch.proofs.standings.place_for.Given as goal
 
 -- those from the place on start above

@@ -1,8 +1,4 @@
-use Rattle.std.specs.BTreeMap.{get}
-use Rattle.std.specs.Option.{option_copied}
-use Rattle.value_form.specs.Objects.{object_cmp}
-use Rattle.commit_watch.specs.Lists.{moved_at}
-use Rattle.commit_watch.specs.Standings.{stood}
+use Rattle.commit_watch.proofs.Names.{get, option_copied, object_cmp, moved_at, stood}
 use Rattle.commit_watch.proofs.ChangeLemmas.{begins-at, goes-on, refuses-or, ends, at-entry, at-refusal, none-left}
 use Rattle.commit_watch.proofs.StandingLemmas.{stood-empty}
 use Rattle.commit_watch.proofs.watches.changes_of.Goals as goal

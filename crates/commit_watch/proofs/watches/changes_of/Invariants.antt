@@ -1,8 +1,4 @@
-use Rattle.std.proofs.Common.{◌≡◌, length}
-use Rattle.std.specs.BTreeMap.{get}
-use Rattle.value_form.specs.Objects.{object_cmp}
-use Rattle.commit_watch.specs.Lists.{moved_at}
-use Rattle.commit_watch.specs.Standings.{stood}
+use Rattle.commit_watch.proofs.Names.{◌≡◌, length, get, object_cmp, moved_at, stood}
 use Rattle.commit_watch.proofs.ChangeLemmas.{Going}
 use Rattle.commit_watch.proofs.watches.changes_of.Given as goal
 

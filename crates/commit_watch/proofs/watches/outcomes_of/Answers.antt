@@ -1,8 +1,4 @@
-use Rattle.std.proofs.Common.{reverse, sym, refl, ◌∙◌}
-use Rattle.commit_watch.specs.declared.scans.Scan.{Scan}
-use Rattle.commit_watch.specs.Folds.{advanced}
-use Rattle.commit_watch.specs.Lists.{moved_at}
-use Rattle.commit_watch.specs.Standings.{standing_at, stood}
+use Rattle.commit_watch.proofs.Names.{reverse, sym, refl, ◌∙◌, Scan, advanced, moved_at, standing_at, stood}
 use Rattle.commit_watch.proofs.ChangeLemmas.{if_ok, if_err, refused-as}
 use Rattle.commit_watch.proofs.StandingLemmas.{scan-advanced}
 use Rattle.commit_watch.proofs.watches.outcomes_of.Goals as goal

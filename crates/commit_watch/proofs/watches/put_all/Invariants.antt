@@ -1,6 +1,5 @@
-use Rattle.std.proofs.Common.{◌≡◌, ◌≤◌, ◌+◌, length}
+use Rattle.commit_watch.proofs.Names.{◌≡◌, ◌≤◌, ◌+◌, length, AreRising, with_all}
 use Rattle.std.specs.Vec.{vec_len, vec_capacity}
-use Rattle.commit_watch.specs.Lists.{AreRising, with_all}
 use Rattle.commit_watch.proofs.watches.put_all.Given as goal
 
 -- what is left is put into the list so far, which has room for it

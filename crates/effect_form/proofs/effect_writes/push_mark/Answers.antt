@@ -1,5 +1,4 @@
-use Rattle.std.proofs.Common.{◌∷◌, []}
-use Rattle.pseudo_time.specs.TimeParts.{time_bytes}
+use Rattle.effect_form.proofs.Names.{◌∷◌, [], time_bytes}
 use Rattle.effect_form.proofs.Pieces.{two_texts}
 use Rattle.effect_form.proofs.effect_writes.push_mark.Goals as goal
 

@@ -1,7 +1,4 @@
-use Rattle.pseudo_time.specs.TimeParts.{time_bytes}
-use Rattle.value_form.specs.ObjectBytes.{object_bytes}
-use Rattle.value_form.specs.ValueBytes.{value_bytes}
-use Rattle.effect_form.specs.Effects.{back_bytes}
+use Rattle.effect_form.proofs.Names.{time_bytes, object_bytes, value_bytes, back_bytes}
 use Rattle.effect_form.proofs.Pieces.{tag_and_four}
 use Rattle.effect_form.proofs.effect_writes.push_put.Goals as goal
 

@@ -1,5 +1,4 @@
-use Rattle.pseudo_time.specs.TimeParts.{time_bytes}
-use Rattle.value_form.specs.ObjectBytes.{object_bytes}
+use Rattle.effect_form.proofs.Names.{time_bytes, object_bytes}
 use Rattle.effect_form.proofs.Pieces.{tag_and_two}
 use Rattle.effect_form.proofs.effect_writes.push_stretch.Goals as goal
 

@@ -1,6 +1,4 @@
-use Rattle.std.proofs.Common.{◌∷◌}
-use Rattle.std.specs.Int.{w32, to_be_bytes}
-use Rattle.pseudo_time.specs.StampParts.{stamp_bytes}
+use Rattle.effect_form.proofs.Names.{◌∷◌, w32, to_be_bytes, stamp_bytes}
 use Rattle.effect_form.proofs.Pieces.{two_texts}
 use Rattle.effect_form.proofs.effect_writes.push_try.Goals as goal
 

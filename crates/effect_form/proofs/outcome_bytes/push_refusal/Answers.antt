@@ -1,6 +1,5 @@
 use Rattle.effect_form.proofs.Pieces.{tag_and_two}
-use Rattle.value_form.specs.ObjectBytes.{object_bytes}
-use Rattle.pseudo_time.specs.TimeParts.{time_bytes}
+use Rattle.effect_form.proofs.Names.{object_bytes, time_bytes}
 use Rattle.effect_form.proofs.outcome_bytes.push_refusal.Goals as goal
 
 pub returns : goal.returns

@@ -1,5 +1,4 @@
-use Rattle.std.proofs.Common.{sym, ◌∙◌, ap}
-use Rattle.std.specs.Prelude.{Some}
+use Rattle.expression_form.proofs.Names.{sym, ◌∙◌, ap, Some}
 use Rattle.expression_form.proofs.Readings.{built-spells, deep-spells, none-spells}
 use Rattle.expression_form.proofs.reader.read_expression.Goals as goal
 

@@ -1,6 +1,5 @@
-use Rattle.std.proofs.Common.{sym, ap}
+use Rattle.folder_look.proofs.Names.{sym, ap, ended_text}
 use Rattle.folder_look.proofs.Appends.{before, named-so}
-use Rattle.folder_look.specs.Attempts.{ended_text}
 use Rattle.folder_look.proofs.attempts.push_ended.Goals as goal
 
 pub returns-in-LaterRead : goal.returns-in-LaterRead

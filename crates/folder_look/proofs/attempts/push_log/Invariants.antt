@@ -1,5 +1,4 @@
-use Rattle.std.proofs.Common.{◌≡◌, ◌++◌, take}
-use Rattle.folder_look.proofs.Names.{flat_map, effect_text}
+use Rattle.folder_look.proofs.Names.{flat_map, effect_text, ◌≡◌, ◌++◌, take}
 use Rattle.folder_look.proofs.attempts.push_log.Given as goal
 
 -- those so far are written

@@ -1,5 +1,4 @@
-use Rattle.std.proofs.Common.{◌≡◌, drop}
-use Rattle.folder_look.specs.Axes.{with_versions}
+use Rattle.folder_look.proofs.Names.{◌≡◌, drop, with_versions}
 use Rattle.folder_look.proofs.axes.add_versions.Given as goal
 
 -- those that are left are added to those so far

@@ -1,5 +1,4 @@
-use Rattle.std.proofs.Common.{◌≡◌, [], drop}
-use Rattle.folder_look.specs.Axes.{with_rows}
+use Rattle.folder_look.proofs.Names.{◌≡◌, [], drop, with_rows}
 use Rattle.folder_look.proofs.axes.axis_of.Given as goal
 
 -- those that are left are added to those so far

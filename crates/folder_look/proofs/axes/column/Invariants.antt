@@ -1,5 +1,4 @@
-use Rattle.std.proofs.Common.{◌≡◌, ◌≤◌}
-use Rattle.folder_look.specs.Axes.{columns_below}
+use Rattle.folder_look.proofs.Names.{◌≡◌, ◌≤◌, columns_below}
 use Rattle.folder_look.proofs.axes.column.Given as goal
 
 -- those that are left are counted on

@@ -1,5 +1,4 @@
-use Rattle.std.proofs.Common.{◌∙◌, ◌++◌, ◌+◌, ◌*◌, ap}
-use Rattle.folder_look.specs.Drawing.{rect_text}
+use Rattle.folder_look.proofs.Names.{◌∙◌, ◌++◌, ◌+◌, ◌*◌, ap, rect_text}
 use Rattle.folder_look.proofs.Appends.{before}
 use Rattle.folder_look.proofs.drawing.push_bar.Goals as goal
 

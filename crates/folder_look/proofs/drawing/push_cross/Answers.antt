@@ -1,6 +1,5 @@
-use Rattle.std.proofs.Common.{◌≡◌, false, Some, sym, ap}
+use Rattle.folder_look.proofs.Names.{◌≡◌, false, Some, sym, ap, cross_text}
 use Rattle.folder_look.proofs.Appends.{before, named-so, slice}
-use Rattle.folder_look.specs.Drawing.{cross_text}
 use Rattle.folder_look.proofs.drawing.push_cross.Goals as goal
 
 pub returns-in_ok-push_named-in-Some-false : goal.returns-in_ok-push_named-in-Some-false

@@ -1,6 +1,5 @@
-use Rattle.std.proofs.Common.{◌∙◌, ◌++◌, [], ◌∷◌, take, ap, sym}
+use Rattle.folder_look.proofs.Names.{◌∙◌, ◌++◌, [], ◌∷◌, take, ap, sym, row_text}
 use Rattle.folder_look.proofs.Appends.{each, take-one}
-use Rattle.folder_look.specs.Drawing.{row_text}
 use Rattle.folder_look.proofs.drawing.push_each.Goals as goal
 
 pub loop-row-preserved : goal.loop-row-preserved

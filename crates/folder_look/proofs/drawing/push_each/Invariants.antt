@@ -1,5 +1,4 @@
-use Rattle.std.proofs.Common.{◌≡◌, ◌++◌, take}
-use Rattle.folder_look.proofs.Names.{flat_map, row_text}
+use Rattle.folder_look.proofs.Names.{flat_map, row_text, ◌≡◌, ◌++◌, take}
 use Rattle.folder_look.proofs.drawing.push_each.Given as goal
 
 -- those so far are written

@@ -1,7 +1,5 @@
-use Rattle.std.proofs.Common.{◌∙◌, ◌++◌, ◌+◌, ◌*◌, codes, sym, ap}
-use Rattle.folder_look.proofs.Names.{named, column}
+use Rattle.folder_look.proofs.Names.{named, column, ◌∙◌, ◌++◌, ◌+◌, ◌*◌, codes, sym, ap, floor_text}
 use Rattle.folder_look.proofs.Appends.{before, named-so, slice}
-use Rattle.folder_look.specs.Drawing.{floor_text}
 use Rattle.folder_look.proofs.drawing.push_floor.Goals as goal
 
 pub returns-in_ok-push_time-in-Some : goal.returns-in_ok-push_time-in-Some

@@ -1,7 +1,5 @@
-use Rattle.std.proofs.Common.{◌≡◌, ◌++◌, ◌==◌, [], false, codes, sym, ap, if◌then◌else◌, arith}
-use Rattle.folder_look.proofs.Names.{nat_tests, named}
+use Rattle.folder_look.proofs.Names.{nat_tests, named, ◌≡◌, ◌++◌, ◌==◌, [], false, codes, sym, ap, if◌then◌else◌, arith, hidden_text}
 use Rattle.folder_look.proofs.Appends.{before, named-so, slice}
-use Rattle.folder_look.specs.Drawing.{hidden_text}
 use Rattle.folder_look.proofs.drawing.push_hidden.Goals as goal
 
 pub returns : goal.returns

@@ -1,5 +1,4 @@
-use Rattle.std.proofs.Common.{◌∙◌, ◌++◌, ◌+◌, ◌*◌, ap, codes}
-use Rattle.report_writer.specs.Reports.{named}
+use Rattle.folder_look.proofs.Names.{◌∙◌, ◌++◌, ◌+◌, ◌*◌, ap, codes, named}
 use Rattle.folder_look.proofs.Appends.{before, slice}
 use Rattle.folder_look.proofs.drawing.push_mark.Goals as goal
 

@@ -1,6 +1,4 @@
-use Rattle.std.proofs.Common.{◌≡◌, ◌++◌}
-use Rattle.std.specs.List.{flat_map}
-use Rattle.folder_look.specs.Drawing.{mark_text}
+use Rattle.folder_look.proofs.Names.{◌≡◌, ◌++◌, flat_map, mark_text}
 use Rattle.folder_look.proofs.drawing.push_marks.Given as goal
 
 -- those that are left are written on

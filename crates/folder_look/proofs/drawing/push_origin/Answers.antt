@@ -1,7 +1,5 @@
-use Rattle.std.proofs.Common.{◌∙◌, ◌++◌, ◌+◌, ◌*◌, sym, ap}
+use Rattle.folder_look.proofs.Names.{◌∙◌, ◌++◌, ◌+◌, ◌*◌, sym, ap, column, origin_text, rect_text}
 use Rattle.folder_look.proofs.Appends.{before, named-so, slice}
-use Rattle.folder_look.specs.Axes.{column}
-use Rattle.folder_look.specs.Drawing.{origin_text, rect_text}
 use Rattle.folder_look.proofs.drawing.push_origin.Goals as goal
 
 pub returns-in_ok-push_rect-in-Some : goal.returns-in_ok-push_rect-in-Some

@@ -1,6 +1,4 @@
-use Rattle.std.proofs.Common.{◌∙◌, ◌++◌, ap}
-use Rattle.folder_look.proofs.Names.{column, stamp_text}
-use Rattle.folder_look.specs.Drawing.{bar_text}
+use Rattle.folder_look.proofs.Names.{column, stamp_text, ◌∙◌, ◌++◌, ap, bar_text}
 use Rattle.folder_look.proofs.Appends.{before, slice}
 use Rattle.folder_look.proofs.drawing.push_version.Goals as goal
 

@@ -1,6 +1,5 @@
-use Rattle.std.proofs.Common.{◌∙◌, ◌++◌, [], ◌∷◌, take, ap, sym}
+use Rattle.folder_look.proofs.Names.{◌∙◌, ◌++◌, [], ◌∷◌, take, ap, sym, version_text}
 use Rattle.folder_look.proofs.Appends.{each, take-one}
-use Rattle.folder_look.specs.Drawing.{version_text}
 use Rattle.folder_look.proofs.drawing.push_versions.Goals as goal
 
 pub loop-version-preserved : goal.loop-version-preserved

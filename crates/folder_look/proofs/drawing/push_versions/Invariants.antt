@@ -1,5 +1,4 @@
-use Rattle.std.proofs.Common.{◌≡◌, ◌++◌, take}
-use Rattle.folder_look.proofs.Names.{flat_map, version_text}
+use Rattle.folder_look.proofs.Names.{flat_map, version_text, ◌≡◌, ◌++◌, take}
 use Rattle.folder_look.proofs.drawing.push_versions.Given as goal
 
 -- those so far are written

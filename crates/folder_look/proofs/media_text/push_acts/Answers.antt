@@ -1,7 +1,5 @@
-use Rattle.std.proofs.Common.{◌∙◌, ◌++◌, sym, ap}
+use Rattle.folder_look.proofs.Names.{◌∙◌, ◌++◌, sym, ap, log_text, acts_text, acts_with}
 use Rattle.folder_look.proofs.Appends.{before, named-so, slice}
-use Rattle.folder_look.specs.Attempts.{log_text}
-use Rattle.folder_look.specs.MediaText.{acts_text, acts_with}
 use Rattle.folder_look.proofs.media_text.push_acts.Goals as goal
 
 pub returns-in_ok-push_log-in-Broker : goal.returns-in_ok-push_log-in-Broker

@@ -1,5 +1,4 @@
-use Rattle.std.proofs.Common.{◌≡◌, ◌++◌, take}
-use Rattle.folder_look.proofs.Names.{flat_map, acts_text}
+use Rattle.folder_look.proofs.Names.{flat_map, acts_text, ◌≡◌, ◌++◌, take}
 use Rattle.folder_look.proofs.media_text.push_all_acts.Given as goal
 
 -- those so far are written

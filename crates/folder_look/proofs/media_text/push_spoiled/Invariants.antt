@@ -1,5 +1,4 @@
-use Rattle.std.proofs.Common.{◌≡◌, ◌++◌, take}
-use Rattle.folder_look.proofs.Names.{flat_map, spoiled_text}
+use Rattle.folder_look.proofs.Names.{flat_map, spoiled_text, ◌≡◌, ◌++◌, take}
 use Rattle.folder_look.proofs.media_text.push_spoiled.Given as goal
 
 -- those so far are written

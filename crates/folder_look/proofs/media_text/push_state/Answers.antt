@@ -1,6 +1,5 @@
-use Rattle.std.proofs.Common.{sym, ap}
+use Rattle.folder_look.proofs.Names.{sym, ap, state_text}
 use Rattle.folder_look.proofs.Appends.{before, named-so, slice}
-use Rattle.folder_look.specs.MediaText.{state_text}
 use Rattle.folder_look.proofs.media_text.push_state.Goals as goal
 
 pub returns-in_ok-push_named-in-Damaged : goal.returns-in_ok-push_named-in-Damaged

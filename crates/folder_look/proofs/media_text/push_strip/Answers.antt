@@ -1,5 +1,4 @@
-use Rattle.std.proofs.Common.{◌∙◌, ◌++◌, ap, codes}
-use Rattle.folder_look.proofs.Names.{flat_map, named, spoiled_text}
+use Rattle.folder_look.proofs.Names.{flat_map, named, spoiled_text, ◌∙◌, ◌++◌, ap, codes}
 use Rattle.folder_look.proofs.Appends.{before, slice}
 use Rattle.folder_look.proofs.media_text.push_strip.Goals as goal
 

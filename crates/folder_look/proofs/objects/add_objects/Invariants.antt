@@ -1,5 +1,4 @@
-use Rattle.std.proofs.Common.{◌≡◌, drop}
-use Rattle.folder_look.specs.Objects.{with_objects}
+use Rattle.folder_look.proofs.Names.{◌≡◌, drop, with_objects}
 use Rattle.folder_look.proofs.objects.add_objects.Given as goal
 
 -- those that are left are added to those so far

@@ -1,6 +1,4 @@
-use Rattle.std.proofs.Common.{◌≡◌, ◌++◌}
-use Rattle.std.specs.List.{filter}
-use Rattle.folder_look.specs.Choices.{has_object}
+use Rattle.folder_look.proofs.Names.{◌≡◌, ◌++◌, filter, has_object}
 use Rattle.folder_look.proofs.objects.chosen.Given as goal
 
 -- those that are left are chosen from

@@ -1,5 +1,4 @@
-use Rattle.std.proofs.Common.{◌≡◌, ◌++◌, drop}
-use Rattle.folder_look.specs.Objects.{rows_in}
+use Rattle.folder_look.proofs.Names.{◌≡◌, ◌++◌, drop, rows_in}
 use Rattle.folder_look.proofs.objects.rows_in.Given as goal
 
 -- the others follow with what is left of the versions

@@ -1,7 +1,5 @@
-use Rattle.std.proofs.Common.{◌∙◌, ◌++◌, [], ap}
+use Rattle.folder_look.proofs.Names.{◌∙◌, ◌++◌, [], ap, Tally, head_text, pages_text}
 use Rattle.folder_look.proofs.Appends.{behind}
-use Rattle.folder_look.specs.declared.tallies.Tally.{Tally}
-use Rattle.folder_look.specs.Page.{head_text, pages_text}
 use Rattle.folder_look.proofs.pages.page_of.Goals as goal
 
 pub returns : goal.returns

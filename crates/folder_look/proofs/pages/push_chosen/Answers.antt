@@ -1,7 +1,6 @@
-use Rattle.std.proofs.Common.{◌≡◌, ◌∙◌, ◌-◌, length, take, ap, rules}
+use Rattle.folder_look.proofs.Names.{◌≡◌, ◌∙◌, ◌-◌, length, take, ap, rules, histories_text}
 use Rattle.folder_look.proofs.Appends.{named-so}
 use Rattle.folder_look.specs.Objects.{chosen, objects_left, rows_in, rows_of}
-use Rattle.folder_look.specs.Page.{histories_text}
 use Rattle.folder_look.proofs.pages.push_chosen.Goals as goal
 
 pub returns : goal.returns

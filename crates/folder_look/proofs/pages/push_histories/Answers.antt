@@ -1,5 +1,4 @@
-use Rattle.std.proofs.Common.{◌∙◌, ◌++◌, ap}
-use Rattle.folder_look.specs.Drawing.{rows_text}
+use Rattle.folder_look.proofs.Names.{◌∙◌, ◌++◌, ap, rows_text}
 use Rattle.folder_look.proofs.Appends.{before}
 use Rattle.folder_look.proofs.pages.push_histories.Goals as goal
 

@@ -1,7 +1,5 @@
-use Rattle.std.proofs.Common.{◌≡◌, ◌++◌, ◌==◌, [], false, codes, sym, ap, if◌then◌else◌, arith}
-use Rattle.folder_look.proofs.Names.{nat_tests, named}
+use Rattle.folder_look.proofs.Names.{nat_tests, named, ◌≡◌, ◌++◌, ◌==◌, [], false, codes, sym, ap, if◌then◌else◌, arith, left_text}
 use Rattle.folder_look.proofs.Appends.{before, named-so, slice}
-use Rattle.folder_look.specs.Page.{left_text}
 use Rattle.folder_look.proofs.pages.push_left.Goals as goal
 
 pub returns : goal.returns

@@ -1,5 +1,4 @@
-use Rattle.std.proofs.Common.{◌∙◌, ◌+◌, ◌++◌, rules, sym, suc}
-use Rattle.folder_look.proofs.Names.{logs_of, given_up_by}
+use Rattle.folder_look.proofs.Names.{logs_of, given_up_by, ◌∙◌, ◌+◌, ◌++◌, rules, sym, suc}
 use Rattle.folder_look.proofs.VolumeLemmas.{going-by, going-on, steps-are}
 use Rattle.folder_look.proofs.rows.push_given_up.Goals.{then-is_early+in_ok-push_behind, else-is_early}
 use Rattle.folder_look.proofs.rows.push_given_up.Goals as goal

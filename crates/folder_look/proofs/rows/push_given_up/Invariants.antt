@@ -1,5 +1,4 @@
-use Rattle.std.proofs.Common.{◌≡◌, ◌≤◌, ◌++◌, drop}
-use Rattle.folder_look.proofs.Names.{logs_of, given_up_by}
+use Rattle.folder_look.proofs.Names.{logs_of, given_up_by, ◌≡◌, ◌≤◌, ◌++◌, drop}
 use Rattle.folder_look.proofs.VolumeLemmas.{going}
 use Rattle.folder_look.proofs.rows.push_given_up.Given as goal
 

@@ -1,5 +1,4 @@
-use Rattle.std.proofs.Common.{◌≡◌, ◌++◌, map, take}
-use Rattle.folder_look.proofs.Names.{filter, told_row, is_told_in}
+use Rattle.folder_look.proofs.Names.{filter, told_row, is_told_in, ◌≡◌, ◌++◌, map, take}
 use Rattle.folder_look.proofs.rows.push_versions.Given as goal
 
 -- those so far were added

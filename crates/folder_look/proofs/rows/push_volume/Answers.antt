@@ -1,5 +1,4 @@
-use Rattle.std.proofs.Common.{◌≡◌, ◌∙◌, ◌++◌, List, map, reverse, ap, subst}
-use Rattle.folder_look.proofs.Names.{contains, filter, TimeParts, time_cmp, Seen, marks, Holds, rows_with, starts_at, told_row, is_told_in}
+use Rattle.folder_look.proofs.Names.{contains, filter, TimeParts, time_cmp, Seen, marks, Holds, rows_with, starts_at, told_row, is_told_in, ◌≡◌, ◌∙◌, ◌++◌, List, map, reverse, ap, subst}
 use Rattle.folder_look.proofs.RowLemmas.{rows-are}
 use Rattle.folder_look.proofs.StartLemmas.{on-more}
 use Rattle.folder_look.proofs.rows.push_volume.Goals as goal

@@ -1,5 +1,4 @@
-use Rattle.std.proofs.Common.{◌∙◌, reverse, subst}
-use Rattle.folder_look.proofs.Names.{marks, Holds}
+use Rattle.folder_look.proofs.Names.{marks, Holds, ◌∙◌, reverse, subst}
 use Rattle.folder_look.proofs.StartLemmas.{starts-told}
 use Rattle.folder_look.proofs.rows.starts_in.Goals as goal
 

@@ -1,5 +1,4 @@
-use Rattle.std.proofs.Common.{◌≡◌, take}
-use Rattle.folder_look.proofs.Names.{contains, TimeParts, time_cmp}
+use Rattle.folder_look.proofs.Names.{contains, TimeParts, time_cmp, ◌≡◌, take}
 use Rattle.folder_look.proofs.StartLemmas.{kept_at}
 use Rattle.folder_look.proofs.rows.starts_of.Given as goal
 

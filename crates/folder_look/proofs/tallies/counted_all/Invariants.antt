@@ -1,5 +1,4 @@
-use Rattle.std.proofs.Common.{◌≡◌, drop}
-use Rattle.folder_look.specs.Tallies.{counted_all}
+use Rattle.folder_look.proofs.Names.{◌≡◌, drop, counted_all}
 use Rattle.folder_look.proofs.tallies.counted_all.Given as goal
 
 -- those that are left are counted on

@@ -1,5 +1,4 @@
-use Rattle.std.proofs.Common.{◌≡◌, ◌≤◌, drop}
-use Rattle.folder_look.proofs.Names.{current, current_from, logs_of}
+use Rattle.folder_look.proofs.Names.{current, current_from, logs_of, ◌≡◌, ◌≤◌, drop}
 use Rattle.folder_look.proofs.volumes.current_of.Given as goal
 
 -- the last one so far that is whole stands unless a later one comes

@@ -1,5 +1,4 @@
-use Rattle.std.proofs.Common.{◌≡◌, drop}
-use Rattle.folder_look.proofs.Names.{log_at, logs_of}
+use Rattle.folder_look.proofs.Names.{log_at, logs_of, ◌≡◌, drop}
 use Rattle.folder_look.proofs.volumes.log_of.Given as goal
 
 -- so many volumes come before it still

@@ -1,5 +1,4 @@
-use Rattle.std.proofs.Common.{inl, inr, subst, arith}
-use Rattle.std.specs.Io.KnownBytes.{Appends}
+use Rattle.laboratory.proofs.Names.{inl, inr, subst, arith, Appends}
 use Rattle.std.proofs.lemmas.List.{take_all}
 use Rattle.stream_port.specs.Causes.{rise_counts}
 use Rattle.swallow_top.proofs.StreamLemmas.{Appends-more, AppendsFront-fault, within_more}

@@ -1,5 +1,4 @@
-use Rattle.std.proofs.Common.{◌-◌, ◌≤◌, length, take}
-use Rattle.std.specs.Io.KnownBytes.{Appends}
+use Rattle.laboratory.proofs.Names.{◌-◌, ◌≤◌, length, take, Appends}
 use Rattle.laboratory.proofs.lines.write_line.Given as goal
 
 -- the first bytes were written

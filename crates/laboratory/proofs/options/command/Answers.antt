@@ -1,9 +1,5 @@
-use Rattle.std.proofs.Common.{rules, ◌≡◌, ◌∙◌, ap, ap₂, true, codes}
+use Rattle.laboratory.proofs.Names.{rules, ◌≡◌, ◌∙◌, ap, ap₂, true, codes, App, app_of, app_of_fields, on_top, with_rule, rule_of, ValueParser, needed, numbers}
 use Rattle.std.proofs.lemmas.Result.{IfOk-weaker}
-use Rattle.clap.specs.Simple.{App, app_of, app_of_fields, on_top, with_rule}
-use Rattle.clap.specs.Walk.{rule_of}
-use Rattle.clap.specs.declared.builder.value_parser.ValueParser.{ValueParser}
-use Rattle.laboratory.specs.Options.{needed, numbers}
 use Rattle.laboratory.proofs.options.command.Goals as goal
 
 pub returns : goal.returns

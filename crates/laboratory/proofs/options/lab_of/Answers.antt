@@ -1,7 +1,4 @@
-use Rattle.std.proofs.Common.{◌∙◌, ap, sym, arith, codes}
-use Rattle.std.specs.Prelude.{Some}
-use Rattle.clap.specs.Matches.{found_of}
-use Rattle.clap.proofs.WalkLemmas.{first_value-rows}
+use Rattle.laboratory.proofs.Names.{◌∙◌, ap, sym, arith, codes, Some, found_of, first_value-rows}
 use Rattle.laboratory.proofs.options.lab_of.Goals as goal
 
 pub returns : goal.returns

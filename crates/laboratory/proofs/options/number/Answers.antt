@@ -1,5 +1,4 @@
-use Rattle.std.specs.Str.Parse.{ParsesUnsigned, ExplainsUnsignedError, HasUnsignedDigitsIfOk}
-use Rattle.clap.specs.Matches.{found_of}
+use Rattle.laboratory.proofs.Names.{ParsesUnsigned, ExplainsUnsignedError, HasUnsignedDigitsIfOk, found_of}
 use Rattle.laboratory.proofs.WordLemmas.{number_read}
 use Rattle.laboratory.proofs.options.number.Goals as goal
 

@@ -1,6 +1,4 @@
-use Rattle.std.proofs.Common.{Err, inl, refl, subst}
-use Rattle.command_words.specs.Words.{said}
-use Rattle.laboratory.specs.Options.{AreRead}
+use Rattle.laboratory.proofs.Names.{Err, inl, refl, subst, said, AreRead}
 use Rattle.laboratory.proofs.RunLemmas.{done_as}
 use Rattle.laboratory.proofs.runs.lab.Goals as goal
 

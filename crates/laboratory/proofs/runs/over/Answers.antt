@@ -1,8 +1,5 @@
-use Rattle.std.proofs.Common.{◌∙◌, Some, ap, sym}
-use Rattle.std.specs.Prelude.{replicate}
+use Rattle.laboratory.proofs.Names.{◌∙◌, Some, ap, sym, replicate, said, asked_of}
 use Rattle.stream_port.specs.Clocks.{FixedParts}
-use Rattle.command_words.specs.Words.{said}
-use Rattle.laboratory.specs.Fates.{asked_of}
 use Rattle.laboratory.proofs.RunLemmas.{ran_as}
 use Rattle.laboratory.proofs.runs.over.Goals as goal
 

@@ -1,6 +1,5 @@
-use Rattle.std.proofs.Common.{◌≡◌, ap, arith, ◌∙◌}
+use Rattle.laboratory.proofs.Names.{◌≡◌, ap, arith, ◌∙◌, first_name, voting_name}
 use Rattle.medium_port.specs.declared.shelves.MediumName.{MediumName}
-use Rattle.laboratory.specs.Shelves.{first_name, voting_name}
 use Rattle.laboratory.proofs.shelves.shelf_for.Goals as goal
 
 -- they are of two volumes

@@ -1,7 +1,4 @@
-use Rattle.std.proofs.Common.{[], ◌∷◌, ◌+◌, ℕ, List, drop, get_or, sym, ◌∙◌, ap, subst}
-use Rattle.medium_port.specs.Image.{Image}
-use Rattle.medium_port.specs.declared.events.Event.{Event}
-use Rattle.medium_port.specs.Disk.{Span, Among, SpanFits, spans_of, damaged}
+use Rattle.medium_port.proofs.Names.{[], ◌∷◌, ◌+◌, ℕ, List, drop, get_or, sym, ◌∙◌, ap, subst, Image, Event, Span, Among, SpanFits, spans_of, damaged}
 use Rattle.medium_port.proofs.Disks.{spans_step, among_left, among_right, damaged-append}
 use Rattle.medium_port.proofs.pasts.tear_all.Goals as goal
 

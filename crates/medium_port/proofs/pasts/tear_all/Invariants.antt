@@ -1,5 +1,4 @@
-use Rattle.std.proofs.Common.{◌≡◌, drop}
-use Rattle.medium_port.specs.Disk.{spans_of, damaged, SpansFit}
+use Rattle.medium_port.proofs.Names.{◌≡◌, drop, spans_of, damaged, SpansFit}
 use Rattle.medium_port.proofs.pasts.tear_all.Given as goal
 
 abbrev pub invariant-loop-event : goal.invariant-loop-event

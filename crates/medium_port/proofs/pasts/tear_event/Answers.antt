@@ -1,6 +1,4 @@
-use Rattle.std.proofs.Common.{inl, [], ◌∷◌, ℕ, List, length, refl, sym, ap, subst, arith}
-use Rattle.medium_port.specs.declared.events.Event.{Event}
-use Rattle.medium_port.specs.Disk.{Span, Among, spans_of}
+use Rattle.medium_port.proofs.Names.{inl, [], ◌∷◌, ℕ, List, length, refl, sym, ap, subst, arith, Event, Span, Among, spans_of}
 use Rattle.medium_port.proofs.pasts.tear_event.Goals as goal
 
 pub tear-requires-clause-page : goal.tear-requires-clause-page

@@ -1,7 +1,4 @@
-use Rattle.std.proofs.Common.{◌≡◌, List, sym, subst}
-use Rattle.std.specs.Prelude.{Some}
-use Rattle.medium_port.specs.declared.slots.Slot.{Slot}
-use Rattle.medium_port.specs.Slots.{slot_of}
+use Rattle.medium_port.proofs.Names.{◌≡◌, List, sym, subst, Some, Slot, slot_of}
 use Rattle.medium_port.proofs.SlotLemmas.{slot_pushed, slot_kept}
 use Rattle.medium_port.proofs.slots.add.Goals as goal
 

@@ -1,8 +1,4 @@
-use Rattle.std.proofs.Common.{◌≡◌, ◌∙◌, sym, ap, subst, true}
-use Rattle.std.specs.Prelude.{Option, Some}
-use Rattle.medium_port.specs.declared.memory_media.MemoryMedium.{MemoryMedium}
-use Rattle.medium_port.specs.declared.slots.Slot.{Slot}
-use Rattle.medium_port.specs.Slots.{is_same_name}
+use Rattle.medium_port.proofs.Names.{◌≡◌, ◌∙◌, sym, ap, subst, true, Option, Some, MemoryMedium, Slot, is_same_name}
 use Rattle.medium_port.proofs.SlotLemmas.{same_is, slot_there, slot_set, slot_others}
 use Rattle.medium_port.proofs.slots.swap.Goals as goal
 

@@ -1,7 +1,4 @@
-use Rattle.std.proofs.Common.{◌≡◌, ◌<◌, ◌≤◌, ◌∙◌, ap, sym, subst, get_or, true, List, length, arith, rules}
-use Rattle.std.specs.Prelude.{Some}
-use Rattle.medium_port.specs.declared.stops.Stop.{Stop}
-use Rattle.medium_port.specs.Stops.{is_at, first_met, without_met}
+use Rattle.medium_port.proofs.Names.{◌≡◌, ◌<◌, ◌≤◌, ◌∙◌, ap, sym, subst, get_or, true, List, length, arith, rules, Some, Stop, is_at, first_met, without_met}
 use Rattle.medium_port.proofs.MetLemmas.{met_here, met_nowhere, same_default}
 use Rattle.medium_port.proofs.stops.take_met.Goals as goal
 

@@ -1,6 +1,4 @@
-use Rattle.std.proofs.Common.{◌≡◌, ℕ, ◌<◌, get_or, false}
-use Rattle.medium_port.specs.declared.stops.Stop.{Stop}
-use Rattle.medium_port.specs.Stops.{is_at}
+use Rattle.medium_port.proofs.Names.{◌≡◌, ℕ, ◌<◌, get_or, false, Stop, is_at}
 use Rattle.medium_port.proofs.stops.take_met.Given as goal
 
 abbrev pub invariant-loop-index : goal.invariant-loop-index

@@ -1,5 +1,4 @@
-use Rattle.message_core.specs.Flights.{start}
-use Rattle.message_core.specs.Tallies.{blank_tally}
+use Rattle.message_core.proofs.Names.{start, blank_tally}
 use Rattle.message_core.proofs.TallyLemmas.{tallied_start, tallied_step, tallied_flown, front-due, empty-taken}
 use Rattle.message_core.proofs.laws.copies_counted.Goals as goal
 

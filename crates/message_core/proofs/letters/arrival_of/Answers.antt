@@ -1,6 +1,4 @@
-use Rattle.std.proofs.Common.{◌-◌, sym, subst, arith}
-use Rattle.message_form.specs.Messages.{message_bytes}
-use Rattle.message_core.specs.Sound.{HasText}
+use Rattle.message_core.proofs.Names.{◌-◌, sym, subst, arith, message_bytes, HasText}
 use Rattle.message_core.proofs.TakeLemmas.{text_at, letter_at}
 use Rattle.message_core.proofs.letters.arrival_of.Goals as goal
 

@@ -1,6 +1,4 @@
-use Rattle.std.proofs.Common.{rules, ◌++◌, ◌∷◌, [], sym, ◌∙◌}
-use Rattle.std.specs.Prelude.{Some}
-use Rattle.message_core.specs.Queues.{queue_in}
+use Rattle.message_core.proofs.Names.{rules, ◌++◌, ◌∷◌, [], sym, ◌∙◌, Some, queue_in}
 use Rattle.message_core.proofs.NodeLemmas.{found_same}
 use Rattle.message_core.proofs.QueueLemmas.{puts_of, queue_changed, queue_kept, one_more, err_so}
 use Rattle.message_core.proofs.queues.add.Goals as goal

@@ -1,5 +1,4 @@
-use Rattle.std.proofs.Common.{rules, drop, sym, ◌∙◌}
-use Rattle.std.specs.Prelude.{Some}
+use Rattle.message_core.proofs.Names.{rules, drop, sym, ◌∙◌, Some}
 use Rattle.message_core.proofs.NodeLemmas.{found_same}
 use Rattle.message_core.proofs.QueueLemmas.{puts_of, queue_changed}
 use Rattle.message_core.proofs.queues.drop_front.Goals as goal

@@ -1,5 +1,4 @@
-use Rattle.std.proofs.Common.{refl}
-use Rattle.std.specs.Prelude.{Some}
+use Rattle.message_core.proofs.Names.{refl, Some}
 use Rattle.message_core.proofs.QueueLemmas.{puts_of}
 use Rattle.message_core.proofs.EmptyLemmas.{one_made}
 use Rattle.message_core.proofs.queues.empty_queues.Goals as goal

@@ -1,9 +1,4 @@
-use Rattle.std.proofs.Common.{◌≡◌, [], take}
-use Rattle.std.specs.Prelude.{Some, None, if◌then◌else◌}
-use Rattle.std.specs.List.{list_any}
-use Rattle.pseudo_time.specs.declared.nodes.NodeId.{NodeId}
-use Rattle.pseudo_time.specs.Nodes.{same_node}
-use Rattle.message_core.specs.Queues.{queue_in}
+use Rattle.message_core.proofs.Names.{◌≡◌, [], take, Some, None, if◌then◌else◌, list_any, NodeId, same_node, queue_in}
 use Rattle.message_core.proofs.queues.empty_queues.Given as goal
 
 abbrev pub invariant-loop-node : goal.invariant-loop-node

@@ -1,6 +1,4 @@
-use Rattle.std.proofs.Common.{[], ap, ◌∙◌}
-use Rattle.std.specs.Prelude.{slice_get}
-use Rattle.std.specs.Option.{option_map, unwrap_or}
+use Rattle.message_core.proofs.Names.{[], ap, ◌∙◌, slice_get, option_map, unwrap_or}
 use Rattle.message_core.proofs.NodeLemmas.{found_same}
 use Rattle.message_core.proofs.queues.front_of.Goals as goal
 

@@ -1,5 +1,4 @@
-use Rattle.std.proofs.Common.{rules, ◌+◌, ◌-◌, length, take}
-use Rattle.message_core.specs.Queues.{queue_in}
+use Rattle.message_core.proofs.Names.{rules, ◌+◌, ◌-◌, length, take, queue_in}
 use Rattle.message_core.proofs.QueueLemmas.{gathered, gathered_all}
 use Rattle.message_core.proofs.queues.gather.Goals as goal
 

@@ -1,7 +1,4 @@
-use Rattle.std.proofs.Common.{ℕ, ◌-◌, List, length, take}
-use Rattle.std.specs.Prelude.{Option}
-use Rattle.pseudo_time.specs.declared.nodes.NodeId.{NodeId}
-use Rattle.message_core.specs.Queues.{queue_in, Grew}
+use Rattle.message_core.proofs.Names.{ℕ, ◌-◌, List, length, take, Option, NodeId, queue_in, Grew}
 use Rattle.message_core.proofs.queues.gather.Given as goal
 
 abbrev pub invariant-loop-back : goal.invariant-loop-back

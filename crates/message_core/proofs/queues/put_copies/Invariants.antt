@@ -1,6 +1,5 @@
-use Rattle.std.proofs.Common.{◌≡◌, ◌+◌, ◌-◌, ◌≤◌}
+use Rattle.message_core.proofs.Names.{◌≡◌, ◌+◌, ◌-◌, ◌≤◌, puts}
 use Rattle.std.specs.VecDeque.{deque_len, deque_capacity}
-use Rattle.message_core.specs.Flights.{puts}
 use Rattle.message_core.proofs.queues.put_copies.Given as goal
 
 abbrev pub invariant-loop : goal.invariant-loop

@@ -1,6 +1,4 @@
-use Rattle.std.proofs.Common.{rules, sym, ◌∙◌}
-use Rattle.std.specs.Prelude.{Some}
-use Rattle.message_core.specs.Flights.{puts}
+use Rattle.message_core.proofs.Names.{rules, sym, ◌∙◌, Some, puts}
 use Rattle.message_core.proofs.NodeLemmas.{found_same}
 use Rattle.message_core.proofs.QueueLemmas.{puts_of, queue_changed, queue_kept, on_ok, on_err}
 use Rattle.message_core.proofs.queues.put_in.Goals as goal

@@ -1,5 +1,4 @@
-use Rattle.std.proofs.Common.{◌∙◌}
-use Rattle.message_core.specs.Queues.{queue_in}
+use Rattle.message_core.proofs.Names.{◌∙◌, queue_in}
 use Rattle.message_core.proofs.QueueLemmas.{grew_nothing}
 use Rattle.message_core.proofs.queues.spread.Goals as goal
 

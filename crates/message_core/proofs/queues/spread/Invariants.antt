@@ -1,5 +1,4 @@
-use Rattle.std.proofs.Common.{take}
-use Rattle.message_core.specs.Queues.{queue_in, Grew}
+use Rattle.message_core.proofs.Names.{take, queue_in, Grew}
 use Rattle.message_core.proofs.queues.spread.Given as goal
 
 abbrev pub invariant-loop-index : goal.invariant-loop-index

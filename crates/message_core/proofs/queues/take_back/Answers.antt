@@ -1,6 +1,4 @@
-use Rattle.std.proofs.Common.{rules, ◌-◌, length, take, sym, ◌∙◌}
-use Rattle.std.specs.Prelude.{Some}
-use Rattle.message_core.specs.Queues.{queue_in}
+use Rattle.message_core.proofs.Names.{rules, ◌-◌, length, take, sym, ◌∙◌, Some, queue_in}
 use Rattle.message_core.proofs.NodeLemmas.{found_same}
 use Rattle.message_core.proofs.QueueLemmas.{puts_of, queue_changed, last_undone}
 use Rattle.message_core.proofs.queues.take_back.Goals as goal

@@ -1,7 +1,4 @@
-use Rattle.std.proofs.Common.{sym, subst}
-use Rattle.std.specs.Prelude.{All, Any, IsTrue, MatchBool}
-use Rattle.node_rounds.specs.Nodes.{IsUp}
-use Rattle.node_rounds.specs.Reasons.{IsDone, IsLate}
+use Rattle.node_rounds.proofs.Names.{sym, subst, All, Any, IsTrue, MatchBool, IsUp, IsDone, IsLate}
 use Rattle.node_rounds.proofs.PairLemmas.{within-more}
 use Rattle.node_rounds.proofs.conductors.are_all_done.Goals as goal
 

@@ -1,6 +1,4 @@
-use Rattle.std.specs.List.{AllWithin}
-use Rattle.std.specs.Prelude.{All, IsTrue}
-use Rattle.node_rounds.specs.Reasons.{IsDone}
+use Rattle.node_rounds.proofs.Names.{AllWithin, All, IsTrue, IsDone}
 use Rattle.node_rounds.proofs.conductors.are_all_done.Given as goal
 
 abbrev pub invariant-loop-nodes : goal.invariant-loop-nodes

@@ -1,7 +1,4 @@
-use Rattle.std.proofs.Common.{sym, subst, ◌∙◌}
-use Rattle.std.specs.Prelude.{IsTrue}
-use Rattle.node_rounds.specs.Nodes.{IsUp}
-use Rattle.node_rounds.specs.Reasons.{IsDone}
+use Rattle.node_rounds.proofs.Names.{sym, subst, ◌∙◌, IsTrue, IsUp, IsDone}
 use Rattle.node_rounds.proofs.PairLemmas.{within-more, within-all}
 use Rattle.node_rounds.proofs.conductors.are_done.Goals as goal
 

@@ -1,6 +1,4 @@
-use Rattle.std.specs.List.{AllWithin}
-use Rattle.std.specs.Prelude.{IsTrue}
-use Rattle.node_rounds.specs.Reasons.{IsDone}
+use Rattle.node_rounds.proofs.Names.{AllWithin, IsTrue, IsDone}
 use Rattle.node_rounds.proofs.conductors.are_done.Given as goal
 
 abbrev pub invariant-loop-node : goal.invariant-loop-node

@@ -1,7 +1,4 @@
-use Rattle.std.proofs.Common.{◌≡◌, Some, arith, subst}
-use Rattle.std.specs.Prelude.{IfOk, OnErr}
-use Rattle.broker_node.specs.Sights.{Looked, TicksOn}
-use Rattle.seat_lock.specs.Words.{knows}
+use Rattle.node_rounds.proofs.Names.{◌≡◌, Some, arith, subst, IfOk, OnErr, Looked, TicksOn, knows}
 use Rattle.node_rounds.proofs.TickLemmas.{is-so, wants-tick}
 use Rattle.node_rounds.proofs.WantedLemmas.{ticked-of}
 use Rattle.node_rounds.proofs.conductors.asked.Goals as goal

@@ -1,11 +1,4 @@
-use Rattle.std.proofs.Common.{◌≡◌, ◌≤◌}
-use Rattle.std.specs.Prelude.{IsTrue}
-use Rattle.seat_lock.specs.Words.{base_of, knows}
-use Rattle.broker_node.specs.Wires.{base_from}
-use Rattle.broker_node.specs.Sights.{IsWirePass}
-use Rattle.world_core.specs.Counts.{tick_count}
-use Rattle.node_rounds.specs.Nodes.{EachNode, EachPlace, GoesOn, IsKeptThrough, IsReady}
-use Rattle.node_rounds.specs.Reasons.{TicksAreWanted}
+use Rattle.node_rounds.proofs.Names.{◌≡◌, ◌≤◌, IsTrue, base_of, knows, base_from, IsWirePass, tick_count, EachNode, EachPlace, GoesOn, IsKeptThrough, IsReady, TicksAreWanted}
 use Rattle.node_rounds.proofs.conductors.conduct.Given as goal
 
 abbrev pub invariant-loop : goal.invariant-loop

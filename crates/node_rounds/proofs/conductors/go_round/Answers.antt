@@ -1,11 +1,8 @@
 use denote.Exit.{no}
 use denote.Param.{param}
 use denote.Param.Send.{param_send, param_sync, arg_send, arg_sync}
-use Rattle.std.proofs.Common.{sym, subst}
-use Rattle.seat_lock.specs.Words.{knows}
+use Rattle.node_rounds.proofs.Names.{sym, subst, knows, SomeNode, Follows, HasTicked, IsLate}
 use Rattle.node_rounds.specs.declared.reasons.Next.TheVariants as next
-use Rattle.node_rounds.specs.Nodes.{SomeNode}
-use Rattle.node_rounds.specs.Reasons.{Follows, HasTicked, IsLate}
 use Rattle.broker_node.proofs.Crosses.{shared_sync}
 use Rattle.node_rounds.proofs.Crosses.{run_send}
 use Rattle.node_rounds.proofs.TickLemmas.{follows-looked, follows-met, follows-begins, follows-none}

@@ -1,7 +1,4 @@
-use Rattle.std.proofs.Common.{sym, subst}
-use Rattle.std.specs.Prelude.{All, Any, MatchBool}
-use Rattle.node_rounds.specs.Nodes.{IsUp}
-use Rattle.node_rounds.specs.Reasons.{HasMemory, IsDown}
+use Rattle.node_rounds.proofs.Names.{sym, subst, All, Any, MatchBool, IsUp, HasMemory, IsDown}
 use Rattle.node_rounds.proofs.PairLemmas.{within-more}
 use Rattle.node_rounds.proofs.conductors.has_down.Goals as goal
 

@@ -1,6 +1,4 @@
-use Rattle.std.proofs.Common.{sym, subst, ◌∙◌}
-use Rattle.node_rounds.specs.Nodes.{IsUp}
-use Rattle.node_rounds.specs.Reasons.{HasMemory}
+use Rattle.node_rounds.proofs.Names.{sym, subst, ◌∙◌, IsUp, HasMemory}
 use Rattle.node_rounds.proofs.PairLemmas.{within-more, within-all}
 use Rattle.node_rounds.proofs.RoundLemmas.{up-else}
 use Rattle.node_rounds.proofs.conductors.is_any_down.Goals as goal

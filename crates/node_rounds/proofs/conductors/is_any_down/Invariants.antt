@@ -1,5 +1,4 @@
-use Rattle.std.specs.List.{AllWithin}
-use Rattle.node_rounds.specs.Nodes.{IsUp}
+use Rattle.node_rounds.proofs.Names.{AllWithin, IsUp}
 use Rattle.node_rounds.proofs.conductors.is_any_down.Given as goal
 
 abbrev pub invariant-loop-node : goal.invariant-loop-node

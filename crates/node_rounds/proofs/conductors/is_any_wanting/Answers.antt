@@ -1,5 +1,4 @@
-use Rattle.std.proofs.Common.{sym, ◌∙◌}
-use Rattle.node_rounds.specs.Reasons.{HasMemory}
+use Rattle.node_rounds.proofs.Names.{sym, ◌∙◌, HasMemory}
 use Rattle.node_rounds.proofs.PairLemmas.{within-more, within-all}
 use Rattle.node_rounds.proofs.conductors.is_any_wanting.Goals as goal
 

@@ -1,5 +1,4 @@
-use Rattle.std.specs.List.{AllWithin}
-use Rattle.node_rounds.specs.Reasons.{HasMemory}
+use Rattle.node_rounds.proofs.Names.{AllWithin, HasMemory}
 use Rattle.node_rounds.proofs.conductors.is_any_wanting.Given as goal
 
 abbrev pub invariant-loop-node : goal.invariant-loop-node

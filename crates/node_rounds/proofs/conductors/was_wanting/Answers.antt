@@ -1,7 +1,5 @@
-use Rattle.std.proofs.Common.{◌≡◌, sym, subst}
-use Rattle.std.specs.Prelude.{All, Any, MatchBool}
+use Rattle.node_rounds.proofs.Names.{◌≡◌, sym, subst, All, Any, MatchBool, HasMemory}
 use Rattle.broker_node.specs.Condition.TheVariants as condition
-use Rattle.node_rounds.specs.Reasons.{HasMemory}
 use Rattle.node_rounds.proofs.PairLemmas.{within-more}
 use Rattle.node_rounds.proofs.conductors.was_wanting.Goals as goal
 

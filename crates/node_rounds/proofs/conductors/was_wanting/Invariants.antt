@@ -1,6 +1,4 @@
-use Rattle.std.specs.List.{AllWithin}
-use Rattle.std.specs.Prelude.{All}
-use Rattle.node_rounds.specs.Reasons.{HasMemory}
+use Rattle.node_rounds.proofs.Names.{AllWithin, All, HasMemory}
 use Rattle.node_rounds.proofs.conductors.was_wanting.Given as goal
 
 abbrev pub invariant-loop-nodes : goal.invariant-loop-nodes

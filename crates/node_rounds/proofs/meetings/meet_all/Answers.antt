@@ -1,10 +1,4 @@
-use Rattle.std.proofs.Common.{◌≡◌, ◌<◌, ◌∙◌, ℕ, sym, subst, length, length-set, get_or, arith}
-use Rattle.std.specs.Prelude.{All}
-use Rattle.std.specs.List.{AllZip}
-use Rattle.std.proofs.lemmas.List.Elements.{All-set, All-weaker, AllWithin-none, AllWithin-more_set}
-use Rattle.seat_lock.specs.Words.{knows}
-use Rattle.broker_node.specs.TurnNodes.{sight}
-use Rattle.node_rounds.specs.Nodes.{HasMet, HasAllOf, HasPass, HasSeen}
+use Rattle.node_rounds.proofs.Names.{◌≡◌, ◌<◌, ◌∙◌, ℕ, sym, subst, length, length-set, get_or, arith, All, AllZip, All-set, All-weaker, AllWithin-none, AllWithin-more_set, knows, sight, HasMet, HasAllOf, HasPass, HasSeen}
 use Rattle.node_rounds.proofs.PairLemmas.{zip-set}
 use Rattle.node_rounds.proofs.RoundLemmas.{begins-joins, looked-joins, looked-same, has-more, met-same, mets-join}
 use Rattle.node_rounds.proofs.ShareLemmas.{place-same}

@@ -1,9 +1,4 @@
-use Rattle.std.proofs.Common.{◌≡◌, length}
-use Rattle.std.specs.Prelude.{All}
-use Rattle.std.specs.List.{AllWithin}
-use Rattle.seat_lock.specs.Words.{knows}
-use Rattle.broker_node.specs.Sights.{IsWirePass, Looked}
-use Rattle.node_rounds.specs.Nodes.{EachNode, EachPlace, HasAllOf, HasMet, HasPass, HasSeen}
+use Rattle.node_rounds.proofs.Names.{◌≡◌, length, All, AllWithin, knows, IsWirePass, Looked, EachNode, EachPlace, HasAllOf, HasMet, HasPass, HasSeen}
 use Rattle.node_rounds.proofs.meetings.meet_all.Given as goal
 
 abbrev pub invariant-loop-i : goal.invariant-loop-i

@@ -1,9 +1,4 @@
-use Rattle.std.proofs.Common.{◌≡◌, length}
-use Rattle.std.specs.Prelude.{All}
-use Rattle.std.specs.List.{AllZip, AllWithin}
-use Rattle.seat_lock.specs.Words.{knows}
-use Rattle.broker_node.specs.Sights.{IsWirePass, Looked}
-use Rattle.node_rounds.specs.Nodes.{HasAllOf, HasMet, HasPass, HasSeen}
+use Rattle.node_rounds.proofs.Names.{◌≡◌, length, All, AllZip, AllWithin, knows, IsWirePass, Looked, HasAllOf, HasMet, HasPass, HasSeen}
 use Rattle.node_rounds.proofs.meetings.meet_share.Given as goal
 
 abbrev pub invariant-loop-i : goal.invariant-loop-i

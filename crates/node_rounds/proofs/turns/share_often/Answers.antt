@@ -1,5 +1,4 @@
-use Rattle.std.proofs.Common.{◌∙◌}
-use Rattle.node_rounds.specs.Turns.{GoesFurther, HadSome}
+use Rattle.node_rounds.proofs.Names.{◌∙◌, GoesFurther, HadSome}
 use Rattle.node_rounds.proofs.PairLemmas.{all-through, zip-through}
 use Rattle.node_rounds.proofs.turns.share_often.Goals as goal
 

@@ -1,6 +1,4 @@
-use Rattle.std.proofs.Common.{◌≡◌}
-use Rattle.std.specs.Prelude.{vec_len, vec_capacity}
-use Rattle.std.specs.List.{AllZip}
+use Rattle.node_rounds.proofs.Names.{◌≡◌, vec_len, vec_capacity, AllZip}
 use Rattle.node_rounds.proofs.turns.share_often.Given as goal
 
 abbrev pub invariant-loop : goal.invariant-loop

@@ -1,5 +1,4 @@
-use Rattle.std.proofs.Common.{◌∙◌, sym, ap, subst, arith, List, length}
-use Rattle.node_turn.proofs.Names.{Effect, AskNobody, knows, base_at, life_at}
+use Rattle.node_turn.proofs.Names.{Effect, AskNobody, knows, base_at, life_at, ◌∙◌, sym, ap, subst, arith, List, length}
 use Rattle.wire_lock.specs.Decisions.{decided_by}
 use Rattle.node_turn.proofs.LifeLemmas.{on-ok, on-err, up-stored, stored-looked}
 use Rattle.node_turn.proofs.TrailLemmas.{trail-none, trail-looked, trail-gated}

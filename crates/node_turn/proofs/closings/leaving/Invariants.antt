@@ -1,7 +1,4 @@
-use Rattle.std.proofs.Common.{◌≡◌, take, true}
-use Rattle.std.specs.Prelude.{IsTrue}
-use Rattle.std.specs.List.{filter}
-use Rattle.node_turn.proofs.Names.{is_broker, AreOuts, leaves, Base, Life, all_effects, AskNobody}
+use Rattle.node_turn.proofs.Names.{is_broker, AreOuts, leaves, Base, Life, all_effects, AskNobody, ◌≡◌, take, true, IsTrue, filter}
 use Rattle.node_turn.proofs.closings.leaving.Given as goal
 
 abbrev pub invariant-loop-out : goal.invariant-loop-out

@@ -1,5 +1,4 @@
-use Rattle.std.proofs.Common.{refl, [], arith, ◌+◌}
-use Rattle.node_turn.proofs.Names.{knows, cost_of_cause, same_node-refl}
+use Rattle.node_turn.proofs.Names.{knows, cost_of_cause, same_node-refl, refl, [], arith, ◌+◌}
 use Rattle.node_turn.proofs.LifeLemmas.{on-ok, on-err, stored-looked}
 use Rattle.node_turn.proofs.TrailLemmas.{trail-looked, trail-added}
 use Rattle.node_turn.proofs.FallLemmas.{had-nothing, down-fallen}

@@ -1,5 +1,4 @@
-use Rattle.std.proofs.Common.{◌≡◌, ◌-◌, ℕ, subst, arith, OnOk}
-use Rattle.node_turn.proofs.Names.{knows, Crashes}
+use Rattle.node_turn.proofs.Names.{knows, Crashes, ◌≡◌, ◌-◌, ℕ, subst, arith, OnOk}
 use Rattle.node_turn.proofs.FallLemmas.{looked-none}
 use Rattle.node_turn.proofs.falls.note_crash.Goals as goal
 

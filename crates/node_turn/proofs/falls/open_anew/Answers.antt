@@ -1,6 +1,4 @@
-use Rattle.std.proofs.Common.{◌<◌, ◌+◌, ◌∙◌, ℕ, refl, sym, subst, arith, []}
-use Rattle.node_turn.proofs.Names.{knows, base_at, costs, PaysFor}
-use Rattle.wire_lock.proofs.SightLemmas.{up-known}
+use Rattle.node_turn.proofs.Names.{knows, base_at, costs, PaysFor, ◌<◌, ◌+◌, ◌∙◌, ℕ, refl, sym, subst, arith, [], up-known}
 use Rattle.node_turn.proofs.CostLemmas.{pays-none}
 use Rattle.node_turn.proofs.LifeLemmas.{on-ok, on-err, stored-looked}
 use Rattle.node_turn.proofs.TrailLemmas.{trail-none, trail-looked, trail-added, trail-cost, grew-added}

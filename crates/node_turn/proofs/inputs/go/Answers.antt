@@ -1,5 +1,4 @@
-use Rattle.std.proofs.Common.{◌∙◌, ap, refl, false, []}
-use Rattle.node_turn.proofs.Names.{is_broker, NodeId, knows, flags_at}
+use Rattle.node_turn.proofs.Names.{is_broker, NodeId, knows, flags_at, ◌∙◌, ap, refl, false, []}
 use Rattle.node_turn.proofs.LifeLemmas.{on-ok, on-err, went-up, up-added, after-added, cause-added, up-stored, stored-looked}
 use Rattle.node_turn.proofs.TrailLemmas.{trail-looked, trail-added}
 use Rattle.node_turn.proofs.inputs.go.Goals as goal

@@ -1,5 +1,4 @@
-use Rattle.std.proofs.Common.{refl, [], ap}
-use Rattle.world_core.specs.Walks.{with_due}
+use Rattle.node_turn.proofs.Names.{refl, [], ap, with_due}
 use Rattle.node_turn.proofs.LifeLemmas.{on-ok, if-ok, if-err, on-err, up-added, after-added, taken-at, up-stored, stored-looked}
 use Rattle.node_turn.proofs.TrailLemmas.{trail-looked, trail-added}
 use Rattle.node_turn.proofs.inputs.take.Goals as goal

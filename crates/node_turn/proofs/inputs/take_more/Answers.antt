@@ -1,5 +1,4 @@
-use Rattle.std.proofs.Common.{refl, ◌∙◌}
-use Rattle.seat_lock.specs.Words.{knows}
+use Rattle.node_turn.proofs.Names.{refl, ◌∙◌, knows}
 use Rattle.node_turn.specs.Came.{arrived}
 use Rattle.node_turn.proofs.LifeLemmas.{if-ok, unwritten-none, unwritten-joins, up-or}
 use Rattle.node_turn.proofs.TrailLemmas.{trail-none, trail-joins}

@@ -1,5 +1,4 @@
-use Rattle.std.proofs.Common.{◌≡◌, [], true}
-use Rattle.node_turn.proofs.Names.{knows, IsWirePass, IsUp, IsUnwritten, Trail}
+use Rattle.node_turn.proofs.Names.{knows, IsWirePass, IsUp, IsUnwritten, Trail, ◌≡◌, [], true}
 use Rattle.node_turn.proofs.inputs.take_more.Given as goal
 
 abbrev pub invariant-loop : goal.invariant-loop

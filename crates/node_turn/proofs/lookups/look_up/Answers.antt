@@ -1,6 +1,4 @@
-use Rattle.node_turn.proofs.Names.{is_broker, NodeId, knows, Life, all_effects, Learning, place_of, Decided, base_at, life_at, flags_at}
-use Rattle.std.proofs.Common.{◌≡◌, ◌∙◌, ap, refl, sym, subst, [], ◌∷◌, inl, inr, true}
-use Rattle.repository_log.specs.Logs.{knows as is_known}
+use Rattle.node_turn.proofs.Names.{is_broker, NodeId, knows, Life, all_effects, Learning, place_of, Decided, base_at, life_at, flags_at, ◌≡◌, ◌∙◌, ap, refl, sym, subst, [], ◌∷◌, inl, inr, true, is_known}
 use Rattle.node_turn.proofs.LifeLemmas.{on-ok, on-err, learned-up, up-added, after-added, cause-added, up-tested, up-stored, stored-looked, life-tested, life-looked, log-same, log-told, log-joins}
 use Rattle.node_turn.proofs.TrailLemmas.{trail-looked, trail-added, trail-tested, trail-joins}
 use Rattle.node_turn.proofs.SeekLemmas.{sought-learnt, seeks-none, none-found, all-found, missed-one, found-one}

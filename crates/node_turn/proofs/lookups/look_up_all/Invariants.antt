@@ -1,6 +1,4 @@
-use Rattle.std.proofs.Common.{◌≡◌, ◌-◌, ◌^◌, true, take}
-use Rattle.std.specs.Prelude.{IsTrue}
-use Rattle.node_turn.proofs.Names.{knows, all_effects, IsWirePass, life_at, IsUp, IsUnwritten, Seeks, AreSought}
+use Rattle.node_turn.proofs.Names.{knows, all_effects, IsWirePass, life_at, IsUp, IsUnwritten, Seeks, AreSought, ◌≡◌, ◌-◌, ◌^◌, true, take, IsTrue}
 use Rattle.node_turn.proofs.lookups.look_up_all.Given as goal
 
 abbrev pub invariant-loop-index : goal.invariant-loop-index

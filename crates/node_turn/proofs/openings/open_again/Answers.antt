@@ -1,5 +1,4 @@
-use Rattle.std.proofs.Common.{⊎_elim}
-use Rattle.medium_port.specs.Moment.{EitherSide, joins}
+use Rattle.node_turn.proofs.Names.{⊎_elim, EitherSide, joins}
 use Rattle.version_store.specs.StoreWords.{opened}
 use Rattle.node_turn.proofs.openings.open_again.Goals as goal
 

@@ -1,5 +1,4 @@
-use Rattle.std.proofs.Common.{◌+◌, ◌∙◌, refl, sym, ap, subst, arith, [], Err}
-use Rattle.node_turn.proofs.Names.{knows, owed, world_at, IsIntact, IsStruck}
+use Rattle.node_turn.proofs.Names.{knows, owed, world_at, IsIntact, IsStruck, ◌+◌, ◌∙◌, refl, sym, ap, subst, arith, [], Err}
 use Rattle.node_turn.proofs.CostLemmas.{pays-none, pays-one}
 use Rattle.node_turn.proofs.LifeLemmas.{on-ok, if-ok, on-err, if-err}
 use Rattle.node_turn.proofs.TrailLemmas.{trail-joins, trail-cost}

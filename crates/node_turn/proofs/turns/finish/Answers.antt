@@ -1,5 +1,4 @@
-use Rattle.std.proofs.Common.{◌+◌, ◌∙◌, List, sym, ap, subst, arith, Err}
-use Rattle.node_turn.proofs.Names.{knows, Image, Out, IsIntact, all_effects, life_at, IsAfter, AreSought}
+use Rattle.node_turn.proofs.Names.{knows, Image, Out, IsIntact, all_effects, life_at, IsAfter, AreSought, ◌+◌, ◌∙◌, List, sym, ap, subst, arith, Err}
 use Rattle.node_turn.proofs.CostLemmas.{pays-none}
 use Rattle.node_turn.proofs.LifeLemmas.{on-ok, if-err}
 use Rattle.node_turn.proofs.PhaseLemmas.{passes-on, passes-up, passes-after}

@@ -1,7 +1,5 @@
-use Rattle.std.proofs.Common.{refl, sym, subst, arith}
-use Rattle.node_turn.proofs.Names.{HistoryFault, knows}
+use Rattle.node_turn.proofs.Names.{HistoryFault, knows, refl, sym, subst, arith, NamesPage}
 use Rattle.node_turn.specs.declared.conditions.Condition.TheVariants as condition
-use Rattle.node_turn.specs.Lives.{NamesPage}
 use Rattle.node_turn.proofs.CostLemmas.{pays-none, pays-one}
 use Rattle.node_turn.proofs.TrailLemmas.{trail-none, trail-cost}
 use Rattle.node_turn.proofs.PhaseLemmas.{passes-stored}

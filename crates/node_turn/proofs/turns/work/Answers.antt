@@ -1,5 +1,4 @@
-use Rattle.std.proofs.Common.{◌+◌, ◌∙◌, ◌||◌, Bool, refl, sym, ap, subst, arith, Ok, Err, true, false}
-use Rattle.node_turn.proofs.Names.{knows, Image, is_broker, IsIntact, DraftParts, IsUp, IsAfter}
+use Rattle.node_turn.proofs.Names.{knows, Image, is_broker, IsIntact, DraftParts, IsUp, IsAfter, ◌+◌, ◌∙◌, ◌||◌, Bool, refl, sym, ap, subst, arith, Ok, Err, true, false}
 use Rattle.node_turn.proofs.CostLemmas.{pays-none}
 use Rattle.node_turn.proofs.LifeLemmas.{if-ok, if-err, either-gone}
 use Rattle.node_turn.proofs.PhaseLemmas.{passes-on, passes-up, passes-after, up-new}

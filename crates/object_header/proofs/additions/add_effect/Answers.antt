@@ -1,5 +1,4 @@
-use Rattle.std.proofs.Common.{sym, subst}
-use Rattle.object_header.specs.Ledgers.{IsIndexed}
+use Rattle.object_header.proofs.Names.{sym, subst, IsIndexed}
 use Rattle.object_header.specs.Marks as marks
 use Rattle.repository_log.specs.Logs as logs
 use Rattle.object_header.proofs.additions.add_effect.Goals as goal

@@ -1,5 +1,4 @@
-use Rattle.std.proofs.Common.{◌≡◌, reverse, take}
-use Rattle.object_header.proofs.Names.{AreMarks, odd_in, kept_of, marks}
+use Rattle.object_header.proofs.Names.{AreMarks, odd_in, kept_of, marks, ◌≡◌, reverse, take}
 use Rattle.object_header.proofs.keeping.keep_effects.Given as goal
 
 -- the marks of those so far are kept

@@ -1,5 +1,4 @@
-use Rattle.std.proofs.Common.{ap}
-use Rattle.object_header.specs.Ledgers.{BeneathParts}
+use Rattle.object_header.proofs.Names.{ap, BeneathParts}
 use Rattle.object_header.proofs.LedgerLemmas.{late-grown, late-of_log}
 use Rattle.object_header.proofs.laws.late_marks.Goals as goal
 

@@ -1,6 +1,4 @@
-use Rattle.std.proofs.Common.{rules, ◌≡◌, reverse, true, false, refl, sym, ap, ◌∙◌}
-use Rattle.std.specs.Option.{option_copied}
-use Rattle.object_history.specs.Kept.{is_living, last_of}
+use Rattle.object_history.proofs.Names.{rules, ◌≡◌, reverse, true, false, refl, sym, ap, ◌∙◌, option_copied, is_living, last_of}
 use Rattle.object_history.proofs.LookLemmas.{last-step, last-done}
 use Rattle.object_history.proofs.versions.greatest_living.Goals as goal
 use Rattle.object_history.proofs.versions.greatest_living.Goals.{else-takes_over-via-then-takes_over+else-is_living, else-takes_over-via-else-takes_over}

@@ -1,6 +1,4 @@
-use Rattle.std.proofs.Common.{◌≡◌, reverse}
-use Rattle.std.specs.Option.{option_copied}
-use Rattle.object_history.specs.Kept.{is_living, joined, last_of}
+use Rattle.object_history.proofs.Names.{◌≡◌, reverse, option_copied, is_living, joined, last_of}
 use Rattle.object_history.proofs.versions.greatest_living.Given as goal
 
 -- what was found above the versions that are left, or else among them

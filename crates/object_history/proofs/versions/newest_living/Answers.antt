@@ -1,5 +1,4 @@
-use Rattle.std.proofs.Common.{rules, ◌≡◌, reverse, None, sym, ap, ◌∙◌}
-use Rattle.object_history.specs.Kept.{is_living, last_of}
+use Rattle.object_history.proofs.Names.{rules, ◌≡◌, reverse, None, sym, ap, ◌∙◌, is_living, last_of}
 use Rattle.object_history.proofs.LookLemmas.{last-done}
 use Rattle.object_history.proofs.RisingLemmas.{newest-found, newest-step, rising-step}
 use Rattle.object_history.proofs.versions.newest_living.Goals as goal

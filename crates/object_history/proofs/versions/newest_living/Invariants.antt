@@ -1,5 +1,4 @@
-use Rattle.std.proofs.Common.{◌≡◌, true, reverse}
-use Rattle.object_history.specs.Kept.{is_living, last_of, rising}
+use Rattle.object_history.proofs.Names.{◌≡◌, true, reverse, is_living, last_of, rising}
 use Rattle.object_history.proofs.versions.newest_living.Given as goal
 
 -- what is found is among the versions that are left, which rise

@@ -1,5 +1,4 @@
-use Rattle.std.proofs.Common.{◌≡◌, ◌&&◌, ◌==◌, drop}
-use Rattle.page_gate.specs.States.{is_blank}
+use Rattle.page_gate.proofs.Names.{◌≡◌, ◌&&◌, ◌==◌, drop, is_blank}
 use Rattle.page_gate.proofs.pages.all_zero.Given as goal
 
 -- all are 0 just where the greatest so far is 0 and those left are

@@ -1,7 +1,4 @@
-use Rattle.std.proofs.Common.{◌≡◌, ⊎_elim, [], ◌∷◌, slice_set, ◌∙◌, subst}
-use Rattle.medium_port.specs.Image.{Image, IsImage, Written, Torn}
-use Rattle.medium_port.specs.Moment.{joins, widens}
-use Rattle.page_gate.specs.Steps.{MayPut}
+use Rattle.page_gate.proofs.Names.{◌≡◌, ⊎_elim, [], ◌∷◌, slice_set, ◌∙◌, subst, Image, IsImage, Written, Torn, joins, widens, MayPut}
 use Rattle.page_gate.proofs.TornPages.{staged_page}
 use Rattle.page_gate.proofs.Puts.{not_begun, body_torn, staged, is_staged, gated, gate_torn}
 use Rattle.page_gate.proofs.pages.put.Goals as goal

@@ -1,5 +1,4 @@
-use Rattle.std.proofs.Common.{◌≤◌, length, drop, sym, ◌∙◌, arith, length-drop}
-use Rattle.std.proofs.lemmas.List.{take_all}
+use Rattle.page_gate.proofs.Names.{◌≤◌, length, drop, sym, ◌∙◌, arith, length-drop, take_all}
 use Rattle.page_gate.proofs.TornPages.{gated_state}
 use Rattle.page_gate.proofs.pages.state.Goals as goal
 

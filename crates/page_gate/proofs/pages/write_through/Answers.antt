@@ -1,6 +1,4 @@
-use Rattle.std.proofs.Common.{◌⊎◌, inl, inr, ⊎_elim, ℕ, List, length}
-use Rattle.medium_port.specs.Image.{Image, Torn, Follows, NoMore}
-use Rattle.medium_port.specs.Moment.{Stage, LeavesOnly, EitherSide, joins}
+use Rattle.page_gate.proofs.Names.{◌⊎◌, inl, inr, ⊎_elim, ℕ, List, length, Image, Torn, Follows, NoMore, Stage, LeavesOnly, EitherSide, joins}
 use Rattle.page_gate.proofs.pages.write_through.Goals as goal
 
 -- a write, and then a sync, which leaves no image more

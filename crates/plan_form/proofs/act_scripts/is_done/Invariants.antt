@@ -1,5 +1,4 @@
-use Rattle.std.proofs.Common.{◌≡◌, drop}
-use Rattle.plan_form.specs.Plans.{is_done}
+use Rattle.plan_form.proofs.Names.{◌≡◌, drop, is_done}
 use Rattle.plan_form.proofs.act_scripts.is_done.Given as goal
 
 -- the bytes so far are spaces

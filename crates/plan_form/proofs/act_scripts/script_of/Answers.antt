@@ -1,6 +1,4 @@
-use Rattle.std.proofs.Common.{sym, ◌∙◌, subst}
-use Rattle.std.specs.Prelude.{Err}
-use Rattle.plan_form.specs.Reads.{ReadsScript}
+use Rattle.plan_form.proofs.Names.{sym, ◌∙◌, subst, Err, ReadsScript}
 use Rattle.plan_form.proofs.ScriptReadLemmas.{feeding_one, feeding_fault, ended_script, ended_fault}
 use Rattle.plan_form.proofs.act_scripts.script_of.Goals as goal
 

@@ -1,6 +1,4 @@
-use Rattle.std.proofs.Common.{◌+◌, sym, ◌∙◌, subst, arith}
-use Rattle.std.specs.Prelude.{Err}
-use Rattle.plan_form.specs.Reads.{IsActRead, ReadsAct}
+use Rattle.plan_form.proofs.Names.{◌+◌, sym, ◌∙◌, subst, arith, Err, IsActRead, ReadsAct}
 use Rattle.plan_form.proofs.ActReadLemmas.{Reading, reading_blank, reading_one, reading_fault}
 use Rattle.plan_form.proofs.acts.acts_of.Goals as goal
 

@@ -1,5 +1,4 @@
-use Rattle.std.proofs.Common.{◌≡◌, ◌++◌, take, drop}
-use Rattle.plan_form.specs.Reading.{digits_of, behind_digits}
+use Rattle.plan_form.proofs.Names.{◌≡◌, ◌++◌, take, drop, digits_of, behind_digits}
 use Rattle.plan_form.proofs.digits.split_digits.Given as goal
 
 -- the bytes so far are digits

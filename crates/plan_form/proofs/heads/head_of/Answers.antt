@@ -1,8 +1,4 @@
-use Rattle.std.proofs.Common.{◌∷◌, refl, sym, ap, ◌∙◌, subst}
-use Rattle.std.specs.Prelude.{Err}
-use Rattle.script_form.specs.Lines.{lines}
-use Rattle.plan_form.specs.Plans.{title, run_line}
-use Rattle.plan_form.specs.Reads.{ReadsHead}
+use Rattle.plan_form.proofs.Names.{◌∷◌, refl, sym, ap, ◌∙◌, subst, Err, lines, title, run_line, ReadsHead}
 use Rattle.plan_form.proofs.heads.head_of.Goals as goal
 
 pub returns-in_default-next_number : goal.returns-in_default-next_number

@@ -1,5 +1,4 @@
-use Rattle.std.proofs.Common.{◌≡◌, ◌++◌, ◌+◌, ◌-◌}
-use Rattle.plan_form.specs.Making.{transfers}
+use Rattle.plan_form.proofs.Names.{◌≡◌, ◌++◌, ◌+◌, ◌-◌, transfers}
 use Rattle.plan_form.proofs.making.transfers.Given as goal
 
 -- the transfers so far, and those that are left

@@ -1,5 +1,4 @@
-use Rattle.std.proofs.Common.{◌≡◌, ◌++◌, drop}
-use Rattle.plan_form.specs.PlanTexts.{acts_text}
+use Rattle.plan_form.proofs.Names.{◌≡◌, ◌++◌, drop, acts_text}
 use Rattle.plan_form.proofs.printing.print_acts.Given as goal
 
 -- the acts so far are printed

@@ -1,5 +1,4 @@
-use Rattle.value_form.specs.MirrorLaws.{made_all}
-use Rattle.plan_form.specs.Making.{round}
+use Rattle.plan_form.proofs.Names.{made_all, round}
 use Rattle.plan_form.proofs.MakingLemmas.{sums_step}
 use Rattle.plan_form.proofs.transfers.sums.Goals as goal
 

@@ -1,6 +1,4 @@
-use Rattle.std.proofs.Common.{◌≡◌, ◌++◌, ◌+◌, ◌*◌, ◌-◌}
-use Rattle.value_form.specs.MirrorLaws.{made_all}
-use Rattle.plan_form.specs.Making.{sums, round, last_step}
+use Rattle.plan_form.proofs.Names.{◌≡◌, ◌++◌, ◌+◌, ◌*◌, ◌-◌, made_all, sums, round, last_step}
 use Rattle.plan_form.proofs.transfers.sums.Given as goal
 
 -- the statements so far, and those of the repositories that are left

@@ -1,5 +1,4 @@
-use Rattle.std.proofs.Common.{take}
-use Rattle.plan_volumes.proofs.Names.{Every, IsWanting}
+use Rattle.plan_volumes.proofs.Names.{Every, IsWanting, take}
 use Rattle.plan_volumes.proofs.asides.is_wanting.Given as goal
 
 -- memory was there for those so far

@@ -1,5 +1,4 @@
-use Rattle.std.proofs.Common.{rules, ◌∙◌, ap, subst, length, map, arith}
-use Rattle.plan_volumes.proofs.Names.{AllZip, length_push, medium_in, node_at, IsAside}
+use Rattle.plan_volumes.proofs.Names.{AllZip, length_push, medium_in, node_at, IsAside, rules, ◌∙◌, ap, subst, length, map, arith}
 use Rattle.plan_volumes.proofs.KeepLemmas.{nodes-joined, none-joined, zip-last}
 use Rattle.plan_volumes.proofs.keeping.+keep_nodes.Goals as goal
 

@@ -1,5 +1,4 @@
-use Rattle.std.proofs.Common.{◌++◌, ◌∙◌, ap, arith}
-use Rattle.plan_volumes.proofs.Names.{kept_as, volume_name}
+use Rattle.plan_volumes.proofs.Names.{kept_as, volume_name, ◌++◌, ◌∙◌, ap, arith}
 use Rattle.plan_volumes.proofs.KeepLemmas.{openings-joined}
 use Rattle.plan_volumes.proofs.keeping.+keep_openings.Goals as goal
 

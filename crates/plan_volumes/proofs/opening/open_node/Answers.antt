@@ -1,5 +1,4 @@
-use Rattle.std.proofs.Common.{subst, arith}
-use Rattle.plan_volumes.proofs.Names.{Every, IsWanting, shelf_sight, NodeVolumes}
+use Rattle.plan_volumes.proofs.Names.{Every, IsWanting, shelf_sight, NodeVolumes, subst, arith}
 use Rattle.plan_volumes.proofs.ApartLemmas.{aside-one, ends-some, working-below}
 use Rattle.plan_volumes.proofs.opening.open_node.Goals as goal
 

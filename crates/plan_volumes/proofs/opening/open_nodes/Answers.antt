@@ -1,6 +1,4 @@
-use Rattle.std.proofs.Common.{◌≡◌, ◌≤◌, ◌∙◌, [], true, false, length, vec_capacity, Some, ap, sym, arith}
-use Rattle.plan_volumes.proofs.Names.{length_push, node_at, shelf_sight}
-use Rattle.std.proofs.lemmas.List.Elements.{All-pop}
+use Rattle.plan_volumes.proofs.Names.{length_push, node_at, shelf_sight, ◌≡◌, ◌≤◌, ◌∙◌, [], true, false, length, vec_capacity, Some, ap, sym, arith, All-pop}
 use Rattle.plan_volumes.proofs.ApartLemmas.{apart-next, apart-none}
 use Rattle.plan_volumes.proofs.opening.open_nodes.Goals as goal
 

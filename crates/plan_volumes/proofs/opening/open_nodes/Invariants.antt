@@ -1,6 +1,4 @@
-use Rattle.std.proofs.Common.{◌≡◌, ◌≤◌, ◌+◌, List, [], length, All, vec_capacity}
-use Rattle.run_volumes.specs.Places.{node_count}
-use Rattle.plan_volumes.proofs.Names.{shelf_sight, AreApart, NodeVolumes}
+use Rattle.plan_volumes.proofs.Names.{shelf_sight, AreApart, NodeVolumes, ◌≡◌, ◌≤◌, ◌+◌, List, [], length, All, vec_capacity, node_count}
 use Rattle.plan_volumes.proofs.opening.open_nodes.Given as goal
 
 -- the volumes of as many nodes are apart as rooms were used

@@ -1,6 +1,4 @@
-use Rattle.std.proofs.Common.{◌≡◌, ◌≤◌, ◌+◌, ◌∙◌, [], length, vec_capacity, All, ap, sym, subst, arith}
-use Rattle.std.proofs.lemmas.List.{length_push}
-use Rattle.std.proofs.lemmas.List.Elements.{All-push}
+use Rattle.plan_volumes.proofs.Names.{◌≡◌, ◌≤◌, ◌+◌, ◌∙◌, [], length, vec_capacity, All, ap, sym, subst, arith, length_push, All-push}
 use Rattle.plan_volumes.proofs.rooms.node_rooms.Goals as goal
 
 pub loop-preserved : goal.loop-preserved

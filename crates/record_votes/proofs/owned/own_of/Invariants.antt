@@ -1,5 +1,4 @@
-use Rattle.std.proofs.Common.{◌≡◌, take}
-use Rattle.record_votes.specs.Members.{own}
+use Rattle.record_votes.proofs.Names.{◌≡◌, take, own}
 use Rattle.record_votes.proofs.owned.own_of.Given as goal
 
 abbrev pub invariant-loop-effect : goal.invariant-loop-effect

@@ -1,6 +1,5 @@
-use Rattle.std.proofs.Common.{◌≡◌, take}
+use Rattle.record_votes.proofs.Names.{◌≡◌, take, decides}
 use Rattle.message_form.specs.Ranges.{AreEffects}
-use Rattle.record_votes.specs.Members.{decides}
 use Rattle.record_votes.proofs.votes.decides_of.Given as goal
 
 abbrev pub invariant-loop-stamp : goal.invariant-loop-stamp

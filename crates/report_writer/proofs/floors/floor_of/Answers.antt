@@ -1,5 +1,4 @@
-use Rattle.std.proofs.Common.{refl}
-use Rattle.object_history.specs.History.{floor_of}
+use Rattle.report_writer.proofs.Names.{refl, floor_of}
 use Rattle.report_writer.proofs.floors.floor_of.Goals as goal
 
 -- of no effects there is none

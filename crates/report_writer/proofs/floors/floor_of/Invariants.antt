@@ -1,6 +1,5 @@
-use Rattle.std.proofs.Common.{◌≡◌, reverse, take}
+use Rattle.report_writer.proofs.Names.{◌≡◌, reverse, take, marks}
 use Rattle.object_history.specs.History as history
-use Rattle.repository_log.specs.Logs.{marks}
 use Rattle.report_writer.proofs.floors.floor_of.Given as goal
 
 -- the floor of the effects so far

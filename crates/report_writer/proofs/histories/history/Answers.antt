@@ -1,8 +1,4 @@
-use Rattle.std.proofs.Common.{◌∙◌, ap, subst, reverse, ◌++◌}
-use Rattle.std.specs.List.{flat_map}
-use Rattle.repository_log.specs.Logs.{marks}
-use Rattle.report_writer.specs.Histories.{head_text}
-use Rattle.report_writer.specs.Tellings.{Holds, told_line}
+use Rattle.report_writer.proofs.Names.{◌∙◌, ap, subst, reverse, ◌++◌, flat_map, marks, head_text, Holds, told_line}
 use Rattle.report_writer.proofs.TextLemmas.{text-is}
 use Rattle.report_writer.proofs.histories.history.Goals as goal
 

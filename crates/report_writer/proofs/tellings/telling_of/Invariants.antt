@@ -1,6 +1,4 @@
-use Rattle.std.proofs.Common.{◌≡◌, reverse, take}
-use Rattle.repository_log.specs.Logs.{marks}
-use Rattle.report_writer.specs.Tellings.{Tells}
+use Rattle.report_writer.proofs.Names.{◌≡◌, reverse, take, marks, Tells}
 use Rattle.report_writer.proofs.tellings.telling_of.Given as goal
 
 abbrev pub invariant-loop-effect : goal.invariant-loop-effect

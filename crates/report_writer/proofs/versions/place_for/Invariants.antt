@@ -1,5 +1,4 @@
-use Rattle.std.proofs.Common.{◌≡◌, ◌+◌, drop}
-use Rattle.report_writer.specs.Tellings.{count_above}
+use Rattle.report_writer.proofs.Names.{◌≡◌, ◌+◌, drop, count_above}
 use Rattle.report_writer.proofs.versions.place_for.Given as goal
 
 -- the versions so far start above

@@ -1,6 +1,4 @@
-use Rattle.std.proofs.Common.{◌≡◌, ℕ, ◌+◌, drop}
-use Rattle.std.specs.Option.{option_map}
-use Rattle.report_writer.specs.Tellings.{is_visible, first_place}
+use Rattle.report_writer.proofs.Names.{◌≡◌, ℕ, ◌+◌, drop, option_map, is_visible, first_place}
 use Rattle.report_writer.proofs.versions.place_seen.Given as goal
 
 -- none of the versions so far passes

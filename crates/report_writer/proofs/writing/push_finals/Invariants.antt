@@ -1,6 +1,4 @@
-use Rattle.std.proofs.Common.{◌≡◌, ◌++◌, take}
-use Rattle.std.specs.List.{flat_map}
-use Rattle.report_writer.specs.Reports.{final_text}
+use Rattle.report_writer.proofs.Names.{◌≡◌, ◌++◌, take, flat_map, final_text}
 use Rattle.report_writer.proofs.writing.push_finals.Given as goal
 
 abbrev pub invariant-loop-last : goal.invariant-loop-last

@@ -1,5 +1,4 @@
-use Rattle.std.proofs.Common.{◌≡◌, ◌++◌, take}
-use Rattle.std.specs.List.{flat_map}
+use Rattle.report_writer.proofs.Names.{◌≡◌, ◌++◌, take, flat_map}
 use Rattle.report_writer.specs.Parts.{line_text}
 use Rattle.report_writer.proofs.writing.push_lines.Given as goal
 

@@ -1,5 +1,4 @@
-use Rattle.std.proofs.Common.{◌++◌, ◌∙◌, ap}
-use Rattle.std.specs.List.{flat_map}
+use Rattle.report_writer.proofs.Names.{◌++◌, ◌∙◌, ap, flat_map}
 use Rattle.report_writer.specs.Reports.{head_text, act_text}
 use Rattle.report_writer.proofs.PieceLemmas.{three_pieces}
 use Rattle.report_writer.proofs.writing.push_report.Goals as goal

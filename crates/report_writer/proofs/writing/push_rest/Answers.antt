@@ -1,6 +1,4 @@
-use Rattle.std.proofs.Common.{◌++◌, ◌∙◌, ap}
-use Rattle.std.specs.List.{flat_map}
-use Rattle.report_writer.specs.Reports.{final_text, down_text, totals_text}
+use Rattle.report_writer.proofs.Names.{◌++◌, ◌∙◌, ap, flat_map, final_text, down_text, totals_text}
 use Rattle.report_writer.proofs.PieceLemmas.{four_pieces}
 use Rattle.report_writer.proofs.writing.push_rest.Goals as goal
 

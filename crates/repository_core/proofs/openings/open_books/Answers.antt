@@ -1,5 +1,4 @@
-use Rattle.std.proofs.Common.{reverse}
-use Rattle.repository_log.proofs.AgreeLemmas.{opened-agrees}
+use Rattle.repository_core.proofs.Names.{reverse, opened-agrees}
 use Rattle.repository_core.proofs.openings.open_books.Goals as goal
 
 pub returns-clause-agreed : goal.returns-clause-agreed

@@ -1,5 +1,4 @@
-use Rattle.std.proofs.Common.{subst, sym, ap, reverse, ◌∙◌}
-use Rattle.object_history.specs.Ranges.{AreMarks}
+use Rattle.repository_log.proofs.Names.{subst, sym, ap, reverse, ◌∙◌, AreMarks}
 use Rattle.repository_log.proofs.MarkLemmas.{marks-in-range, marks-reverse}
 use Rattle.repository_log.proofs.marks.histories_of.Goals as goal
 

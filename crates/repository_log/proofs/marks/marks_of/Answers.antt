@@ -1,8 +1,4 @@
-use Rattle.std.proofs.Common.{◌++◌, ◌∙◌, ap, subst, sym}
-use Rattle.std.proofs.lemmas.List.{take_all}
-use Rattle.object_history.specs.Ranges.{AreMarks}
-use Rattle.repository_log.specs.Logs.{marks}
-use Rattle.std.specs.Option.{option_to_list}
+use Rattle.repository_log.proofs.Names.{◌++◌, ◌∙◌, ap, subst, sym, take_all, AreMarks, marks, option_to_list}
 use Rattle.repository_log.proofs.MarkLemmas.{marks-next, marks-in-range}
 use Rattle.repository_log.proofs.marks.marks_of.Goals as goal
 

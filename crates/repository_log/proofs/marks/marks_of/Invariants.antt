@@ -1,5 +1,4 @@
-use Rattle.std.proofs.Common.{◌≡◌, take}
-use Rattle.repository_log.specs.Logs.{marks}
+use Rattle.repository_log.proofs.Names.{◌≡◌, take, marks}
 use Rattle.repository_log.proofs.marks.marks_of.Given as goal
 
 -- those of the effects so far

@@ -1,6 +1,4 @@
-use Rattle.std.proofs.Common.{◌∷◌, ◌∙◌, sym, subst}
-use Rattle.commit_record.specs.States.{States}
-use Rattle.repository_log.specs.Opening.{AreBegun}
+use Rattle.repository_log.proofs.Names.{◌∷◌, ◌∙◌, sym, subst, States, AreBegun}
 use Rattle.repository_log.proofs.OpenLemmas.{begun-step, begun-same}
 use Rattle.repository_log.proofs.records.add_begin.Goals as goal
 

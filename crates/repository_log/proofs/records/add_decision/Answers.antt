@@ -1,6 +1,4 @@
-use Rattle.std.proofs.Common.{◌∷◌, ◌∙◌, sym, subst}
-use Rattle.commit_record.specs.States.{States}
-use Rattle.repository_log.specs.Opening.{AreDecided}
+use Rattle.repository_log.proofs.Names.{◌∷◌, ◌∙◌, sym, subst, States, AreDecided}
 use Rattle.repository_log.proofs.OpenLemmas.{decided-step, decided-same, kept-step, kept-same}
 use Rattle.repository_log.proofs.records.add_decision.Goals as goal
 

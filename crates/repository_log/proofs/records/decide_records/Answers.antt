@@ -1,6 +1,4 @@
-use Rattle.std.proofs.Common.{List, reverse, take, subst, sym}
-use Rattle.effect_form.specs.declared.effects.Effect.{Effect}
-use Rattle.repository_log.specs.Opening.{AreDecided, AreKept}
+use Rattle.repository_log.proofs.Names.{List, reverse, take, subst, sym, Effect, AreDecided, AreKept}
 use Rattle.repository_log.proofs.OpenLemmas.{decided-none, kept-none, taken-next}
 use Rattle.repository_log.proofs.records.decide_records.Goals as goal
 

@@ -1,5 +1,4 @@
-use Rattle.std.proofs.Common.{reverse, take}
-use Rattle.repository_log.specs.Opening.{AreDecided, AreKept}
+use Rattle.repository_log.proofs.Names.{reverse, take, AreDecided, AreKept}
 use Rattle.repository_log.proofs.records.decide_records.Given as goal
 
 -- as the log so far says

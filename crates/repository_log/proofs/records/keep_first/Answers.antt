@@ -1,5 +1,4 @@
-use Rattle.std.proofs.Common.{ap, ◌∙◌, sym}
-use Rattle.std.specs.Prelude.{is_some, not}
+use Rattle.repository_log.proofs.Names.{ap, ◌∙◌, sym, is_some, not}
 use Rattle.repository_log.proofs.OpenLemmas.{kept-new, kept-old, copied-none, copied-some}
 use Rattle.repository_log.proofs.records.keep_first.Goals as goal
 

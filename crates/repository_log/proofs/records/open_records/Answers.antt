@@ -1,6 +1,4 @@
-use Rattle.std.proofs.Common.{List, reverse, take, subst, sym}
-use Rattle.effect_form.specs.declared.effects.Effect.{Effect}
-use Rattle.repository_log.specs.Opening.{AreBegun}
+use Rattle.repository_log.proofs.Names.{List, reverse, take, subst, sym, Effect, AreBegun}
 use Rattle.repository_log.proofs.OpenLemmas.{begun-none, taken-next}
 use Rattle.repository_log.proofs.records.open_records.Goals as goal
 

@@ -1,5 +1,4 @@
-use Rattle.std.proofs.Common.{reverse, take}
-use Rattle.repository_log.specs.Opening.{AreBegun}
+use Rattle.repository_log.proofs.Names.{reverse, take, AreBegun}
 use Rattle.repository_log.proofs.records.open_records.Given as goal
 
 -- those of the log so far

@@ -1,12 +1,6 @@
-use Rattle.std.proofs.Common.{◌≡◌, refl, sym, ap, subst, ◌∙◌, not, Some}
-use Rattle.std.proofs.lemmas.List.{append-nil}
-use Rattle.version_store.specs.StoreWords.{medium_of}
-use Rattle.object_header.specs.Tables.{ledger_of}
+use Rattle.repository_node.proofs.Names.{◌≡◌, refl, sym, ap, subst, ◌∙◌, not, Some, append-nil, medium_of, ledger_of, opened_log, IsReady, LeavesLog, leaves-log}
 use Rattle.seat_lock.specs.Words.{knows}
-use Rattle.world_core.specs.Walks.{opened_log}
 use Rattle.node_turn.specs.Sights.{IsOf, base_at, origin_at}
-use Rattle.node_turn.specs.Cores.{IsReady, LeavesLog}
-use Rattle.node_turn.proofs.MediumLemmas.{leaves-log}
 use Rattle.node_turn.proofs.NewLemmas.{up-new}
 use Rattle.repository_node.proofs.CoreLemmas.{opened-repository, ready-repository}
 use Rattle.repository_node.proofs.nodes.open_repository.Goals as goal

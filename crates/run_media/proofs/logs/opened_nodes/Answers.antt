@@ -1,7 +1,4 @@
-use Rattle.std.proofs.Common.{ap, sym, subst, ◌∙◌}
-use Rattle.std.proofs.lemmas.List.{take_all}
-use Rattle.world_core.specs.Legal.{JustNodes}
-use Rattle.run_media.specs.Openings.{opened_from}
+use Rattle.run_media.proofs.Names.{ap, sym, subst, ◌∙◌, take_all, JustNodes, opened_from}
 use Rattle.run_media.proofs.OrderLemmas.{just-nodes, next-opened}
 use Rattle.run_media.proofs.logs.opened_nodes.Goals as goal
 

@@ -1,5 +1,4 @@
-use Rattle.std.proofs.Common.{◌≡◌, take}
-use Rattle.run_media.specs.Openings.{opened_from}
+use Rattle.run_media.proofs.Names.{◌≡◌, take, opened_from}
 use Rattle.run_media.proofs.logs.opened_nodes.Given as goal
 
 -- those so far

@@ -1,7 +1,5 @@
-use Rattle.std.proofs.Common.{sym, subst, All, take}
-use Rattle.std.proofs.lemmas.List.{take_more, take_all}
+use Rattle.run_media.proofs.Names.{sym, subst, All, take, take_more, take_all, IsOpen}
 use Rattle.std.proofs.lemmas.List.Elements.{All-push}
-use Rattle.run_media.specs.Openings.{IsOpen}
 use Rattle.run_media.proofs.media.are_open.Goals as goal
 
 pub loop-opening-preserved : goal.loop-opening-preserved

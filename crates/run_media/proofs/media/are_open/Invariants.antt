@@ -1,5 +1,4 @@
-use Rattle.std.proofs.Common.{All, take}
-use Rattle.run_media.specs.Openings.{IsOpen}
+use Rattle.run_media.proofs.Names.{All, take, IsOpen}
 use Rattle.run_media.proofs.media.are_open.Given as goal
 
 -- those so far

@@ -1,5 +1,4 @@
-use Rattle.std.proofs.Common.{◌≡◌, take}
-use Rattle.world_core.specs.Nodes.{acts_of}
+use Rattle.run_media.proofs.Names.{◌≡◌, take, acts_of}
 use Rattle.run_media.proofs.places.own_acts.Given as goal
 
 -- those so far

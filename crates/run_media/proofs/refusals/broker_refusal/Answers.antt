@@ -1,11 +1,5 @@
-use Rattle.std.proofs.Common.{◌≡◌, ◌==◌, List, length, true, ap, sym, subst, ◌∙◌, reverse, None, arith}
-use Rattle.std.proofs.lemmas.Bool.Decides.{nat_tests}
-use Rattle.value_form.specs.declared.acts.ActSpec.{ActSpec}
-use Rattle.broker_core.specs.Fits.{resume_fault}
+use Rattle.run_media.proofs.Names.{◌≡◌, ◌==◌, List, length, true, ap, sym, subst, ◌∙◌, reverse, None, arith, nat_tests, ActSpec, resume_fault, reading, Scripted, tasks, acts_of}
 use Rattle.broker_core.specs.Ledgers.{AreBrokerActs}
-use Rattle.broker_core.specs.Readings.{reading}
-use Rattle.broker_core.specs.Tasks.{Scripted, tasks}
-use Rattle.world_core.specs.Nodes.{acts_of}
 use Rattle.world_core.proofs.PlanRangeLemmas.{plan-own_acts}
 use Rattle.run_media.proofs.OpeningLemmas.{blank-refuses, reads-own, refuses-err}
 use Rattle.run_media.proofs.refusals.broker_refusal.Goals as goal

@@ -1,5 +1,4 @@
-use Rattle.std.proofs.Common.{take}
-use Rattle.run_media.specs.Openings.{AreReady}
+use Rattle.run_media.proofs.Names.{take, AreReady}
 use Rattle.run_media.proofs.refusals.first_refusal.Given as goal
 
 -- those so far can go on

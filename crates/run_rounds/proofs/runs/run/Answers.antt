@@ -1,7 +1,5 @@
-use Rattle.std.proofs.Common.{rules, ◌≡◌, Some, length, slice_get, sym, subst, ap, arith}
-use Rattle.std.specs.Prelude.{All}
 use Rattle.seat_lock.specs.Words.{base_of}
-use Rattle.run_rounds.proofs.Names.{FirstRefusal, IsInRange, IsOpen, IsSetUp, EndsAs, IsEndFor, tellers}
+use Rattle.run_rounds.proofs.Names.{FirstRefusal, IsInRange, IsOpen, IsSetUp, EndsAs, IsEndFor, tellers, rules, ◌≡◌, Some, length, slice_get, sym, subst, ap, arith, All}
 use Rattle.run_rounds.specs.declared.ends.End.TheVariants as end
 use Rattle.run_rounds.proofs.BackLemmas.{opened-in-range}
 use Rattle.run_rounds.proofs.BeginLemmas.{ends-refused, ends-set-up, ends-wanting, has-begun}

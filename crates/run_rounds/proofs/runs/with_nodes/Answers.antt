@@ -1,9 +1,5 @@
-use Rattle.std.proofs.Common.{◌≡◌, ◌∙◌, [], length, map, sym, subst, ap, arith, inl}
-use Rattle.std.proofs.lemmas.List.{length-map}
-use Rattle.std.specs.Prelude.{All}
-use Rattle.run_rounds.proofs.Names.{knows, IsWirePass, NodeParts, IsDealt, IsNewNode, Pass, EndsAs, tellers, along-length}
+use Rattle.run_rounds.proofs.Names.{knows, IsWirePass, NodeParts, IsDealt, IsNewNode, Pass, EndsAs, tellers, along-length, ◌≡◌, ◌∙◌, [], length, map, sym, subst, ap, arith, inl, length-map, All, HaveRoom}
 use Rattle.seat_lock.specs.Words.{base_of}
-use Rattle.run_starts.specs.Deals.{HaveRoom}
 use Rattle.run_rounds.specs.declared.ends.End.TheVariants as end
 use Rattle.run_rounds.proofs.BackLemmas.{opened-alone, opened-back, opened-kept}
 use Rattle.run_rounds.proofs.CloseLemmas.{new-conductor}

@@ -1,6 +1,4 @@
-use Rattle.std.proofs.Common.{rules, ◌≡◌, ◌≤◌, ◌-◌, ◌+◌, ◌++◌, ◌∷◌, [], ℕ, ◌%◌, length, refl, ap, sym, subst, ◌∙◌, arith, slice_set}
-use Rattle.std.proofs.lemmas.List.{length_push}
-use Rattle.run_starts.specs.Deals.{IsDealt}
+use Rattle.run_starts.proofs.Names.{rules, ◌≡◌, ◌≤◌, ◌-◌, ◌+◌, ◌++◌, ◌∷◌, [], ℕ, ◌%◌, length, refl, ap, sym, subst, ◌∙◌, arith, slice_set, length_push, IsDealt}
 use Rattle.run_starts.proofs.DealLemmas.{at-index, some-there, split-last, dealt-popped, empty-dealt, popped-is, length-set, no-items}
 use Rattle.run_starts.proofs.deals.+collect.Goals as goal
 

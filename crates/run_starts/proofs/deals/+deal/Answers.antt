@@ -1,5 +1,4 @@
-use Rattle.std.proofs.Common.{◌<◌, length, ap, ◌∙◌, arith}
-use Rattle.std.proofs.lemmas.List.{length_push}
+use Rattle.run_starts.proofs.Names.{◌<◌, length, ap, ◌∙◌, arith, length_push}
 use Rattle.run_starts.proofs.DealLemmas.{at-index, dealt-pushed, has-room}
 use Rattle.run_starts.proofs.deals.+deal.Goals as goal
 

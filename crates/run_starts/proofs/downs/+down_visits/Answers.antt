@@ -1,11 +1,5 @@
-use Rattle.std.proofs.Common.{rules, ◌≡◌, ◌<◌, ◌+◌, ◌∙◌, ap, sym, subst, length, slice_index_or, vec_len, arith}
-use Rattle.std.proofs.lemmas.List.{length_push}
-use Rattle.std.proofs.lemmas.Option.{get_or_from_slice_get}
-use Rattle.pseudo_time.specs.declared.nodes.NodeId.{NodeId}
-use Rattle.seat_lock.specs.Words.{base_of}
-use Rattle.node_rounds.specs.Sights.{IsWirePass}
+use Rattle.run_starts.proofs.Names.{rules, ◌≡◌, ◌<◌, ◌+◌, ◌∙◌, ap, sym, subst, length, slice_index_or, vec_len, arith, length_push, get_or_from_slice_get, NodeId, base_of, IsWirePass, IsUnseen, HasFallen}
 use Rattle.run_media.specs.Places as order
-use Rattle.run_starts.specs.Starts.{IsUnseen, HasFallen}
 use Rattle.run_starts.proofs.DealLemmas.{some-within}
 use Rattle.run_starts.proofs.StartLemmas.{all-front, all-last, all-pushed}
 use Rattle.run_starts.proofs.DownLemmas.{not-err}

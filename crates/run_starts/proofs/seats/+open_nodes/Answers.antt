@@ -1,8 +1,4 @@
-use Rattle.std.proofs.Common.{rules, ◌≡◌, ◌≤◌, ◌++◌, ◌∷◌, [], ℕ, Bool, true, false, Some, length, map, refl, ap, sym, subst, ◌∙◌, arith}
-use Rattle.std.proofs.lemmas.List.{length_push, length-map}
-use Rattle.node_rounds.specs.TurnNodes.{NodeParts}
-use Rattle.run_media.specs.Openings.{medium_in}
-use Rattle.run_starts.specs.Seats.{CanSeat, IsNewNode}
+use Rattle.run_starts.proofs.Names.{rules, ◌≡◌, ◌≤◌, ◌++◌, ◌∷◌, [], ℕ, Bool, true, false, Some, length, map, refl, ap, sym, subst, ◌∙◌, arith, length_push, length-map, NodeParts, medium_in, CanSeat, IsNewNode}
 use Rattle.run_starts.proofs.AlongLemmas.{along-length, both-popped, both-pushed}
 use Rattle.run_starts.proofs.DealLemmas.{no-items}
 use Rattle.run_starts.proofs.SeatLemmas.{along-none, map-popped, map-pushed, new-media}

@@ -1,5 +1,4 @@
-use Rattle.std.proofs.Common.{ap, sym, subst, ◌∙◌, Some}
-use Rattle.node_rounds.specs.TurnNodes.{NodeParts, IsAtRest}
+use Rattle.run_starts.proofs.Names.{ap, sym, subst, ◌∙◌, Some, NodeParts, IsAtRest}
 use Rattle.node_rounds.specs.Kinds.{parts_of}
 use Rattle.run_starts.proofs.StartLemmas.{all-pushed}
 use Rattle.run_starts.proofs.SeatLemmas.{map-pushed}

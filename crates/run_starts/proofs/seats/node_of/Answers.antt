@@ -1,6 +1,4 @@
-use Rattle.std.proofs.Common.{ap, ◌∙◌}
-use Rattle.seat_lock.specs.Words.{knows}
-use Rattle.world_core.specs.Nodes.{acts_of}
+use Rattle.run_starts.proofs.Names.{ap, ◌∙◌, knows, acts_of}
 use Rattle.run_starts.proofs.SeatLemmas.{own-acts}
 use Rattle.run_starts.proofs.seats.node_of.Goals as goal
 

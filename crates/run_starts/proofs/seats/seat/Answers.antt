@@ -1,8 +1,4 @@
-use Rattle.std.proofs.Common.{◌≡◌, ◌++◌, ◌∷◌, [], true, false, Some, length, ap, sym, ◌∙◌, arith}
-use Rattle.std.proofs.lemmas.List.{length-map}
-use Rattle.run_media.specs.Openings.{medium_in}
-use Rattle.node_rounds.specs.TurnNodes.{NodeParts}
-use Rattle.run_starts.specs.Seats.{IsNewNode}
+use Rattle.run_starts.proofs.Names.{◌≡◌, ◌++◌, ◌∷◌, [], true, false, Some, length, ap, sym, ◌∙◌, arith, length-map, medium_in, NodeParts, IsNewNode}
 use Rattle.run_starts.proofs.SeatLemmas.{sound-open}
 use Rattle.run_starts.proofs.seats.seat.Goals as goal
 

@@ -1,8 +1,4 @@
-use Rattle.std.proofs.Common.{◌≡◌, ◌∙◌, map, ap, sym, subst}
-use Rattle.seat_lock.specs.Words.{knows, fresh}
-use Rattle.node_rounds.specs.Wires.{WireParts}
-use Rattle.node_rounds.specs.Sights.{IsWirePass}
-use Rattle.run_starts.specs.Starts.{fresh_for}
+use Rattle.run_starts.proofs.Names.{◌≡◌, ◌∙◌, map, ap, sym, subst, knows, fresh, WireParts, IsWirePass, fresh_for}
 use Rattle.run_starts.proofs.StartLemmas.{split-passes, all-front, all-last}
 use Rattle.run_starts.proofs.starts.shared.Goals as goal
 

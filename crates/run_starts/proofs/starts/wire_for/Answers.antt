@@ -1,10 +1,5 @@
-use Rattle.std.proofs.Common.{◌≢◌, List, ap, sym, subst, ◌∙◌}
-use Rattle.std.specs.List.{AllPairs}
+use Rattle.run_starts.proofs.Names.{◌≢◌, List, ap, sym, subst, ◌∙◌, AllPairs, Opened, Origin, WireParts, owners_for, IsSetUp}
 use Rattle.std.proofs.lemmas.Result.{IfOk-weaker}
-use Rattle.world_core.specs.declared.traces.Opened.{Opened}
-use Rattle.node_rounds.specs.Wires.{Origin, WireParts}
-use Rattle.node_rounds.specs.Sights.{owners_for}
-use Rattle.run_starts.specs.Starts.{IsSetUp}
 use Rattle.run_starts.proofs.StartLemmas.{owners-differ}
 use Rattle.run_starts.proofs.starts.wire_for.Goals as goal
 

@@ -1,5 +1,4 @@
-use Rattle.std.proofs.Common.{◌≡◌, drop}
-use Rattle.forward_copy.specs.Currents.{current, current_from}
+use Rattle.run_volumes.proofs.Names.{◌≡◌, drop, current, current_from}
 use Rattle.run_volumes.specs.Volumes as spec
 use Rattle.run_volumes.proofs.roles.current.Given as goal
 

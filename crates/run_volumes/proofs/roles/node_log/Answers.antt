@@ -1,6 +1,4 @@
-use Rattle.std.proofs.Common.{sym, ap, ◌∙◌}
-use Rattle.forward_copy.specs.Currents.{log_at}
-use Rattle.run_volumes.specs.Volumes.{logs_of}
+use Rattle.run_volumes.proofs.Names.{sym, ap, ◌∙◌, log_at, logs_of}
 use Rattle.run_volumes.proofs.VolumeLemmas.{log-nowhere, log-there}
 use Rattle.run_volumes.proofs.roles.node_log.Goals as goal
 

@@ -1,5 +1,4 @@
-use Rattle.std.proofs.Common.{take}
-use Rattle.run_volumes.specs.Volumes.{AreOpen}
+use Rattle.run_volumes.proofs.Names.{take, AreOpen}
 use Rattle.run_volumes.proofs.standings.stand_of.Given as goal
 
 -- those so far were opened

@@ -1,5 +1,4 @@
-use Rattle.std.proofs.Common.{rules, refl, ap, sym, ◌∙◌, arith, length}
-use Rattle.run_volumes.specs.Shelves.{shelf_sight, volume_name}
+use Rattle.run_volumes.proofs.Names.{rules, refl, ap, sym, ◌∙◌, arith, length, shelf_sight, volume_name}
 use Rattle.run_volumes.proofs.ShelfLemmas.{one-usable}
 use Rattle.run_volumes.proofs.VolumeLemmas.{go-few, opened-more, opened-none, volumes-end}
 use Rattle.run_volumes.proofs.volumes.open_volumes.Goals as goal

@@ -1,6 +1,5 @@
-use Rattle.std.proofs.Common.{◌≡◌, length}
+use Rattle.run_volumes.proofs.Names.{◌≡◌, length, shelf_sight}
 use Rattle.std.specs.Prelude.{vec_len, vec_capacity}
-use Rattle.run_volumes.specs.Shelves.{shelf_sight}
 use Rattle.run_volumes.proofs.VolumeLemmas.{Opened}
 use Rattle.run_volumes.proofs.volumes.open_volumes.Given as goal
 

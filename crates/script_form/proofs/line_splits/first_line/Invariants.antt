@@ -1,5 +1,4 @@
-use Rattle.std.proofs.Common.{◌≡◌, [], take, drop}
-use Rattle.script_form.specs.Lines.{lines_from}
+use Rattle.script_form.proofs.Names.{◌≡◌, [], take, drop, lines_from}
 use Rattle.script_form.proofs.line_splits.first_line.Given as goal
 
 -- the bytes so far are in the first line

@@ -1,5 +1,4 @@
-use Rattle.std.proofs.Common.{◌≡◌, drop}
-use Rattle.script_form.specs.Lines.{is_blank}
+use Rattle.script_form.proofs.Names.{◌≡◌, drop, is_blank}
 use Rattle.script_form.proofs.line_splits.is_blank.Given as goal
 
 -- the bytes so far are spaces

@@ -1,5 +1,4 @@
-use Rattle.std.proofs.Common.{length}
-use Rattle.script_form.specs.Lines.{lines}
+use Rattle.script_form.proofs.Names.{length, lines}
 use Rattle.script_form.proofs.ParseLemmas.{Read}
 use Rattle.script_form.proofs.parsing.parse.Given as goal
 

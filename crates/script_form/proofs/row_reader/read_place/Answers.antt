@@ -1,5 +1,4 @@
-use Rattle.std.proofs.Common.{sym}
-use Rattle.value_form.specs.Mirror.{term}
+use Rattle.script_form.proofs.Names.{sym, term}
 use Rattle.script_form.proofs.ReadLemmas.{place_fault, indexed_place, place_not_alone, no_place}
 use Rattle.script_form.proofs.row_reader.read_place.Goals as goal
 

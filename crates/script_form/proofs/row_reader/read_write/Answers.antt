@@ -1,6 +1,4 @@
-use Rattle.std.proofs.Common.{sym, ◌≤◌, arith}
-use Rattle.value_form.specs.Mirror.{term}
-use Rattle.expression_form.specs.Depth.{depth}
+use Rattle.script_form.proofs.Names.{sym, ◌≤◌, arith, term, depth}
 use Rattle.script_form.proofs.ReadLemmas.{write_fixed, write_fixed_fault, write_indexed, write_indexed_fault, no_write}
 use Rattle.script_form.proofs.row_reader.read_write.Goals as goal
 

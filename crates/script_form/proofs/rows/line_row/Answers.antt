@@ -1,5 +1,4 @@
-use Rattle.std.proofs.Common.{subst}
-use Rattle.script_form.specs.LineReads.{ReadsRow}
+use Rattle.script_form.proofs.Names.{subst, ReadsRow}
 use Rattle.script_form.proofs.LineReadLemmas.{line_is_read}
 use Rattle.script_form.proofs.rows.line_row.Goals as goal
 

@@ -1,7 +1,5 @@
-use Rattle.std.proofs.Common.{◌∙◌, ap, ◌++◌}
-use Rattle.value_form.specs.Mirror.{term}
+use Rattle.script_form.proofs.Names.{◌∙◌, ap, ◌++◌, term, row_text}
 use Rattle.script_form.specs.Row as r
-use Rattle.script_form.specs.RowTexts.{row_text}
 use Rattle.script_form.proofs.ScriptTextLemmas.{Prints-next, if_ends, if_else_ends, repeat_ends}
 use Rattle.script_form.proofs.script_printer.+printing.Goals as goal
 

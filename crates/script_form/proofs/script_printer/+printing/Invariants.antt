@@ -1,7 +1,4 @@
-use Rattle.std.proofs.Common.{take}
-use Rattle.value_form.specs.Mirror.{block}
-use Rattle.script_form.specs.RowTexts.{Prints}
-use Rattle.script_form.specs.Rows.{rows}
+use Rattle.script_form.proofs.Names.{take, block, Prints, rows}
 use Rattle.script_form.proofs.script_printer.+printing.Given as goal
 
 -- the rows of the statements so far are printed

@@ -1,5 +1,4 @@
-use Rattle.std.proofs.Common.{◌≡◌, ◌≤◌, ◌-◌, ◌++◌}
-use Rattle.std.specs.Prelude.{replicate}
+use Rattle.script_form.proofs.Names.{◌≡◌, ◌≤◌, ◌-◌, ◌++◌, replicate}
 use Rattle.script_form.proofs.script_printer.end_lines.Given as goal
 
 abbrev pub invariant-lines : goal.invariant-lines

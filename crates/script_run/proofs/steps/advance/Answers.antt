@@ -1,8 +1,4 @@
-use Rattle.std.proofs.Common.{sym, ap, ◌∙◌, subst}
-use Rattle.std.specs.Prelude.{option_copied}
-use Rattle.value_form.specs.declared.scripts.Stmt.{out-Stmt}
-use Rattle.script_run.specs.Steps.{Arrival, step_at}
-use Rattle.script_run.specs.Machines.{stand_of, ArrivesAt}
+use Rattle.script_run.proofs.Names.{sym, ap, ◌∙◌, subst, option_copied, out-Stmt, Arrival, step_at, stand_of, ArrivesAt}
 use Rattle.script_run.proofs.KeepLemmas.{counted_more}
 use Rattle.script_run.proofs.RangeLemmas.{found-IsStep}
 use Rattle.script_run.proofs.steps.advance.Goals as goal

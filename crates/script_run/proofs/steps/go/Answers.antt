@@ -1,7 +1,4 @@
-use Rattle.std.proofs.Common.{Option, subst}
-use Rattle.script_run.specs.declared.halts.Halt.{Halt}
-use Rattle.script_run.specs.Steps.{step}
-use Rattle.script_run.specs.Machines.{stand_of, ArrivesAt}
+use Rattle.script_run.proofs.Names.{Option, subst, Halt, step, stand_of, ArrivesAt}
 use Rattle.script_run.proofs.KeepLemmas.{step_same, then_same}
 use Rattle.script_run.proofs.steps.go.Goals as goal
 

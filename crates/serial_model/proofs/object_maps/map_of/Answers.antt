@@ -1,5 +1,4 @@
-use Rattle.std.proofs.Common.{ap, ◌∙◌}
-use Rattle.serial_model.specs.Overlays.{onto}
+use Rattle.serial_model.proofs.Names.{ap, ◌∙◌, onto}
 use Rattle.serial_model.proofs.MapLemmas.{onto-empty}
 use Rattle.serial_model.proofs.object_maps.map_of.Goals as goal
 

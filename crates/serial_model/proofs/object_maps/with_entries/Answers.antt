@@ -1,5 +1,4 @@
-use Rattle.std.proofs.Common.{rules, ◌≡◌, ◌∷◌, [], ◌++◌, sym, ap, ◌∙◌}
-use Rattle.serial_model.specs.Overlays.{onto}
+use Rattle.serial_model.proofs.Names.{rules, ◌≡◌, ◌∷◌, [], ◌++◌, sym, ap, ◌∙◌, onto}
 use Rattle.serial_model.proofs.MapLemmas.{onto-more}
 use Rattle.serial_model.proofs.object_maps.with_entries.Goals as goal
 

@@ -1,5 +1,4 @@
-use Rattle.std.proofs.Common.{◌≡◌, length}
-use Rattle.serial_model.specs.Overlays.{onto}
+use Rattle.serial_model.proofs.Names.{◌≡◌, length, onto}
 use Rattle.serial_model.proofs.object_maps.with_entries.Given as goal
 
 -- the entries that are left, over what is in the map

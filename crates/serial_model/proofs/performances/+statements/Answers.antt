@@ -1,7 +1,4 @@
-use Rattle.std.proofs.Common.{arith, Ok, sym, ap, ◌∙◌}
-use Rattle.value_form.specs.Mirror.{block}
-use Rattle.script_meaning.specs.Meaning.{all_done, over_objects}
-use Rattle.serial_model.specs.Alone.{state_of, came_to}
+use Rattle.serial_model.proofs.Names.{arith, Ok, sym, ap, ◌∙◌, block, all_done, over_objects, state_of, came_to}
 use Rattle.serial_model.proofs.StatementLemmas.{size_if, size_first, size_second, size_repeat, smaller_at, in_range_at, part_if, part_first, part_second, part_repeat, if_holds, first_holds, second_holds, repeat_goes, turns_one}
 use Rattle.serial_model.proofs.performances.+statements.Goals as goal
 

@@ -1,9 +1,5 @@
-use Rattle.std.proofs.Common.{◌≡◌, ◌-◌, ◌+◌, ◌*◌, drop}
-use Rattle.value_form.specs.Mirror.{block, plain}
-use Rattle.value_form.specs.Ranges.{IsBlock}
-use Rattle.script_meaning.specs.Meaning.{all_done, turns, over_objects}
+use Rattle.serial_model.proofs.Names.{◌≡◌, ◌-◌, ◌+◌, ◌*◌, drop, block, plain, IsBlock, all_done, turns, over_objects, state_of}
 use Rattle.serial_model.proofs.StatementLemmas.{size, size_step}
-use Rattle.serial_model.specs.Alone.{state_of}
 use Rattle.serial_model.proofs.performances.+statements.Given as goal
 
 -- what is left of the part leads from here to where the whole leads from the start

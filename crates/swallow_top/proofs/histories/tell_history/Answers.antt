@@ -1,5 +1,4 @@
-use Rattle.std.proofs.Common.{inr, subst}
-use Rattle.swallow_top.proofs.Names.{shelf_sight, TellsVolumes, sinking}
+use Rattle.swallow_top.proofs.Names.{shelf_sight, TellsVolumes, sinking, inr, subst}
 use Rattle.swallow_top.proofs.HistoryLemmas.{handed-back, tells-history}
 use Rattle.swallow_top.proofs.histories.tell_history.Goals as goal
 

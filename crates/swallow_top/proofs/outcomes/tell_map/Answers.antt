@@ -1,6 +1,5 @@
-use Rattle.std.proofs.Common.{◌⊎◌, refl, subst, sym}
 use Rattle.archive_promise.specs.Question.TheVariants as question
-use Rattle.swallow_top.proofs.Names.{IsOfStamp, shelf_sight, AskedNothing, TellsAnswer, sinking}
+use Rattle.swallow_top.proofs.Names.{IsOfStamp, shelf_sight, AskedNothing, TellsAnswer, sinking, ◌⊎◌, refl, subst, sym}
 use Rattle.swallow_top.proofs.OutcomeLemmas.{tells-answer}
 use Rattle.swallow_top.proofs.outcomes.tell_map.Goals as goal
 

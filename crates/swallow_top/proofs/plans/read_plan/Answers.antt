@@ -1,5 +1,4 @@
-use Rattle.std.proofs.Common.{subst}
-use Rattle.swallow_top.specs.Plans.{IsReadAs}
+use Rattle.swallow_top.proofs.Names.{subst, IsReadAs}
 use Rattle.swallow_top.proofs.InputLemmas.{reads-plan}
 use Rattle.swallow_top.proofs.plans.read_plan.Goals as goal
 

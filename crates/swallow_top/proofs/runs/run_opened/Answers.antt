@@ -1,5 +1,4 @@
-use Rattle.std.proofs.Common.{◌≡◌, ◌∙◌, inl, map, sym, subst}
-use Rattle.swallow_top.proofs.Names.{AllZip, AreBack, IsLeftAlone, medium_in, IsKeptWhole}
+use Rattle.swallow_top.proofs.Names.{AllZip, AreBack, IsLeftAlone, medium_in, IsKeptWhole, ◌≡◌, ◌∙◌, inl, map, sym, subst}
 use Rattle.swallow_top.proofs.ShelfLemmas.{alone-whole, opened-left, opened-there}
 use Rattle.swallow_top.proofs.runs.run_opened.Goals as goal
 

@@ -1,5 +1,4 @@
-use Rattle.std.proofs.Common.{◌∙◌, ap, sym, subst, length, map, arith}
-use Rattle.swallow_top.proofs.Names.{AllZip, length-map, IsLeftAlone, tellers, kept_under, shelf_sight, IsAside, all_left, names_from, work_taken, zip-long, sinking}
+use Rattle.swallow_top.proofs.Names.{AllZip, length-map, IsLeftAlone, tellers, kept_under, shelf_sight, IsAside, all_left, names_from, work_taken, zip-long, sinking, ◌∙◌, ap, sym, subst, length, map, arith}
 use Rattle.swallow_top.proofs.RunLemmas.{end-long, end-nodes, end-ranges, runs-kept, runs-plan}
 use Rattle.swallow_top.proofs.ShelfLemmas.{has-volumes, opened-left}
 use Rattle.swallow_top.proofs.runs.run_plan.Goals as goal

@@ -1,5 +1,4 @@
-use Rattle.std.proofs.Common.{◌-◌, ◌≤◌, length}
-use Rattle.std.specs.Io.KnownBytes.{Consumes}
+use Rattle.swallow_top.proofs.Names.{◌-◌, ◌≤◌, length, Consumes}
 use Rattle.swallow_top.proofs.streams.read_all.Given as goal
 
 -- what was read is a prefix of the input, of at most one byte more than a plan has

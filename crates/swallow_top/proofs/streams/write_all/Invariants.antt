@@ -1,5 +1,4 @@
-use Rattle.std.proofs.Common.{◌-◌, ◌≤◌, length, take}
-use Rattle.std.specs.Io.KnownBytes.{Appends}
+use Rattle.swallow_top.proofs.Names.{◌-◌, ◌≤◌, length, take, Appends}
 use Rattle.swallow_top.proofs.streams.write_all.Given as goal
 
 -- the first bytes were written

@@ -1,5 +1,4 @@
-use Rattle.std.proofs.Common.{refl, inr, subst, ◌∙◌, sym}
-use Rattle.swallow_top.proofs.Names.{RefusedAs, GotLine, sinking}
+use Rattle.swallow_top.proofs.Names.{RefusedAs, GotLine, sinking, refl, inr, subst, ◌∙◌, sym}
 use Rattle.swallow_top.proofs.TopLemmas.{written}
 use Rattle.swallow_top.proofs.top.refused.Goals as goal
 

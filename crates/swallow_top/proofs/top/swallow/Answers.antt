@@ -1,6 +1,4 @@
-use Rattle.std.proofs.Common.{◌⊎◌, ◌∙◌, ◌≤◌, ap, length, refl, sym, subst}
-use Rattle.swallow_top.proofs.Names.{Every, IsOfLanguage, AreWords, IsPoll, RefusedAs, AskedNothing, TellsHistory, TellsAnswer, TellsWatch, TellsRetirement, mark_at, shelf_sight, sinking}
-use Rattle.command_words.specs.Words.{said}
+use Rattle.swallow_top.proofs.Names.{Every, IsOfLanguage, AreWords, IsPoll, RefusedAs, AskedNothing, TellsHistory, TellsAnswer, TellsWatch, TellsRetirement, mark_at, shelf_sight, sinking, ◌⊎◌, ◌∙◌, ◌≤◌, ap, length, refl, sym, subst, said}
 use Rattle.plan_form.proofs.MadeLemmas.{made_is_whole}
 use Rattle.command_words.proofs.WordLemmas.{few-ticks}
 use Rattle.archive_promise.specs.Question.TheVariants as question

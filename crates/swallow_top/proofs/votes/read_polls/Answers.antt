@@ -1,5 +1,4 @@
-use Rattle.std.proofs.Common.{subst}
-use Rattle.swallow_top.specs.Votes.{AreReadAs}
+use Rattle.swallow_top.proofs.Names.{subst, AreReadAs}
 use Rattle.swallow_top.proofs.InputLemmas.{reads-polls}
 use Rattle.swallow_top.proofs.votes.read_polls.Goals as goal
 

@@ -1,5 +1,4 @@
-use Rattle.std.proofs.Common.{refl}
-use Rattle.swallow_top.proofs.Names.{account_of, tellers, shelf_sight, limits_of, sinking}
+use Rattle.swallow_top.proofs.Names.{account_of, tellers, shelf_sight, limits_of, sinking, refl}
 use Rattle.swallow_top.proofs.VoteLemmas.{few-end, polled}
 use Rattle.swallow_top.proofs.votes.tell_votes.Goals as goal
 

@@ -1,5 +1,4 @@
-use Rattle.std.proofs.Common.{◌≡◌, ◌++◌, take, drop}
-use Rattle.token_form.specs.Reading.{passes, front_of, rest_of}
+use Rattle.token_form.proofs.Names.{◌≡◌, ◌++◌, take, drop, passes, front_of, rest_of}
 use Rattle.token_form.proofs.byte_runs.split_run.Given as goal
 
 -- the bytes so far pass

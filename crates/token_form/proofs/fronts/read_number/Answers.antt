@@ -1,6 +1,4 @@
-use Rattle.std.proofs.Common.{subst, sym}
-use Rattle.std.specs.Char.{is_ascii_digit}
-use Rattle.token_form.specs.Tokens.{AllPass}
+use Rattle.token_form.proofs.Names.{subst, sym, is_ascii_digit, AllPass}
 use Rattle.token_form.proofs.Runs.{front_of-passes}
 use Rattle.token_form.proofs.fronts.read_number.Goals as goal
 

@@ -1,7 +1,4 @@
-use Rattle.std.proofs.Common.{◌≡◌, [], ◌∷◌, ◌++◌, false, Some, None, subst, sym, ap, ◌∙◌}
-use Rattle.std.specs.Prelude.{MatchOption, ◌&&◌}
-use Rattle.token_form.specs.Tokens.{objects_fit}
-use Rattle.token_form.specs.Reading.{read_token}
+use Rattle.token_form.proofs.Names.{◌≡◌, [], ◌∷◌, ◌++◌, false, Some, None, subst, sym, ap, ◌∙◌, MatchOption, ◌&&◌, objects_fit, read_token}
 use Rattle.token_form.proofs.LineLaws.{Sofar, unspaced, keeps, passes_over, no_tokens, moved, some_left, none_left, in_range_read, out_of_range_read}
 use Rattle.token_form.proofs.lines.tokens_of.Goals as goal
 use Rattle.token_form.proofs.lines.tokens_of.Goals.{in-Some-token+in_ok-push-in-Some-token, in-None, else-in_limits-via-then-in_limits+else-objects_fit, else-in_limits-via-else-in_limits}

@@ -1,6 +1,4 @@
-use Rattle.std.proofs.Common.{◌≡◌, ◌<◌, ◌^◌, drop}
-use Rattle.std.specs.Char.{is_ascii_digit}
-use Rattle.token_form.specs.Tokens.{AllPass, number_from}
+use Rattle.token_form.proofs.Names.{◌≡◌, ◌<◌, ◌^◌, drop, is_ascii_digit, AllPass, number_from}
 use Rattle.token_form.proofs.numbers.number_of.Given as goal
 
 -- the number so far goes on to the whole number

@@ -1,6 +1,5 @@
-use Rattle.std.proofs.Common.{◌≡◌, [], true, drop}
+use Rattle.token_form.proofs.Names.{◌≡◌, [], true, drop, inside, is_spot}
 use Rattle.token_form.specs.declared.quotes.Spot.TheVariants as at
-use Rattle.token_form.specs.Reading.{inside, is_spot}
 use Rattle.token_form.proofs.quotes.text_at.Given as goal
 
 -- the content so far is that of the bytes so far

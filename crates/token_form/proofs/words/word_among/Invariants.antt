@@ -1,5 +1,4 @@
-use Rattle.std.proofs.Common.{◌≡◌, drop}
-use Rattle.token_form.specs.Reading.{word_in}
+use Rattle.token_form.proofs.Names.{◌≡◌, drop, word_in}
 use Rattle.token_form.proofs.words.word_among.Given as goal
 
 -- the words so far are spelled otherwise

@@ -1,5 +1,4 @@
-use Rattle.std.proofs.Common.{refl, sym, ◌∙◌}
-use Rattle.repository_core.specs.Logs.{knows}
+use Rattle.trace_logs.proofs.Names.{refl, sym, ◌∙◌, knows}
 use Rattle.trace_logs.proofs.MarkLemmas.{knows-at, knows-more}
 use Rattle.trace_logs.proofs.cores.settles.Goals as goal
 

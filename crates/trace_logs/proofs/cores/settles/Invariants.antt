@@ -1,5 +1,4 @@
-use Rattle.std.proofs.Common.{◌≡◌, false, take}
-use Rattle.repository_core.specs.Logs.{knows}
+use Rattle.trace_logs.proofs.Names.{◌≡◌, false, take, knows}
 use Rattle.trace_logs.proofs.cores.settles.Given as goal
 
 -- none so far

@@ -1,5 +1,4 @@
-use Rattle.std.proofs.Common.{◌≡◌, take}
-use Rattle.world_core.specs.Nodes.{acts_of}
+use Rattle.trace_logs.proofs.Names.{◌≡◌, take, acts_of}
 use Rattle.trace_logs.proofs.replays.acts_of.Given as goal
 
 -- those so far

@@ -1,5 +1,4 @@
-use Rattle.std.proofs.Common.{refl, sym, subst, ◌≡◌, ◌<◌, ◌≤◌, length, take, arith}
-use Rattle.trace_logs.proofs.Names.{get_or, IfOk, walk, walk_from, AreLetters, AreAt, base_for}
+use Rattle.trace_logs.proofs.Names.{get_or, IfOk, walk, walk_from, AreLetters, AreAt, base_for, refl, sym, subst, ◌≡◌, ◌<◌, ◌≤◌, length, take, arith}
 use Rattle.trace_logs.proofs.EndLemmas.{starts, walk-on, walk-end}
 use Rattle.trace_logs.proofs.replays.logs.Goals as goal
 

@@ -1,6 +1,4 @@
-use Rattle.std.proofs.Common.{ℕ, List, take}
-use Rattle.trace_logs.proofs.Names.{Tree, Scripted, walk, Shows, base_for}
-use Rattle.trace_logs.specs.Replays.{IsFit}
+use Rattle.trace_logs.proofs.Names.{Tree, Scripted, walk, Shows, base_for, ℕ, List, take, IsFit}
 use Rattle.trace_logs.proofs.replays.logs.Given as goal
 
 -- the walk so far

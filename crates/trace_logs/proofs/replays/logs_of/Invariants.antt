@@ -1,5 +1,4 @@
-use Rattle.std.proofs.Common.{◌≡◌}
-use Rattle.trace_logs.specs.Replays.{gated_logs}
+use Rattle.trace_logs.proofs.Names.{◌≡◌, gated_logs}
 use Rattle.trace_logs.proofs.replays.logs_of.Given as goal
 
 -- those so far

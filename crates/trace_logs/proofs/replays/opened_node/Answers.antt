@@ -1,5 +1,4 @@
-use Rattle.std.proofs.Common.{sym, ap, subst, ◌∙◌}
-use Rattle.trace_logs.proofs.Names.{IfOk, AreBrokerActs, Scripted, opened_life, own_acts, Lives}
+use Rattle.trace_logs.proofs.Names.{IfOk, AreBrokerActs, Scripted, opened_life, own_acts, Lives, sym, ap, subst, ◌∙◌}
 use Rattle.trace_logs.proofs.ReplayedNodeLemmas.{own-acts, own-scripted}
 use Rattle.trace_logs.proofs.replays.opened_node.Goals as goal
 

@@ -1,5 +1,4 @@
-use Rattle.std.proofs.Common.{◌≡◌, take}
-use Rattle.trace_logs.proofs.Names.{Every, Scripted, Base, IsSound, AreAt}
+use Rattle.trace_logs.proofs.Names.{Every, Scripted, Base, IsSound, AreAt, ◌≡◌, take}
 use Rattle.trace_logs.proofs.replays.opened_nodes.Given as goal
 
 -- those so far

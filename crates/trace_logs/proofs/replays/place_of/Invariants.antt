@@ -1,5 +1,4 @@
-use Rattle.std.proofs.Common.{take}
-use Rattle.trace_logs.specs.Replays.{IsAbsent}
+use Rattle.trace_logs.proofs.Names.{take, IsAbsent}
 use Rattle.trace_logs.proofs.replays.place_of.Given as goal
 
 -- none of those so far

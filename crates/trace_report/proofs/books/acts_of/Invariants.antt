@@ -1,5 +1,4 @@
-use Rattle.std.proofs.Common.{◌≡◌, take}
-use Rattle.world_core.specs.Nodes.{acts_of}
+use Rattle.trace_report.proofs.Names.{◌≡◌, take, acts_of}
 use Rattle.trace_report.proofs.books.acts_of.Given as goal
 
 abbrev pub invariant-loop-act : goal.invariant-loop-act

@@ -1,5 +1,4 @@
-use Rattle.std.proofs.Common.{◌≡◌, ap, ◌∙◌, length, reverse, subst}
-use Rattle.trace_report.proofs.Names.{IfOk, acts_of, kept, logs_by}
+use Rattle.trace_report.proofs.Names.{IfOk, acts_of, kept, logs_by, ◌≡◌, ap, ◌∙◌, length, reverse, subst}
 use Rattle.trace_report.specs.Books as spec
 use Rattle.trace_report.proofs.BookLemmas.{own-acts, flags-length, begun-read}
 use Rattle.trace_report.proofs.books.begun_by.Goals as goal

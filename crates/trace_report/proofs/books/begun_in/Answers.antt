@@ -1,5 +1,4 @@
-use Rattle.std.proofs.Common.{ap, ◌∙◌, map, arith}
-use Rattle.trace_report.proofs.Names.{act_parts, logs_by}
+use Rattle.trace_report.proofs.Names.{act_parts, logs_by, ap, ◌∙◌, map, arith}
 use Rattle.trace_report.proofs.BookLemmas.{begun-all}
 use Rattle.trace_report.proofs.books.begun_in.Goals as goal
 

@@ -1,5 +1,4 @@
-use Rattle.std.proofs.Common.{◌≡◌, map}
-use Rattle.trace_report.proofs.Names.{kept, act_parts, begun_last, logs_by}
+use Rattle.trace_report.proofs.Names.{kept, act_parts, begun_last, logs_by, ◌≡◌, map}
 use Rattle.trace_report.proofs.books.begun_in.Given as goal
 
 -- those of the last brokers, so many of them

@@ -1,5 +1,4 @@
-use Rattle.std.proofs.Common.{◌≡◌, reverse, take}
-use Rattle.trace_report.specs.Begun.{kept}
+use Rattle.trace_report.proofs.Names.{◌≡◌, reverse, take, kept}
 use Rattle.trace_report.specs.Books as spec
 use Rattle.trace_report.proofs.books.read_off.Given as goal
 

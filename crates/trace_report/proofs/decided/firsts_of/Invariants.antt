@@ -1,5 +1,4 @@
-use Rattle.std.proofs.Common.{◌≡◌, length, reverse}
-use Rattle.trace_report.proofs.Names.{repository, AreEach, logs_by}
+use Rattle.trace_report.proofs.Names.{repository, AreEach, logs_by, ◌≡◌, length, reverse}
 use Rattle.trace_report.proofs.decided.firsts_of.Given as goal
 
 -- of the repositories so far

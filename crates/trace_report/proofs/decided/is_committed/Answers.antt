@@ -1,5 +1,4 @@
-use Rattle.std.proofs.Common.{sym, ap, ◌∙◌}
-use Rattle.trace_report.specs.Decided.{said_at}
+use Rattle.trace_report.proofs.Names.{sym, ap, ◌∙◌, said_at}
 use Rattle.trace_report.proofs.DecidedLemmas.{committed-home, committed-away}
 use Rattle.trace_report.proofs.decided.is_committed.Goals as goal
 

@@ -1,5 +1,4 @@
-use Rattle.std.proofs.Common.{◌≡◌, drop}
-use Rattle.trace_report.specs.Decided.{learned_in_some}
+use Rattle.trace_report.proofs.Names.{◌≡◌, drop, learned_in_some}
 use Rattle.trace_report.proofs.decided.is_learned.Given as goal
 
 -- none so far says so

@@ -1,5 +1,4 @@
-use Rattle.std.proofs.Common.{◌++◌, ◌∙◌, ap}
-use Rattle.trace_report.proofs.Names.{flat_map, Repository, Broker, fallen, shown, nodes_of_kind}
+use Rattle.trace_report.proofs.Names.{flat_map, Repository, Broker, fallen, shown, nodes_of_kind, ◌++◌, ◌∙◌, ap}
 use Rattle.trace_report.proofs.DownLemmas.{downs-are}
 use Rattle.trace_report.proofs.downs.downs_of.Goals as goal
 

@@ -1,5 +1,4 @@
-use Rattle.std.proofs.Common.{◌≡◌, ◌++◌}
-use Rattle.std.specs.List.{flat_map}
+use Rattle.trace_report.proofs.Names.{◌≡◌, ◌++◌, flat_map}
 use Rattle.trace_report.specs.Downs as spec
 use Rattle.trace_report.proofs.downs.push_nodes.Given as goal
 

@@ -1,5 +1,4 @@
-use Rattle.std.proofs.Common.{◌≡◌, refl, subst, sym}
-use Rattle.trace_report.proofs.Names.{IfOk, AreDecided, logs_by, run_over}
+use Rattle.trace_report.proofs.Names.{IfOk, AreDecided, logs_by, run_over, ◌≡◌, refl, subst, sym}
 use Rattle.trace_report.proofs.FinalLemmas.{finals-are}
 use Rattle.trace_report.proofs.finals.finals_of.Goals as goal
 

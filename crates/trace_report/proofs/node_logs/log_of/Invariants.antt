@@ -1,5 +1,4 @@
-use Rattle.std.proofs.Common.{◌≡◌, drop}
-use Rattle.trace_report.specs.Reports.{logs_by}
+use Rattle.trace_report.proofs.Names.{◌≡◌, drop, logs_by}
 use Rattle.trace_report.proofs.node_logs.log_of.Given as goal
 
 -- the node isn't among those so far

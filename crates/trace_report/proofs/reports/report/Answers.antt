@@ -1,6 +1,4 @@
-use Rattle.std.proofs.Common.{◌≡◌, ◌∙◌, subst}
-use Rattle.std.specs.Prelude.{IfOk}
-use Rattle.trace_report.specs.Reports.{open_by, run_text_by}
+use Rattle.trace_report.proofs.Names.{◌≡◌, ◌∙◌, subst, IfOk, open_by, run_text_by}
 use Rattle.trace_report.proofs.TraceLemmas.{plan-acts, logs-found}
 use Rattle.trace_report.proofs.reports.report.Goals as goal
 

@@ -1,5 +1,4 @@
-use Rattle.std.proofs.Common.{◌≡◌, ap, ◌∙◌, subst}
-use Rattle.trace_report.proofs.Names.{report_text, count_of, Open, logs_by}
+use Rattle.trace_report.proofs.Names.{report_text, count_of, Open, logs_by, ◌≡◌, ap, ◌∙◌, subst}
 use Rattle.trace_report.proofs.TextLemmas.{report-is}
 use Rattle.trace_report.proofs.reports.report_by.Goals as goal
 

@@ -1,5 +1,4 @@
-use Rattle.std.proofs.Common.{ap, ◌∙◌, map}
-use Rattle.trace_report.proofs.Names.{option_map, BegunTry, kept_act, kept_try, begun_at, try_told}
+use Rattle.trace_report.proofs.Names.{option_map, BegunTry, kept_act, kept_try, begun_at, try_told, ap, ◌∙◌, map}
 use Rattle.trace_report.proofs.ShownLemmas.{told-of}
 use Rattle.trace_report.proofs.shown.act_of.Goals as goal
 

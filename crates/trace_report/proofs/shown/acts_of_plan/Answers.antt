@@ -1,5 +1,4 @@
-use Rattle.std.proofs.Common.{◌≡◌, ap, ◌∙◌, map, subst, sym}
-use Rattle.trace_report.proofs.Names.{IfOk, Every, ActSpec, IsScript, kept, act_told, part_at}
+use Rattle.trace_report.proofs.Names.{IfOk, Every, ActSpec, IsScript, kept, act_told, part_at, ◌≡◌, ap, ◌∙◌, map, subst, sym}
 use Rattle.trace_report.proofs.OwnLemmas.{plan-scripts}
 use Rattle.trace_report.proofs.ShownLemmas.{acts-are}
 use Rattle.trace_report.proofs.shown.acts_of_plan.Goals as goal

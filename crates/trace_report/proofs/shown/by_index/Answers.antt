@@ -1,5 +1,4 @@
-use Rattle.std.proofs.Common.{subst, sym}
-use Rattle.trace_report.proofs.Names.{kept, HasActs}
+use Rattle.trace_report.proofs.Names.{kept, HasActs, subst, sym}
 use Rattle.trace_report.proofs.ShownLemmas.{acts-more, kept-last}
 use Rattle.trace_report.proofs.shown.by_index.Goals as goal
 

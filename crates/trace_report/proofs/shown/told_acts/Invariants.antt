@@ -1,5 +1,4 @@
-use Rattle.std.proofs.Common.{◌≡◌, map, take}
-use Rattle.trace_report.specs.Shown.{act_told, begun_at}
+use Rattle.trace_report.proofs.Names.{◌≡◌, map, take, act_told, begun_at}
 use Rattle.trace_report.proofs.shown.told_acts.Given as goal
 
 abbrev pub invariant-loop-act : goal.invariant-loop-act

@@ -1,5 +1,4 @@
-use Rattle.std.proofs.Common.{◌≡◌, map, take}
-use Rattle.trace_report.proofs.Names.{kept_try, try_told}
+use Rattle.trace_report.proofs.Names.{kept_try, try_told, ◌≡◌, map, take}
 use Rattle.trace_report.proofs.shown.tries_of.Given as goal
 
 abbrev pub invariant-loop-attempt : goal.invariant-loop-attempt

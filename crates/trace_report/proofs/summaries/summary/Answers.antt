@@ -1,5 +1,4 @@
-use Rattle.std.proofs.Common.{◌≡◌, ◌∙◌, subst}
-use Rattle.trace_report.proofs.Names.{IfOk, load_text_by, open_by}
+use Rattle.trace_report.proofs.Names.{IfOk, load_text_by, open_by, ◌≡◌, ◌∙◌, subst}
 use Rattle.trace_report.proofs.TraceLemmas.{plan-acts, logs-found}
 use Rattle.trace_report.proofs.summaries.summary.Goals as goal
 

@@ -1,5 +1,4 @@
-use Rattle.std.proofs.Common.{ap, ◌++◌, ◌∙◌, length}
-use Rattle.trace_report.proofs.Names.{flat_map, down_text, count_of, Open, last_of, load_line, logs_by, sum_in, tries_in}
+use Rattle.trace_report.proofs.Names.{flat_map, down_text, count_of, Open, last_of, load_line, logs_by, sum_in, tries_in, ap, ◌++◌, ◌∙◌, length}
 use Rattle.trace_report.proofs.TextLemmas.{load-is}
 use Rattle.trace_report.proofs.summaries.summary_by.Goals as goal
 

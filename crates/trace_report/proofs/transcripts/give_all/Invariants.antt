@@ -1,5 +1,4 @@
-use Rattle.std.proofs.Common.{◌≡◌, ◌++◌, take}
-use Rattle.trace_report.specs.Transcripts.{answers_of}
+use Rattle.trace_report.proofs.Names.{◌≡◌, ◌++◌, take, answers_of}
 use Rattle.trace_report.proofs.transcripts.give_all.Given as goal
 
 -- the run was given the answers so far

@@ -1,5 +1,4 @@
-use Rattle.std.proofs.Common.{sym, ◌∙◌}
-use Rattle.broker_core.proofs.GivenLemmas.{stored-given}
+use Rattle.trace_report.proofs.Names.{sym, ◌∙◌, stored-given}
 use Rattle.trace_report.proofs.TranscriptLemmas.{asks-write, asks-no-write}
 use Rattle.trace_report.proofs.transcripts.give_stored.Goals as goal
 

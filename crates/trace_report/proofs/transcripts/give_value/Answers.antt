@@ -1,5 +1,4 @@
-use Rattle.std.proofs.Common.{sym, ◌∙◌}
-use Rattle.broker_core.proofs.GivenLemmas.{value-given}
+use Rattle.trace_report.proofs.Names.{sym, ◌∙◌, value-given}
 use Rattle.trace_report.proofs.TranscriptLemmas.{asks-read, asks-no-read}
 use Rattle.trace_report.proofs.transcripts.give_value.Goals as goal
 

@@ -1,5 +1,4 @@
-use Rattle.std.proofs.Common.{◌≡◌, ◌≤◌, IsTrue, false, length}
-use Rattle.medium_port.specs.Image.{NoMore}
+use Rattle.version_store.proofs.Names.{◌≡◌, ◌≤◌, IsTrue, false, length, NoMore}
 use Rattle.version_store.proofs.FetchLemmas.{Looking}
 use Rattle.version_store.proofs.fetches.find.Given as goal
 

@@ -1,5 +1,4 @@
-use Rattle.std.proofs.Common.{ℕ, List, ◌++◌, sym, ◌∙◌, ap, subst, Some}
-use Rattle.version_store.specs.Found.{Stand}
+use Rattle.version_store.proofs.Names.{ℕ, List, ◌++◌, sym, ◌∙◌, ap, subst, Some, Stand}
 use Rattle.version_store.proofs.FetchLemmas.{next_middle, next_last}
 use Rattle.version_store.proofs.fetches.look_next.Goals as goal
 

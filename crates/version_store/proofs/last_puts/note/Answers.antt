@@ -1,5 +1,4 @@
-use Rattle.std.proofs.Common.{◌<◌, None, sym, ◌∙◌, refl}
-use Rattle.version_store.proofs.Names.{Place, IsPlace, entry_at}
+use Rattle.version_store.proofs.Names.{Place, IsPlace, entry_at, ◌<◌, None, sym, ◌∙◌, refl}
 use Rattle.version_store.proofs.LogLemmas.{heads_same, heads_push, kept_push, has_back, written_push}
 use Rattle.version_store.proofs.last_puts.note.Goals as goal
 

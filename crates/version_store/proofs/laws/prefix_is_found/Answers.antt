@@ -1,6 +1,4 @@
-use Rattle.std.proofs.Common.{◌≡◌, ◌++◌, List, length, take, Result, Ok, sym, ◌∙◌, ap, arith, length-append, length-take, ℕ}
-use Rattle.version_store.proofs.Names.{Effect, Image, HasPrefix}
-use Rattle.version_store.specs.Storage.{storage}
+use Rattle.version_store.proofs.Names.{Effect, Image, HasPrefix, ◌≡◌, ◌++◌, List, length, take, Result, Ok, sym, ◌∙◌, ap, arith, length-append, length-take, ℕ, storage}
 use Rattle.version_store.proofs.laws.prefix_is_found.Goals as goal
 
 ok_is : (a b : List Effect) → ◌≡◌ {A = Result (List Effect) ℕ} (Ok a) (Ok b) → a ≡ b

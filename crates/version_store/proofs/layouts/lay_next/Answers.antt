@@ -1,6 +1,4 @@
-use Rattle.std.proofs.Common.{◌≡◌, ◌+◌, ◌-◌, ℕ, List, length, sym, ◌∙◌, ap, subst, arith}
-use Rattle.std.specs.Prelude.{◌/◌}
-use Rattle.version_store.proofs.Names.{size_of, Filled, begun_pages, full_pages, bytes_of}
+use Rattle.version_store.proofs.Names.{size_of, Filled, begun_pages, full_pages, bytes_of, ◌≡◌, ◌+◌, ◌-◌, ℕ, List, length, sym, ◌∙◌, ap, subst, arith, ◌/◌}
 use Rattle.version_store.proofs.FillingLemmas.{filled_takes, filled_begins, filled_alone, reach-some, reach-begins}
 use Rattle.version_store.proofs.LaidLemmas.{laid_takes, next_begins, next_alone, closed_body-length, length-closed_body}
 use Rattle.version_store.proofs.layouts.lay_next.Goals as goal

@@ -1,6 +1,4 @@
-use Rattle.std.proofs.Common.{◌≡◌, ◌+◌, ◌<◌, ◌≤◌, [], ◌∷◌, ℕ, List, length, drop, get_or, sym, ◌∙◌, ap, subst, arith}
-use Rattle.std.proofs.lemmas.List.{drop_all, drop_more}
-use Rattle.version_store.proofs.Names.{Effect, Filled, filling, reach, LaidOut, bytes_of}
+use Rattle.version_store.proofs.Names.{Effect, Filled, filling, reach, LaidOut, bytes_of, ◌≡◌, ◌+◌, ◌<◌, ◌≤◌, [], ◌∷◌, ℕ, List, length, drop, get_or, sym, ◌∙◌, ap, subst, arith, drop_all, drop_more}
 use Rattle.version_store.proofs.FillingLemmas.{filled_none, filled_reach, filled_all}
 use Rattle.version_store.proofs.LaidLemmas.{laid_none, laid_bodies, laid_heads, closed_body-length}
 use Rattle.version_store.proofs.layouts.lay_out.Goals as goal

@@ -1,6 +1,4 @@
-use Rattle.std.proofs.Common.{◌≡◌, ◌+◌, ◌≤◌, ℕ, length, drop}
-use Rattle.std.specs.Prelude.{All}
-use Rattle.version_store.proofs.Names.{Log, Filled, filling, HeadsFit, AreBelow, ArePlaces, IsBody, LaidOut, bytes_of}
+use Rattle.version_store.proofs.Names.{Log, Filled, filling, HeadsFit, AreBelow, ArePlaces, IsBody, LaidOut, bytes_of, ◌≡◌, ◌+◌, ◌≤◌, ℕ, length, drop, All}
 use Rattle.version_store.proofs.layouts.lay_out.Given as goal
 
 abbrev pub invariant-loop-effect : goal.invariant-loop-effect

@@ -1,6 +1,4 @@
-use Rattle.std.proofs.Common.{◌≡◌, ◌+◌, ◌-◌, ◌++◌, length}
-use Rattle.std.specs.Prelude.{All, ◌*◌, ◌/◌}
-use Rattle.version_store.specs.Laying.{IsBody, bytes_of, piece_bodies}
+use Rattle.version_store.proofs.Names.{◌≡◌, ◌+◌, ◌-◌, ◌++◌, length, All, ◌*◌, ◌/◌, IsBody, bytes_of, piece_bodies}
 use Rattle.version_store.proofs.layouts.push_pieces.Given as goal
 
 abbrev pub invariant-loop : goal.invariant-loop

@@ -1,6 +1,4 @@
-use Rattle.std.proofs.Common.{rules, refl, ◌≡◌, ◌+◌, ◌<◌, ◌≤◌, Bool, true, false, cond, ℕ, Option, List, [], length, get_or, sym, ◌∙◌, ap, subst, arith}
-use Rattle.std.specs.Prelude.{MatchBool}
-use Rattle.version_store.proofs.Names.{Image, state_of, PageState, Effect, AreEffects, HeldFit, reading_of, Held, Heads, IsFound, Content, content_of, Reading, Damaged, next}
+use Rattle.version_store.proofs.Names.{Image, state_of, PageState, Effect, AreEffects, HeldFit, reading_of, Held, Heads, IsFound, Content, content_of, Reading, Damaged, next, rules, refl, ◌≡◌, ◌+◌, ◌<◌, ◌≤◌, Bool, true, false, cond, ℕ, Option, List, [], length, get_or, sym, ◌∙◌, ap, subst, arith, MatchBool}
 use Rattle.version_store.specs.declared.faults.OpenFault.TheVariants as faults
 use Rattle.version_store.proofs.ScanLemmas.{scan_more, scan_damaged}
 use Rattle.version_store.proofs.OpenLemmas.{reached_more}

@@ -1,5 +1,4 @@
-use Rattle.std.proofs.Common.{◌≡◌, ◌≤◌, IsTrue, false, length}
-use Rattle.version_store.proofs.Names.{NoMore, AreEffects, HeldBelow, Reached, AreBelow, ArePlaces}
+use Rattle.version_store.proofs.Names.{NoMore, AreEffects, HeldBelow, Reached, AreBelow, ArePlaces, ◌≡◌, ◌≤◌, IsTrue, false, length}
 use Rattle.version_store.proofs.openings.read_pages.Given as goal
 
 abbrev pub invariant-loop-page : goal.invariant-loop-page

@@ -1,5 +1,4 @@
-use Rattle.std.proofs.Common.{◌≡◌, ◌-◌, ℕ, List, length, take, drop, Ok, sym, ◌∙◌, ap, arith}
-use Rattle.effect_form.specs.Effects.{effect_at}
+use Rattle.version_store.proofs.Names.{◌≡◌, ◌-◌, ℕ, List, length, take, drop, Ok, sym, ◌∙◌, ap, arith, effect_at}
 use Rattle.version_store.proofs.ReadLemmas.{rest_is, admits}
 use Rattle.version_store.proofs.page_reads.add_effect.Goals as goal
 

@@ -1,5 +1,4 @@
-use Rattle.std.proofs.Common.{◌≡◌, ◌≤◌, ℕ, length, ◌==◌, false, Bool, arith}
-use Rattle.std.proofs.lemmas.Bool.Decides.{nat_tests}
+use Rattle.version_store.proofs.Names.{◌≡◌, ◌≤◌, ℕ, length, ◌==◌, false, Bool, arith, nat_tests}
 use Rattle.version_store.proofs.ReadLemmas.{at_none, at_some, less_at, page_stops, page_goes}
 use Rattle.version_store.proofs.page_reads.add_effects.Goals as goal
 

@@ -1,5 +1,4 @@
-use Rattle.std.proofs.Common.{◌≤◌, ◌<◌, ℕ, length}
-use Rattle.version_store.proofs.Names.{Log, AreEffects, AreBelow, ArePlaces, IsFound}
+use Rattle.version_store.proofs.Names.{Log, AreEffects, AreBelow, ArePlaces, IsFound, ◌≤◌, ◌<◌, ℕ, length}
 use Rattle.version_store.proofs.ReadLemmas.{SoFar}
 use Rattle.version_store.proofs.page_reads.add_effects.Given as goal
 

@@ -1,5 +1,4 @@
-use Rattle.std.proofs.Common.{subst}
-use Rattle.version_store.specs.Found.{HeldBelow, HeldFit}
+use Rattle.version_store.proofs.Names.{subst, HeldBelow, HeldFit}
 use Rattle.version_store.proofs.ReadLemmas.{last_found}
 use Rattle.version_store.proofs.page_reads.add_last.Goals as goal
 

@@ -1,5 +1,4 @@
-use Rattle.std.proofs.Common.{subst, arith}
-use Rattle.version_store.specs.Found.{HeldFit}
+use Rattle.version_store.proofs.Names.{subst, arith, HeldFit}
 use Rattle.version_store.proofs.ReadLemmas.{middle_found}
 use Rattle.version_store.proofs.page_reads.add_middle.Goals as goal
 

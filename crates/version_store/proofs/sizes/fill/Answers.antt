@@ -1,6 +1,4 @@
-use Rattle.std.proofs.Common.{◌+◌, ◌-◌, ℕ, sym, subst, arith}
-use Rattle.std.specs.Prelude.{◌/◌}
-use Rattle.version_store.specs.Filling.{Filled, begun_pages}
+use Rattle.version_store.proofs.Names.{◌+◌, ◌-◌, ℕ, sym, subst, arith, ◌/◌, Filled, begun_pages}
 use Rattle.version_store.proofs.FillingLemmas.{filled_takes, filled_begins, filled_alone}
 use Rattle.version_store.proofs.sizes.fill.Goals as goal
 

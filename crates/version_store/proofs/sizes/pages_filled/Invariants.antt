@@ -1,6 +1,4 @@
-use Rattle.std.proofs.Common.{◌≤◌}
-use Rattle.std.specs.Prelude.{◌*◌}
-use Rattle.version_store.specs.Filling.{Filled}
+use Rattle.version_store.proofs.Names.{◌≤◌, ◌*◌, Filled}
 use Rattle.version_store.proofs.sizes.pages_filled.Given as goal
 
 abbrev pub invariant-loop-effect : goal.invariant-loop-effect

@@ -1,9 +1,4 @@
-use Rattle.std.proofs.Common.{◌≡◌, ◌+◌, ◌<◌, List, [], ◌∷◌, ℕ, IsTrue, length, map, drop, get_or, zero, suc, ◌∙◌, ap, arith}
-use Rattle.std.proofs.Common.{Vec, refl}
-use Rattle.std.specs.declared.alloc.Global.{Global}
-use Rattle.std.specs.List.{list_all}
-use Rattle.std.proofs.lemmas.List.{drop-set-lt}
-use Rattle.version_store.proofs.Names.{Image, IsImage, is_blank, gated_page, Laid, body_of, bytes_of}
+use Rattle.version_store.proofs.Names.{Image, IsImage, is_blank, gated_page, Laid, body_of, bytes_of, ◌≡◌, ◌+◌, ◌<◌, List, [], ◌∷◌, ℕ, IsTrue, length, map, drop, get_or, zero, suc, ◌∙◌, ap, arith, Vec, refl, Global, list_all, drop-set-lt}
 use Rattle.version_store.proofs.GrownLemmas.{no_page, blank_clean, clean_on, grown_none, grown_leaves, grown_more, blank_here}
 use Rattle.version_store.proofs.writes.write_pages.Goals as goal
 

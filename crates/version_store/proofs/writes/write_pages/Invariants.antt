@@ -1,6 +1,4 @@
-use Rattle.std.proofs.Common.{◌≡◌, ◌+◌, ◌≤◌, List, IsTrue, false, map, drop, take, true}
-use Rattle.std.specs.List.{list_all}
-use Rattle.version_store.proofs.Names.{is_blank, Log, StaysClean, Laid, PagesFit, IsAtRest, body_of, bytes_of, begun, scan}
+use Rattle.version_store.proofs.Names.{is_blank, Log, StaysClean, Laid, PagesFit, IsAtRest, body_of, bytes_of, begun, scan, ◌≡◌, ◌+◌, ◌≤◌, List, IsTrue, false, map, drop, take, true, list_all}
 use Rattle.version_store.proofs.GrownLemmas.{Grown}
 use Rattle.version_store.proofs.writes.write_pages.Given as goal
 

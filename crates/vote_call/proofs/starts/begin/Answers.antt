@@ -1,5 +1,4 @@
-use Rattle.std.proofs.Common.{◌≡◌, ◌∙◌, sym, false}
-use Rattle.vote_call.proofs.Names.{some_wants, not-err, Fall}
+use Rattle.vote_call.proofs.Names.{some_wants, not-err, Fall, ◌≡◌, ◌∙◌, sym, false}
 use Rattle.vote_call.proofs.BeginLemmas.{begun-for, lasts-all, may-all}
 use Rattle.vote_call.proofs.starts.begin.Goals as goal
 

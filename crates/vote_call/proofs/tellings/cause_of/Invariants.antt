@@ -1,5 +1,4 @@
-use Rattle.std.proofs.Common.{◌≡◌, drop}
-use Rattle.world_core.specs.Counts.{down_cause}
+use Rattle.vote_call.proofs.Names.{◌≡◌, drop, down_cause}
 use Rattle.vote_call.proofs.tellings.cause_of.Given as goal
 
 -- none of those so far is the node's

@@ -1,5 +1,4 @@
-use Rattle.std.proofs.Common.{◌≡◌}
-use Rattle.vote_call.proofs.Names.{log_in, opened_voters}
+use Rattle.vote_call.proofs.Names.{log_in, opened_voters, ◌≡◌}
 use Rattle.vote_call.proofs.voters.voters.Given as goal
 
 -- the members, and the polls so far

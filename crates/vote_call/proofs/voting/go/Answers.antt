@@ -1,5 +1,4 @@
-use Rattle.std.proofs.Common.{◌∙◌, sym}
-use Rattle.vote_call.proofs.Names.{not-err, medium_of, BegunFor}
+use Rattle.vote_call.proofs.Names.{not-err, medium_of, BegunFor, ◌∙◌, sym}
 use Rattle.vote_call.proofs.FinishLemmas.{ended-for}
 use Rattle.vote_call.proofs.voting.go.Goals as goal
 

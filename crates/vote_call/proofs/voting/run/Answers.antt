@@ -1,5 +1,4 @@
-use Rattle.std.proofs.Common.{List, subst}
-use Rattle.record_votes.specs.Polls.{PollState}
+use Rattle.vote_call.proofs.Names.{List, subst, PollState}
 use Rattle.vote_call.specs.Ends.{Tells}
 use Rattle.vote_call.proofs.FinishLemmas.{run-ends, trace-same}
 use Rattle.vote_call.proofs.voting.run.Goals as goal

@@ -1,5 +1,4 @@
-use Rattle.std.proofs.Common.{◌∙◌, length, ap, sym, subst, arith}
-use Rattle.vote_call.specs.Media.{AreKept}
+use Rattle.vote_call.proofs.Names.{◌∙◌, length, ap, sym, subst, arith, AreKept}
 use Rattle.vote_call.proofs.FinishLemmas.{given-kept}
 use Rattle.vote_call.proofs.StartLemmas.{polls-count}
 use Rattle.vote_call.proofs.voting.votes.Goals as goal

@@ -1,5 +1,4 @@
-use Rattle.std.proofs.Common.{◌≡◌, List, length}
-use Rattle.vote_run.proofs.Names.{Line, Stands, hall_of, Lengthens, is_poll, PollsAre, PollsTurned}
+use Rattle.vote_run.proofs.Names.{Line, Stands, hall_of, Lengthens, is_poll, PollsAre, PollsTurned, ◌≡◌, List, length}
 use Rattle.vote_run.proofs.poll_rounds.polls_turn.Given as goal
 
 abbrev pub invariant-loop-i : goal.invariant-loop-i

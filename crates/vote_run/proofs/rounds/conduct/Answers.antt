@@ -1,6 +1,4 @@
-use Rattle.std.proofs.Common.{◌≤◌, ◌∙◌, ℕ, Bool, refl, sym, subst, arith}
-use Rattle.std.specs.Prelude.{Option, IfSome}
-use Rattle.vote_run.specs.Ends.{Came}
+use Rattle.vote_run.proofs.Names.{◌≤◌, ◌∙◌, ℕ, Bool, refl, sym, subst, arith, Option, IfSome, Came}
 use Rattle.vote_run.proofs.EndLemmas.{come-first, if-ok}
 use Rattle.vote_run.proofs.PollLemmas.{ok-of}
 use Rattle.vote_run.proofs.rounds.conduct.Goals as goal

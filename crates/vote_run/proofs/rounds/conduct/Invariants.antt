@@ -1,6 +1,4 @@
-use Rattle.std.proofs.Common.{◌≡◌, ◌≤◌, false, List, length, IsTrue}
-use Rattle.vote_run.proofs.Names.{Line, hall_of, Between, HasCome, FareOn, MayAllTurn}
-use Rattle.vote_run.specs.Lasts.{LastOn}
+use Rattle.vote_run.proofs.Names.{Line, hall_of, Between, HasCome, FareOn, MayAllTurn, ◌≡◌, ◌≤◌, false, List, length, IsTrue, LastOn}
 use Rattle.vote_run.proofs.rounds.conduct.Given as goal
 
 abbrev pub invariant-loop : goal.invariant-loop

@@ -1,5 +1,4 @@
-use Rattle.std.proofs.Common.{◌≡◌, ◌∙◌, refl, sym, false}
-use Rattle.vote_run.proofs.Names.{HaveSat, some_wants, is_poll}
+use Rattle.vote_run.proofs.Names.{HaveSat, some_wants, is_poll, ◌≡◌, ◌∙◌, refl, sym, false}
 use Rattle.vote_run.proofs.EndLemmas.{has-gone, polls-wait}
 use Rattle.vote_run.proofs.FareLemmas.{all-along}
 use Rattle.vote_run.proofs.PollLemmas.{on-ok}

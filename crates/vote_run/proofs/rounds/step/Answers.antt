@@ -1,5 +1,4 @@
-use Rattle.std.proofs.Common.{◌+◌, ◌∙◌, true, sym, subst}
-use Rattle.vote_run.proofs.Names.{Follows, HasCome, HasGoneRound, Over, Round, Ticked, AllFare, FareOn, AllLast}
+use Rattle.vote_run.proofs.Names.{Follows, HasCome, HasGoneRound, Over, Round, Ticked, AllFare, FareOn, AllLast, ◌+◌, ◌∙◌, true, sym, subst}
 use Rattle.vote_run.proofs.FareLemmas.{step-fares}
 use Rattle.vote_run.proofs.LastLemmas.{all-late-last}
 use Rattle.vote_run.proofs.EndLemmas.{if-ok, not-err, step-came}

@@ -1,8 +1,5 @@
-use Rattle.std.proofs.Common.{◌∙◌, ◌++◌, ap}
-use Rattle.std.specs.Prelude.{codes}
-use Rattle.std.proofs.lemmas.List.{append_assoc}
+use Rattle.watch_command.proofs.Names.{◌∙◌, ◌++◌, ap, codes, append_assoc, rule_text}
 use Rattle.report_writer.specs.Reports.{named}
-use Rattle.watch_command.specs.Lines.{rule_text}
 use Rattle.watch_command.proofs.lines.push_head.Goals as goal
 
 pub returns : goal.returns

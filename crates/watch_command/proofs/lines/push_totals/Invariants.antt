@@ -1,6 +1,5 @@
-use Rattle.std.proofs.Common.{◌≡◌, ◌++◌, take}
+use Rattle.watch_command.proofs.Names.{◌≡◌, ◌++◌, take, total_line}
 use Rattle.std.specs.List.{flat_map}
-use Rattle.watch_command.specs.Lines.{total_line}
 use Rattle.watch_command.proofs.lines.push_totals.Given as goal
 
 abbrev pub invariant-loop-total : goal.invariant-loop-total

@@ -1,5 +1,4 @@
-use Rattle.std.proofs.Common.{◌≡◌, List, take}
-use Rattle.watch_command.proofs.Names.{Every, IsObject, Effect, AreEffects, last_total, AreCursors, new_puts}
+use Rattle.watch_command.proofs.Names.{Every, IsObject, Effect, AreEffects, last_total, AreCursors, new_puts, ◌≡◌, List, take}
 use Rattle.watch_command.proofs.puts.puts_of.Given as goal
 
 abbrev pub invariant-loop-total : goal.invariant-loop-total

@@ -1,6 +1,5 @@
-use Rattle.std.proofs.Common.{rules, ap, sym, ◌∙◌, w64}
+use Rattle.watch_command.proofs.Names.{rules, ap, sym, ◌∙◌, w64, moved_at, with_moved}
 use Rattle.std.proofs.lemmas.Int.{to_z-of_z}
-use Rattle.commit_watch.specs.Lists.{moved_at, with_moved}
 use Rattle.watch_command.proofs.TotalLemmas.{cursors-new, no-cursor, restored-before, restored-new, restored-none, some-cursor}
 use Rattle.watch_command.proofs.restoring.restore_put.Goals as goal
 

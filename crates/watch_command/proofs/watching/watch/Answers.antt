@@ -1,5 +1,4 @@
-use Rattle.std.proofs.Common.{ap, ◌∙◌, inl, inr, subst, sym}
-use Rattle.watch_command.proofs.Names.{Every, shelf_sight, Stands, AreOpen, logs_of, stand-all, joined_marks, Keeps}
+use Rattle.watch_command.proofs.Names.{Every, shelf_sight, Stands, AreOpen, logs_of, stand-all, joined_marks, Keeps, ap, ◌∙◌, inl, inr, subst, sym}
 use Rattle.archive_command.proofs.AnswerLemmas.{handed-back}
 use Rattle.watch_command.proofs.MarkLemmas.{archive-in-range, archive-unretired}
 use Rattle.watch_command.proofs.WatchLemmas.{stops-before, watches-over}

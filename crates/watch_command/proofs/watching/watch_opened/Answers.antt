@@ -1,5 +1,4 @@
-use Rattle.std.proofs.Common.{reverse, subst, sym}
-use Rattle.effect_form.specs.Effects.{AreEffects}
+use Rattle.watch_command.proofs.Names.{reverse, subst, sym, AreEffects}
 use Rattle.watch_command.proofs.WatchLemmas.{opened-stands, opened-stopped, opened-written, shut-comes}
 use Rattle.watch_command.proofs.watching.watch_opened.Goals as goal
 

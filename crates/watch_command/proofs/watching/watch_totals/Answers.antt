@@ -1,6 +1,4 @@
-use Rattle.std.proofs.Common.{reverse}
-use Rattle.run_volumes.specs.Shelves.{shelf_sight, volume_name}
-use Rattle.run_volumes.proofs.ShelfLemmas.{one-usable}
+use Rattle.watch_command.proofs.Names.{reverse, shelf_sight, volume_name, one-usable}
 use Rattle.watch_command.proofs.WatchLemmas.{one-stands, totals-over}
 use Rattle.watch_command.proofs.watching.watch_totals.Goals as goal
 

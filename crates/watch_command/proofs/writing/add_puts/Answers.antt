@@ -1,5 +1,4 @@
-use Rattle.std.proofs.Common.{subst}
-use Rattle.watch_command.proofs.Names.{HasPrefix, Adds}
+use Rattle.watch_command.proofs.Names.{HasPrefix, Adds, subst}
 use Rattle.watch_command.proofs.WatchLemmas.{cut}
 use Rattle.watch_command.proofs.writing.add_puts.Goals as goal
 

@@ -1,7 +1,5 @@
-use Rattle.std.proofs.Common.{subst, sym, ap, ◌∙◌, ◌∷◌, [], ◌++◌}
 use Rattle.message_form.specs.declared.messages.Message.{Message}
-use Rattle.message_form.specs.Messages.{message_bytes}
-use Rattle.wire_core.proofs.Names.{State, sent, state_of, Sent, IsTied, all_marked}
+use Rattle.wire_core.proofs.Names.{State, sent, state_of, Sent, IsTied, all_marked, subst, sym, ap, ◌∙◌, ◌∷◌, [], ◌++◌, message_bytes}
 use Rattle.wire_core.proofs.CopyLemmas.{tied-send}
 use Rattle.wire_core.proofs.sendings.send.Goals as goal
 

@@ -1,5 +1,4 @@
-use Rattle.std.proofs.Common.{◌≡◌, ◌+◌, ◌++◌, List, map, length, take}
-use Rattle.wire_core.proofs.Names.{posts, state_of, Sent, World, Numbered, post_of, asked_of, Marked, IsTied, all_marked}
+use Rattle.wire_core.proofs.Names.{posts, state_of, Sent, World, Numbered, post_of, asked_of, Marked, IsTied, all_marked, ◌≡◌, ◌+◌, ◌++◌, List, map, length, take}
 use Rattle.wire_core.proofs.sendings.send_all.Given as goal
 
 abbrev pub invariant-loop-out : goal.invariant-loop-out

@@ -1,5 +1,4 @@
-use Rattle.std.proofs.Common.{◌≡◌, take}
-use Rattle.wire_core.specs.Flagged.{names_of}
+use Rattle.wire_core.proofs.Names.{◌≡◌, take, names_of}
 use Rattle.wire_core.proofs.stories.names_of.Given as goal
 
 abbrev pub invariant-loop-one : goal.invariant-loop-one

@@ -1,5 +1,4 @@
-use Rattle.std.proofs.Common.{refl}
-use Rattle.std.specs.Prelude.{Some}
+use Rattle.wire_core.proofs.Names.{refl, Some}
 use Rattle.wire_core.proofs.NodeMaps.{puts_of, one-opened}
 use Rattle.wire_core.proofs.stories.nodes_with.Goals as goal
 

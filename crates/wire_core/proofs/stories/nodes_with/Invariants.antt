@@ -1,7 +1,4 @@
-use Rattle.std.proofs.Common.{◌≡◌, take}
-use Rattle.std.specs.Prelude.{Some, None, if◌then◌else◌}
-use Rattle.std.specs.List.{list_any}
-use Rattle.wire_core.proofs.Names.{NodeId, same_node, flags_at, new_flags}
+use Rattle.wire_core.proofs.Names.{NodeId, same_node, flags_at, new_flags, ◌≡◌, take, Some, None, if◌then◌else◌, list_any}
 use Rattle.wire_core.proofs.stories.nodes_with.Given as goal
 
 abbrev pub invariant-loop-name : goal.invariant-loop-name

@@ -1,6 +1,4 @@
-use Rattle.std.proofs.Common.{rules, sym, ◌∙◌}
-use Rattle.std.specs.Prelude.{Some}
-use Rattle.message_core.proofs.NodeLemmas.{found_same}
+use Rattle.wire_core.proofs.Names.{rules, sym, ◌∙◌, Some, found_same}
 use Rattle.wire_core.proofs.NodeMaps.{puts_of, noted-one}
 use Rattle.wire_core.proofs.stories.note.Goals as goal
 

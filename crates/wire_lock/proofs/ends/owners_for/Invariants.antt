@@ -1,6 +1,5 @@
-use Rattle.std.proofs.Common.{◌≡◌, map, take}
+use Rattle.wire_lock.proofs.Names.{◌≡◌, map, take, owner_for}
 use Rattle.world_core.specs.declared.traces.Opened.{Opened}
-use Rattle.wire_core.specs.Boards.{owner_for}
 use Rattle.wire_lock.proofs.ends.owners_for.Given as goal
 
 abbrev pub invariant-loop-one : goal.invariant-loop-one

@@ -1,5 +1,4 @@
-use Rattle.std.proofs.Common.{◌∙◌, sym, subst, ◌<◌, ℕ, arith}
-use Rattle.seat_lock.specs.Words.{sees, lock_of, base_of}
+use Rattle.wire_lock.proofs.Names.{◌∙◌, sym, subst, ◌<◌, ℕ, arith, sees, lock_of, base_of}
 use Rattle.wire_lock.proofs.SightLemmas.{posted-more, posts-kept, lock-origin, lock-size, story-of}
 use Rattle.wire_lock.proofs.DecisionLemmas.{may-post, may-at}
 use Rattle.wire_lock.proofs.gates.post_all.Goals as goal

@@ -1,6 +1,4 @@
-use Rattle.std.proofs.Common.{◌≡◌, ◌++◌, take}
-use Rattle.seat_lock.specs.Words.{sees, IsInside, lock_of, has_noted}
-use Rattle.wire_lock.specs.Decisions.{posted}
+use Rattle.wire_lock.proofs.Names.{◌≡◌, ◌++◌, take, sees, IsInside, lock_of, has_noted, posted}
 use Rattle.wire_lock.proofs.gates.post_all.Given as goal
 
 abbrev pub invariant-loop-stamp : goal.invariant-loop-stamp

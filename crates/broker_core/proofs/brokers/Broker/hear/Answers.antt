@@ -1,5 +1,4 @@
-use Rattle.std.proofs.Common.{sym, ap, subst, ◌∙◌}
-use Rattle.broker_core.proofs.Names.{AreEffects, AreOuts, listed}
+use Rattle.broker_core.proofs.Names.{AreEffects, AreOuts, listed, sym, ap, subst, ◌∙◌}
 use Rattle.broker_core.proofs.RangeLemmas.{outs-InRange}
 use Rattle.broker_core.proofs.DoneLemmas.{hear-gives}
 use Rattle.broker_core.proofs.brokers.Broker.hear.Goals as goal

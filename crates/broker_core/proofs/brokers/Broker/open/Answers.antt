@@ -1,5 +1,4 @@
-use Rattle.std.proofs.Common.{◌++◌, reverse, sym, ap, ◌∙◌, arith}
-use Rattle.broker_core.specs.Inputs.{phase_in}
+use Rattle.broker_core.proofs.Names.{◌++◌, reverse, sym, ap, ◌∙◌, arith, phase_in}
 use Rattle.broker_core.proofs.OpenLemmas.{fresh-is, opened, opened-led, refused}
 use Rattle.broker_core.proofs.RangeLemmas.{ranged-opened}
 use Rattle.broker_core.proofs.brokers.Broker.open.Goals as goal

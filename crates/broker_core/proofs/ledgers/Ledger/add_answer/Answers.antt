@@ -1,5 +1,4 @@
-use Rattle.std.proofs.Common.{◌≡◌, ◌++◌, ◌∷◌, [], ℕ, List, take, sym, ap, ◌∙◌, subst}
-use Rattle.broker_core.proofs.Names.{Given, answer_noted, IsLedger, kept}
+use Rattle.broker_core.proofs.Names.{Given, answer_noted, IsLedger, kept, ◌≡◌, ◌++◌, ◌∷◌, [], ℕ, List, take, sym, ap, ◌∙◌, subst}
 use Rattle.broker_core.proofs.CountLemmas.{asked-viewed, ledger-run, ledger-none}
 use Rattle.broker_core.proofs.ledgers.Ledger.add_answer.Goals as goal
 use Rattle.broker_core.proofs.ledgers.Ledger.add_answer.Goals.{in-Some+in_ok-give, in_default}

@@ -1,5 +1,4 @@
-use Rattle.std.proofs.Common.{sym, subst}
-use Rattle.broker_core.proofs.Names.{Notes, AreNotes}
+use Rattle.broker_core.proofs.Names.{Notes, AreNotes, sym, subst}
 use Rattle.broker_core.proofs.CountLemmas.{try-are, may-above}
 use Rattle.broker_core.proofs.ledgers.Ledger.change.Goals as goal
 

@@ -1,8 +1,4 @@
-use Rattle.std.proofs.Common.{refl, ap, sym, subst, ◌∙◌, ◌++◌}
-use Rattle.pseudo_time.specs.Nodes.{broker}
-use Rattle.version_store.specs.StoreWords.{medium_of}
-use Rattle.node_turn.proofs.MediumLemmas.{appended, appends-all, appends-none}
-use Rattle.broker_node.specs.Logs.{medium_in, HasEffects}
+use Rattle.broker_node.proofs.Names.{refl, ap, sym, subst, ◌∙◌, ◌++◌, broker, medium_of, appended, appends-all, appends-none, medium_in, HasEffects}
 use Rattle.broker_node.proofs.CoreLemmas.{gated-broker}
 use Rattle.broker_node.proofs.cores.BrokerCoreStoredCore.append.Goals as goal
 

@@ -1,7 +1,5 @@
-use Rattle.std.proofs.Common.{refl, arith}
-use Rattle.pseudo_time.specs.Nodes.{broker}
+use Rattle.broker_node.proofs.Names.{refl, arith, broker, Going}
 use Rattle.broker_core.specs.Turns as desks
-use Rattle.world_core.specs.Nodes.Input.{Going}
 use Rattle.broker_node.proofs.CoreLemmas.{gave-broker}
 use Rattle.broker_node.proofs.cores.BrokerCoreStoredCore.go.Goals as goal
 

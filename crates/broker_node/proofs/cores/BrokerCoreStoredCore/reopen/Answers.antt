@@ -1,10 +1,5 @@
-use Rattle.std.proofs.Common.{◌≤◌, refl, ap, sym, subst, ◌∙◌, Ok, List}
-use Rattle.medium_port.specs.Image.{NoMore}
+use Rattle.broker_node.proofs.Names.{◌≤◌, refl, ap, sym, subst, ◌∙◌, Ok, List, NoMore, Effect, medium_of, Scripted, reopened-none}
 use Rattle.medium_port.specs.Moment.{LeavesOnly}
-use Rattle.effect_form.specs.declared.effects.Effect.{Effect}
-use Rattle.version_store.specs.StoreWords.{medium_of}
-use Rattle.broker_core.specs.Tasks.{Scripted}
-use Rattle.node_turn.proofs.MediumLemmas.{reopened-none}
 use Rattle.broker_node.proofs.CoreLemmas.{opens-damaged, no-medium}
 use Rattle.broker_node.proofs.cores.BrokerCoreStoredCore.reopen.Goals as goal
 

@@ -1,8 +1,5 @@
-use Rattle.std.proofs.Common.{rules, ◌≡◌, ◌≤◌, ℕ, true, List, [], ◌∷◌, ◌++◌, length, length-append, ap, sym, arith, ◌∙◌, if◌then◌else◌}
+use Rattle.medium_port.proofs.Names.{rules, ◌≡◌, ◌≤◌, ℕ, true, List, [], ◌∷◌, ◌++◌, length, length-append, ap, sym, arith, ◌∙◌, if◌then◌else◌, replicate, Image, with_blanks}
 use Rattle.std.specs.Result.{is_ok}
-use Rattle.std.proofs.Math.ListN.{replicate}
-use Rattle.medium_port.specs.Image.{Image}
-use Rattle.medium_port.specs.HeldPages.{with_blanks}
 use Rattle.medium_port.proofs.Held.{size_with, with_more}
 use Rattle.medium_port.proofs.held_pages.HeldPages.hold.Goals as goal
 

@@ -1,5 +1,4 @@
-use Rattle.std.proofs.Common.{◌≡◌, ◌≤◌, ◌+◌, ◌-◌, length}
-use Rattle.medium_port.specs.HeldPages.{with_blanks}
+use Rattle.medium_port.proofs.Names.{◌≡◌, ◌≤◌, ◌+◌, ◌-◌, length, with_blanks}
 use Rattle.medium_port.proofs.held_pages.HeldPages.hold.Given as goal
 
 -- blank pages are held besides, and nothing that is read changes

@@ -1,6 +1,4 @@
-use Rattle.std.proofs.Common.{sym, subst}
-use Rattle.medium_port.specs.Image.{Image, IsImage, IsBlankImage}
-use Rattle.medium_port.specs.HeldPages.{with_blanks}
+use Rattle.medium_port.proofs.Names.{sym, subst, Image, IsImage, IsBlankImage, with_blanks}
 use Rattle.medium_port.proofs.Held.{blank_with, image_with}
 use Rattle.medium_port.proofs.held_pages.HeldPages.new.Goals as goal
 

@@ -1,6 +1,4 @@
-use Rattle.std.proofs.Common.{ap, arith, ◌∙◌}
-use Rattle.medium_port.specs.Image.{Image, put_bytes}
-use Rattle.medium_port.specs.HeldPages.{HeldParts, with_blanks}
+use Rattle.medium_port.proofs.Names.{ap, arith, ◌∙◌, Image, put_bytes, HeldParts, with_blanks}
 use Rattle.medium_port.proofs.Held.{put_with}
 use Rattle.medium_port.proofs.held_pages.HeldPages.put.Goals as goal
 

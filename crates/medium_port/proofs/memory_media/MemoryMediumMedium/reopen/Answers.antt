@@ -1,5 +1,4 @@
-use Rattle.std.proofs.Common.{refl}
-use Rattle.medium_port.specs.Pasts.{first_disk, events_in}
+use Rattle.medium_port.proofs.Names.{refl, first_disk, events_in}
 use Rattle.medium_port.proofs.Disks.{goes_still}
 use Rattle.medium_port.proofs.memory_media.MemoryMediumMedium.reopen.Goals as goal
 

@@ -1,8 +1,4 @@
-use Rattle.std.proofs.Common.{rules, ◌≡◌, List, subst}
-use Rattle.std.specs.Prelude.{None}
-use Rattle.medium_port.specs.declared.slots.Slot.{Slot}
-use Rattle.medium_port.specs.declared.shelves.MediumName.{MediumName}
-use Rattle.medium_port.specs.Slots.{slot_of}
+use Rattle.medium_port.proofs.Names.{rules, ◌≡◌, List, subst, None, Slot, MediumName, slot_of}
 use Rattle.medium_port.proofs.SlotLemmas.{just_blank}
 use Rattle.medium_port.proofs.memory_shelves.MemoryShelfShelf.take.Goals as goal
 use Rattle.medium_port.proofs.memory_shelves.MemoryShelfShelf.take.Goals.{then-not-contains+in-Some+in_default, then-not-contains+in-None+in_default-make_blank, else-not-contains}

@@ -1,8 +1,4 @@
-use Rattle.std.proofs.Common.{◌≡◌, ◌∙◌, List, sym, subst, rules}
-use Rattle.medium_port.specs.Image.{Image, IsImage}
-use Rattle.std.specs.declared.snapshot.Snapshot.{Snapshot}
-use Rattle.medium_port.specs.Disk.{disk_of, happened, replay, MayLeave}
-use Rattle.medium_port.specs.declared.events.Event.{Event}
+use Rattle.medium_port.proofs.Names.{◌≡◌, ◌∙◌, List, sym, subst, rules, Image, IsImage, Snapshot, disk_of, happened, replay, MayLeave, Event}
 use Rattle.medium_port.proofs.Blanks.{same_image}
 use Rattle.medium_port.proofs.pasts.Past.new.Goals as goal
 

@@ -1,11 +1,4 @@
-use Rattle.std.proofs.Common.{List, sym, ◌∙◌, ap, ℕ, subst}
-use Rattle.std.proofs.lemmas.Bool.Decides.{when_true, when_false}
-use Rattle.medium_port.specs.Image.{Image}
-use Rattle.std.specs.declared.snapshot.Snapshot.{Snapshot}
-use Rattle.medium_port.specs.declared.events.Event.{Event}
-use Rattle.medium_port.specs.declared.events.Event.TheVariants.{Reopened}
-use Rattle.medium_port.specs.Disk.{Disk, replay, happened, Span, Among, SpansFit, spans_of, after_stop, MayLeave}
-use Rattle.medium_port.specs.Pasts.{first_disk, events_in}
+use Rattle.medium_port.proofs.Names.{List, sym, ◌∙◌, ap, ℕ, subst, when_true, when_false, Image, Snapshot, Event, Reopened, Disk, replay, happened, Span, Among, SpansFit, spans_of, after_stop, MayLeave, first_disk, events_in}
 use Rattle.medium_port.proofs.Disks.{sound_reopen, reopen_crash, now_push, left_push, sound_push, goes_push, goes_still}
 use Rattle.medium_port.proofs.pasts.Past.reopen.Goals as goal
 

@@ -1,10 +1,4 @@
-use Rattle.std.proofs.Common.{List, sym, ◌∙◌, ap}
-use Rattle.std.proofs.lemmas.Bool.Decides.{when_true, when_false}
-use Rattle.std.specs.declared.snapshot.Snapshot.{Snapshot}
-use Rattle.medium_port.specs.declared.events.Event.{Event}
-use Rattle.medium_port.specs.declared.events.Event.TheVariants.{Synced}
-use Rattle.medium_port.specs.Disk.{Disk, replay, happened, spans_of}
-use Rattle.medium_port.specs.Pasts.{first_disk, events_in}
+use Rattle.medium_port.proofs.Names.{List, sym, ◌∙◌, ap, when_true, when_false, Snapshot, Event, Synced, Disk, replay, happened, spans_of, first_disk, events_in}
 use Rattle.medium_port.proofs.Disks.{sync_only, sync_crash, sound_sync, now_push, left_push, sound_push, goes_push, goes_still}
 use Rattle.medium_port.proofs.pasts.Past.sync.Goals as goal
 

@@ -1,11 +1,4 @@
-use Rattle.std.proofs.Common.{ℕ, List, refl, sym, ◌∙◌, ap, ◌++◌, [], ◌∷◌, length, subst, arith}
-use Rattle.std.proofs.lemmas.Bool.Decides.{when_true, when_false}
-use Rattle.std.specs.declared.snapshot.Snapshot.{Snapshot}
-use Rattle.medium_port.specs.Image.{Image, put_bytes}
-use Rattle.medium_port.specs.declared.events.Event.{Event}
-use Rattle.medium_port.specs.declared.events.Event.TheVariants.{Wrote}
-use Rattle.medium_port.specs.Disk.{Disk, replay, Span, SpansFit, spans_of, happened, MayLeave}
-use Rattle.medium_port.specs.Pasts.{first_disk, events_in}
+use Rattle.medium_port.proofs.Names.{ℕ, List, refl, sym, ◌∙◌, ap, ◌++◌, [], ◌∷◌, length, subst, arith, when_true, when_false, Snapshot, Image, put_bytes, Event, Wrote, Disk, replay, Span, SpansFit, spans_of, happened, MayLeave, first_disk, events_in}
 use Rattle.medium_port.proofs.Disks.{fit_more, fit_push, torn_self, write_crash, sound_write, now_push, left_push, sound_push, spans-push, goes_push, goes_still}
 use Rattle.medium_port.proofs.pasts.Past.write.Goals as goal
 

@@ -1,7 +1,4 @@
-use Rattle.std.proofs.Common.{subst}
-use Rattle.std.specs.Prelude.{◌↔◌, IsTrue}
-use Rattle.message_core.specs.Flights.{AllEmpty}
-use Rattle.message_core.specs.Parts.{FlightParts, state_of}
+use Rattle.message_core.proofs.Names.{subst, ◌↔◌, IsTrue, AllEmpty, FlightParts, state_of}
 use Rattle.message_core.proofs.TakeLemmas.{empty_seen}
 use Rattle.message_core.proofs.flights.Flight.empty.Goals as goal
 

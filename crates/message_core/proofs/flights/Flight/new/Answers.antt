@@ -1,7 +1,4 @@
-use Rattle.std.proofs.Common.{refl, sym, ap, subst}
-use Rattle.message_core.specs.Flights.{start}
-use Rattle.message_core.specs.Queues.{held_in}
-use Rattle.message_core.specs.Sound.{IsSound}
+use Rattle.message_core.proofs.Names.{refl, sym, ap, subst, start, held_in, IsSound}
 use Rattle.message_core.proofs.StateLemmas.{holds_state}
 use Rattle.message_core.proofs.SoundLemmas.{sound_start}
 use Rattle.message_core.proofs.flights.Flight.new.Goals as goal

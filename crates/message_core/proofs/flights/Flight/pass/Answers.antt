@@ -1,7 +1,4 @@
-use Rattle.std.proofs.Common.{rules, refl, sym, ap, ◌∙◌, subst}
-use Rattle.message_core.specs.Flights.{passed}
-use Rattle.message_core.specs.Parts.{state_of}
-use Rattle.message_core.specs.Sound.{IsSound}
+use Rattle.message_core.proofs.Names.{rules, refl, sym, ap, ◌∙◌, subst, passed, state_of, IsSound}
 use Rattle.message_core.proofs.QueueLemmas.{err_so}
 use Rattle.message_core.proofs.StateLemmas.{now, same_fields, passed_fields}
 use Rattle.message_core.proofs.SoundLemmas.{sound_passed}

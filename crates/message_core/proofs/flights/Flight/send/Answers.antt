@@ -1,9 +1,4 @@
-use Rattle.std.proofs.Common.{◌-◌, ◌++◌, ◌∷◌, [], take, length, refl, sym, ap, ◌∙◌, subst}
-use Rattle.message_form.specs.Messages.{message_bytes}
-use Rattle.message_core.specs.declared.letters.Letter.{Letter}
-use Rattle.message_core.specs.Flights.{next_number, sent}
-use Rattle.message_core.specs.Parts.{state_of, parts_of}
-use Rattle.message_core.specs.Sound.{IsSound}
+use Rattle.message_core.proofs.Names.{◌-◌, ◌++◌, ◌∷◌, [], take, length, refl, sym, ap, ◌∙◌, subst, message_bytes, Letter, next_number, sent, state_of, parts_of, IsSound}
 use Rattle.message_core.proofs.QueueLemmas.{all_but_last}
 use Rattle.message_core.proofs.StateLemmas.{now, same_fields, sent_fields}
 use Rattle.message_core.proofs.SoundLemmas.{sound_sent}

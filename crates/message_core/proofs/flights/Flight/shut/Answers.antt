@@ -1,7 +1,4 @@
-use Rattle.std.proofs.Common.{sym, ap, ◌∙◌, subst}
-use Rattle.message_core.specs.Flights.{was_shut}
-use Rattle.message_core.specs.Parts.{state_of}
-use Rattle.message_core.specs.Sound.{IsSound}
+use Rattle.message_core.proofs.Names.{sym, ap, ◌∙◌, subst, was_shut, state_of, IsSound}
 use Rattle.message_core.proofs.StateLemmas.{now, shut_fields}
 use Rattle.message_core.proofs.SoundLemmas.{sound_shut}
 use Rattle.message_core.proofs.flights.Flight.shut.Goals as goal

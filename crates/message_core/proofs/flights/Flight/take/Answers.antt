@@ -1,10 +1,4 @@
-use Rattle.std.proofs.Common.{◌≡◌, ◌≤◌, [], length, sym, ap, ◌∙◌, subst}
-use Rattle.std.specs.Option.{unwrap_or}
-use Rattle.message_core.specs.Arrivals.{IsFront}
-use Rattle.message_core.specs.Flights.{waiting, taken}
-use Rattle.message_core.specs.Parts.{FlightParts, state_of}
-use Rattle.message_core.specs.Queues.{queue_in}
-use Rattle.message_core.specs.Sound.{IsSound}
+use Rattle.message_core.proofs.Names.{◌≡◌, ◌≤◌, [], length, sym, ap, ◌∙◌, subst, unwrap_or, IsFront, waiting, taken, FlightParts, state_of, queue_in, IsSound}
 use Rattle.message_core.proofs.StateLemmas.{now, none_fields, taken_fields}
 use Rattle.message_core.proofs.SoundLemmas.{sound_taken}
 use Rattle.message_core.proofs.TakeLemmas.{no_front, waiting_is, took_went, within, is_front}

@@ -1,5 +1,4 @@
-use Rattle.std.proofs.Common.{◌∙◌, ap, sym, subst}
-use Rattle.broker_node.specs.TurnNodes.{NodeParts, TurnsTo}
+use Rattle.node_rounds.proofs.Names.{◌∙◌, ap, sym, subst, NodeParts, TurnsTo}
 use Rattle.node_rounds.specs.Kinds.{parts_of}
 use Rattle.node_rounds.proofs.nodes.RunNodeTurnsSharedWire.take_turn.Goals as goal
 

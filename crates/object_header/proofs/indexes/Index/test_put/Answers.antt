@@ -1,6 +1,4 @@
-use Rattle.std.proofs.Common.{◌≡◌, sym, ap, ◌∙◌}
-use Rattle.std.proofs.lemmas.Result.{on_ok_weaker}
-use Rattle.object_header.proofs.Names.{lt, Span}
+use Rattle.object_header.proofs.Names.{lt, Span, ◌≡◌, sym, ap, ◌∙◌, on_ok_weaker}
 use Rattle.object_header.specs.declared.heads.Look.TheVariants as found
 use Rattle.object_header.proofs.PlanLemmas.{rises-look, odd-now}
 use Rattle.object_header.proofs.indexes.Index.test_put.Goals as goal

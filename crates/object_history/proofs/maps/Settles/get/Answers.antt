@@ -1,6 +1,5 @@
-use Rattle.std.proofs.Common.{sym, ap, ◌∙◌}
+use Rattle.object_history.proofs.Names.{sym, ap, ◌∙◌, stamp_cmp-total, stamp_cmp-exact}
 use Rattle.std.specs.FinMap as finite
-use Rattle.pseudo_time.proofs.OrderLemmas.{stamp_cmp-total, stamp_cmp-exact}
 use Rattle.object_history.proofs.MapLemmas.{get-entries_of}
 use Rattle.object_history.proofs.maps.Settles.get.Goals as goal
 

@@ -1,6 +1,5 @@
-use Rattle.std.proofs.Common.{ap, ◌∙◌}
+use Rattle.object_history.proofs.Names.{ap, ◌∙◌, stamp_cmp-total, stamp_cmp-exact}
 use Rattle.std.specs.FinMap as finite
-use Rattle.pseudo_time.proofs.OrderLemmas.{stamp_cmp-total, stamp_cmp-exact}
 use Rattle.object_history.proofs.MapLemmas.{insert-entries_of}
 use Rattle.object_history.proofs.maps.Settles.put.Goals as goal
 

@@ -1,6 +1,4 @@
-use Rattle.std.proofs.Common.{rules, ap, ◌∙◌, subst}
-use Rattle.std.specs.Prelude.{unwrap_or}
-use Rattle.object_history.proofs.Names.{object_cmp, empty_track, with_version}
+use Rattle.object_history.proofs.Names.{object_cmp, empty_track, with_version, rules, ap, ◌∙◌, subst, unwrap_or}
 use Rattle.object_history.proofs.MapLemmas.{Puts}
 use Rattle.object_history.proofs.TrackLemmas.{on_ok, on_err, tracks-put, tracks-same}
 use Rattle.object_history.proofs.maps.Tracks.add.Goals as goal

@@ -1,6 +1,5 @@
-use Rattle.std.proofs.Common.{sym, ap, ◌∙◌}
+use Rattle.object_history.proofs.Names.{sym, ap, ◌∙◌, object_cmp-total, object_cmp-exact}
 use Rattle.std.specs.FinMap as finite
-use Rattle.value_form.proofs.ObjectLemmas.{object_cmp-total, object_cmp-exact}
 use Rattle.object_history.proofs.MapLemmas.{get-entries_of}
 use Rattle.object_history.proofs.maps.Tracks.get.Goals as goal
 

@@ -1,6 +1,4 @@
-use Rattle.std.proofs.Common.{rules, ap, ◌∙◌, subst}
-use Rattle.std.specs.Prelude.{unwrap_or}
-use Rattle.object_history.proofs.Names.{object_cmp, empty_track, with_end}
+use Rattle.object_history.proofs.Names.{object_cmp, empty_track, with_end, rules, ap, ◌∙◌, subst, unwrap_or}
 use Rattle.object_history.proofs.MapLemmas.{Puts}
 use Rattle.object_history.proofs.TrackLemmas.{tracks-put}
 use Rattle.object_history.proofs.maps.Tracks.stretch.Goals as goal

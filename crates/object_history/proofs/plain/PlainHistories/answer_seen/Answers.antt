@@ -1,5 +1,4 @@
-use Rattle.std.proofs.Common.{subst, ◌∙◌, ap}
-use Rattle.object_history.proofs.Names.{value_of, AreMarks}
+use Rattle.object_history.proofs.Names.{value_of, AreMarks, subst, ◌∙◌, ap}
 use Rattle.object_history.proofs.LookLemmas.{value-in_range}
 use Rattle.object_history.proofs.plain.PlainHistories.answer_seen.Goals as goal
 

@@ -1,6 +1,4 @@
-use Rattle.std.proofs.Common.{rules, ◌≡◌, reverse, sym, ap, ◌∙◌, ◌&&◌}
-use Rattle.std.specs.Option.{option_copied}
-use Rattle.object_history.proofs.Names.{same_value, some_version, value_under, rising}
+use Rattle.object_history.proofs.Names.{same_value, some_version, value_under, rising, rules, ◌≡◌, reverse, sym, ap, ◌∙◌, ◌&&◌, option_copied}
 use Rattle.object_history.proofs.LookLemmas.{is_written, some-step, some-found, some-done, put-some, put-none}
 use Rattle.object_history.proofs.RisingLemmas.{written-done, rising-step}
 use Rattle.object_history.proofs.plain.PlainHistories.has_put.Goals as goal

@@ -1,5 +1,4 @@
-use Rattle.std.proofs.Common.{◌≡◌, true, reverse}
-use Rattle.object_history.specs.Kept.{some_version, rising}
+use Rattle.object_history.proofs.Names.{◌≡◌, true, reverse, some_version, rising}
 use Rattle.object_history.proofs.LookLemmas.{is_written}
 use Rattle.object_history.proofs.plain.PlainHistories.has_put.Given as goal
 

@@ -1,5 +1,4 @@
-use Rattle.std.proofs.Common.{sym, ap, ◌∙◌}
-use Rattle.std.specs.Option.{option_copied}
+use Rattle.object_history.proofs.Names.{sym, ap, ◌∙◌, option_copied}
 use Rattle.object_history.proofs.LookLemmas.{over-some, over-none}
 use Rattle.object_history.proofs.plain.PlainHistories.settled_over.Goals as goal
 

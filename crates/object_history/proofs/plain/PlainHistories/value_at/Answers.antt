@@ -1,8 +1,4 @@
-use Rattle.std.proofs.Common.{arith, sym, ap, ◌∙◌, ◌≡◌}
-use Rattle.std.specs.Option.{option_copied}
-use Rattle.std.specs.Prelude.{unwrap_or}
-use Rattle.std.proofs.Common.{slice_index_or}
-use Rattle.object_history.proofs.Names.{Nothing, Mark}
+use Rattle.object_history.proofs.Names.{Nothing, Mark, arith, sym, ap, ◌∙◌, ◌≡◌, option_copied, unwrap_or, slice_index_or}
 use Rattle.object_history.proofs.LookLemmas.{value-at, value_found}
 use Rattle.object_history.proofs.plain.PlainHistories.value_at.Goals as goal
 

@@ -1,5 +1,4 @@
-use Rattle.std.proofs.Common.{reverse, sym, ap, ◌∙◌, None}
-use Rattle.object_history.proofs.Names.{Version, tops}
+use Rattle.object_history.proofs.Names.{Version, tops, reverse, sym, ap, ◌∙◌, None}
 use Rattle.object_history.proofs.RisingLemmas.{rising-on, rising-off}
 use Rattle.object_history.proofs.versions.Track.add.Goals as goal
 use Rattle.object_history.proofs.versions.Track.add.Goals.{then-self, else-self}

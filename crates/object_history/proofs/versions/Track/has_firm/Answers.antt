@@ -1,5 +1,4 @@
-use Rattle.std.proofs.Common.{rules, ◌≡◌, reverse, sym, ap, ◌∙◌}
-use Rattle.object_history.proofs.Names.{is_firm, some_version, rising, Version}
+use Rattle.object_history.proofs.Names.{is_firm, some_version, rising, Version, rules, ◌≡◌, reverse, sym, ap, ◌∙◌}
 use Rattle.object_history.proofs.LookLemmas.{some-step, some-found, some-done}
 use Rattle.object_history.proofs.RisingLemmas.{firm-done, rising-step}
 use Rattle.object_history.proofs.versions.Track.has_firm.Goals as goal

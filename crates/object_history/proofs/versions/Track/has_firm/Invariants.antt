@@ -1,5 +1,4 @@
-use Rattle.std.proofs.Common.{◌≡◌, true, reverse}
-use Rattle.object_history.specs.Kept.{is_firm, some_version, rising}
+use Rattle.object_history.proofs.Names.{◌≡◌, true, reverse, is_firm, some_version, rising}
 use Rattle.object_history.proofs.versions.Track.has_firm.Given as goal
 
 -- none of the versions so far passes, and those that are left rise where all do

@@ -1,5 +1,4 @@
-use Rattle.std.proofs.Common.{reverse, sym, ap}
-use Rattle.object_history.specs.Kept.{rising}
+use Rattle.object_history.proofs.Names.{reverse, sym, ap, rising}
 use Rattle.object_history.proofs.versions.Track.new.Goals as goal
 
 pub invariant_of-result : goal.invariant_of-result

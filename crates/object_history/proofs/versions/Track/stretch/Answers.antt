@@ -1,5 +1,4 @@
-use Rattle.std.proofs.Common.{reverse, refl, sym, ap, ◌∙◌, subst, length, ◌<◌, ◌≤◌}
-use Rattle.object_history.specs.Kept.{TrackParts, rising}
+use Rattle.object_history.proofs.Names.{reverse, refl, sym, ap, ◌∙◌, subst, length, ◌<◌, ◌≤◌, TrackParts, rising}
 use Rattle.object_history.proofs.RisingLemmas.{rising-end}
 use Rattle.object_history.proofs.TrackLemmas.{track-ended, track-kept}
 use Rattle.object_history.proofs.versions.Track.stretch.Goals as goal

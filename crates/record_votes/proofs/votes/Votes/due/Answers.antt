@@ -1,8 +1,4 @@
-use Rattle.std.proofs.Common.{ap, ◌∙◌}
-use Rattle.commit_record.specs.States.{expiry}
-use Rattle.repository_log.specs.Logs.{record_of}
-use Rattle.repository_log.proofs.ExpiryLemmas.{expiries-are}
-use Rattle.record_votes.specs.Members.{book}
+use Rattle.record_votes.proofs.Names.{ap, ◌∙◌, expiry, record_of, expiries-are, book}
 use Rattle.record_votes.proofs.votes.Votes.due.Goals as goal
 
 pub returns : goal.returns

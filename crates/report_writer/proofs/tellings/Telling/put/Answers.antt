@@ -1,5 +1,4 @@
-use Rattle.std.proofs.Common.{◌∙◌, ap}
-use Rattle.report_writer.specs.Tellings.{count_above}
+use Rattle.report_writer.proofs.Names.{◌∙◌, ap, count_above}
 use Rattle.report_writer.proofs.TellingLemmas.{holds-put}
 use Rattle.report_writer.proofs.tellings.Telling.put.Goals as goal
 

@@ -1,8 +1,5 @@
-use Rattle.std.proofs.Common.{sym, subst, ◌++◌}
-use Rattle.std.specs.Option.{option_to_list}
+use Rattle.report_writer.proofs.Names.{sym, subst, ◌++◌, option_to_list, mark_of, marks, Tells}
 use Rattle.effect_form.specs.declared.effects.Effect.{Effect}
-use Rattle.repository_log.specs.Logs.{mark_of, marks}
-use Rattle.report_writer.specs.Tellings.{Tells}
 use Rattle.report_writer.proofs.TellingLemmas.{holds-other, holds-apart, holds-floor, other-object}
 use Rattle.report_writer.proofs.tellings.Telling.read.Goals as goal
 

@@ -1,6 +1,4 @@
-use Rattle.std.proofs.Common.{◌∙◌, ◌<◌, List, length, ap, subst, sym}
-use Rattle.report_writer.specs.Tellings.{is_visible, first_place}
-use Rattle.report_writer.specs.declared.versions.Version.{Version}
+use Rattle.report_writer.proofs.Names.{◌∙◌, ◌<◌, List, length, ap, subst, sym, is_visible, first_place, Version}
 use Rattle.report_writer.proofs.TellingLemmas.{holds-seen, holds-unseen, raised-set}
 use Rattle.report_writer.proofs.tellings.Telling.stretch.Goals as goal
 

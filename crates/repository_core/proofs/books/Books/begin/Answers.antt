@@ -1,9 +1,6 @@
-use Rattle.std.proofs.Common.{[], sym, ap, ◌∙◌}
+use Rattle.repository_core.proofs.Names.{[], sym, ap, ◌∙◌, began, restored, agree-begin}
 use Rattle.commit_record.specs.States.{begun}
-use Rattle.repository_log.specs.Logs.{began}
-use Rattle.repository_log.specs.Lookups.{restored}
 use Rattle.repository_core.proofs.BookLemmas.{agree-same}
-use Rattle.repository_log.proofs.AgreeLemmas.{agree-begin}
 use Rattle.repository_core.proofs.books.Books.begin.Goals as goal
 
 pub returns-in-New-clause-agree : goal.returns-in-New-clause-agree

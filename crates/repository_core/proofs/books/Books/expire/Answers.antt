@@ -1,9 +1,6 @@
-use Rattle.std.proofs.Common.{◌∷◌, ap, ◌∙◌}
-use Rattle.object_history.specs.declared.marks.Mark.TheVariants.{Settle}
+use Rattle.repository_core.proofs.Names.{◌∷◌, ap, ◌∙◌, Settle, is_commit, agree-expire}
 use Rattle.effect_form.specs.declared.effects.Effect.TheVariants as effect
-use Rattle.repository_log.specs.Logs.{is_commit}
 use Rattle.repository_core.proofs.BookLemmas.{agree-same}
-use Rattle.repository_log.proofs.AgreeLemmas.{agree-expire}
 use Rattle.repository_core.proofs.books.Books.expire.Goals as goal
 
 pub returns-clause-agree : goal.returns-clause-agree

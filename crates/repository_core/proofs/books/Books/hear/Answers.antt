@@ -1,6 +1,4 @@
-use Rattle.std.proofs.Common.{ap, ◌∙◌}
-use Rattle.commit_record.specs.States.{expiry}
-use Rattle.repository_log.proofs.ExpiryLemmas.{expiries-are}
+use Rattle.repository_core.proofs.Names.{ap, ◌∙◌, expiry, expiries-are}
 use Rattle.repository_core.proofs.books.Books.hear.Goals as goal
 
 pub returns-clause-due : goal.returns-clause-due

@@ -1,7 +1,4 @@
-use Rattle.std.proofs.Common.{List, subst, sym}
-use Rattle.object_history.specs.declared.marks.Mark.{Mark}
-use Rattle.repository_core.specs.Logs.{read_by}
-use Rattle.repository_log.specs.Lookups.{BooksShow}
+use Rattle.repository_core.proofs.Names.{List, subst, sym, Mark, read_by, BooksShow}
 use Rattle.repository_core.proofs.BookLemmas.{since_read, agree-read}
 use Rattle.repository_core.proofs.books.Books.read.Goals as goal
 

@@ -1,5 +1,4 @@
-use Rattle.std.proofs.Common.{◌≡◌}
-use Rattle.repository_core.specs.Hearing.{asks}
+use Rattle.repository_core.proofs.Names.{◌≡◌, asks}
 use Rattle.repository_core.proofs.drafts.Draft.ask_again.Given as goal
 
 -- those that are left give what all give from before

@@ -1,9 +1,5 @@
-use Rattle.std.proofs.Common.{ap, ◌∙◌, rules}
-use Rattle.std.specs.Prelude.{not}
-use Rattle.std.specs.List.{filter}
+use Rattle.repository_core.proofs.Names.{ap, ◌∙◌, rules, not, filter, same_stamp, the_view}
 use Rattle.std.proofs.lemmas.Fn.{filter_same}
-use Rattle.pseudo_time.specs.Order.{same_stamp}
-use Rattle.repository_core.specs.contracts.drafts.Draft.{the_view}
 use Rattle.repository_core.proofs.HeldLemmas.{with_askers}
 use Rattle.repository_core.proofs.drafts.Draft.forget_asking.Goals as goal
 

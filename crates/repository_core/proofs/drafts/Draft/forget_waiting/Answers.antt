@@ -1,11 +1,5 @@
-use Rattle.std.proofs.Common.{subst, sym, ap, ◌∙◌, rules}
-use Rattle.std.specs.Prelude.{not}
-use Rattle.std.specs.List.{filter}
+use Rattle.repository_core.proofs.Names.{subst, sym, ap, ◌∙◌, rules, not, filter, same_stamp, IsObject, AreHeld, the_view}
 use Rattle.std.proofs.lemmas.Map.Made.{filter_same_pairs}
-use Rattle.pseudo_time.specs.Order.{same_stamp}
-use Rattle.value_form.specs.ObjectBytes.{IsObject}
-use Rattle.repository_core.specs.Ranges.{AreHeld}
-use Rattle.repository_core.specs.contracts.drafts.Draft.{the_view}
 use Rattle.repository_core.proofs.HeldLemmas.{every-filter, with_held}
 use Rattle.repository_core.proofs.drafts.Draft.forget_waiting.Goals as goal
 

@@ -1,8 +1,4 @@
-use Rattle.std.proofs.Common.{subst, sym}
-use Rattle.value_form.specs.ObjectBytes.{IsObject}
-use Rattle.pseudo_time.specs.TimeParts.{time_cmp}
-use Rattle.repository_core.specs.declared.waits.HeldRead.{HeldRead}
-use Rattle.repository_core.specs.Ranges.{AreHeld}
+use Rattle.repository_core.proofs.Names.{subst, sym, IsObject, time_cmp, HeldRead, AreHeld}
 use Rattle.repository_core.proofs.HeldLemmas.{every-insert}
 use Rattle.repository_core.proofs.drafts.Draft.keep.Goals as goal
 

@@ -1,7 +1,4 @@
-use Rattle.std.proofs.Common.{◌≡◌, subst, sym}
-use Rattle.std.specs.Prelude.{OnOk}
-use Rattle.object_history.specs.declared.steps.ReadStep.{ReadStep}
-use Rattle.repository_core.specs.Rows.{unhold, read_as}
+use Rattle.repository_core.proofs.Names.{◌≡◌, subst, sym, OnOk, ReadStep, unhold, read_as}
 use Rattle.repository_core.proofs.drafts.Draft.read_as.Goals as goal
 
 pub returns-in-Answer : goal.returns-in-Answer

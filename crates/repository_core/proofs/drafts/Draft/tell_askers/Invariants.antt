@@ -1,5 +1,4 @@
-use Rattle.std.proofs.Common.{◌≡◌, drop}
-use Rattle.repository_core.specs.Rows.{tells}
+use Rattle.repository_core.proofs.Names.{◌≡◌, drop, tells}
 use Rattle.repository_core.proofs.drafts.Draft.tell_askers.Given as goal
 
 -- those that are left give what all give from before

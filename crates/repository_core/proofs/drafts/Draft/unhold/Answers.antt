@@ -1,6 +1,4 @@
-use Rattle.std.proofs.Common.{subst, sym}
-use Rattle.value_form.specs.ObjectBytes.{IsObject}
-use Rattle.repository_core.specs.Ranges.{AreHeld}
+use Rattle.repository_core.proofs.Names.{subst, sym, IsObject, AreHeld}
 use Rattle.repository_core.proofs.HeldLemmas.{every-remove}
 use Rattle.repository_core.proofs.drafts.Draft.unhold.Goals as goal
 

@@ -1,5 +1,4 @@
-use Rattle.std.proofs.Common.{◌≡◌, []}
-use Rattle.repository_core.specs.Hearing.{waited}
+use Rattle.repository_core.proofs.Names.{◌≡◌, [], waited}
 use Rattle.repository_core.proofs.drafts.Draft.waited.Given as goal
 
 -- those that are left are added to those so far

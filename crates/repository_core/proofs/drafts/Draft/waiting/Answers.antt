@@ -1,9 +1,5 @@
-use Rattle.std.proofs.Common.{◌≡◌, subst, sym}
-use Rattle.std.specs.List.{filter}
-use Rattle.pseudo_time.specs.Order.{same_stamp}
+use Rattle.repository_core.proofs.Names.{◌≡◌, subst, sym, filter, same_stamp, IsObject, AreHeld}
 use Rattle.pseudo_time.proofs.ListLemmas.{every-left}
-use Rattle.value_form.specs.ObjectBytes.{IsObject}
-use Rattle.repository_core.specs.Ranges.{AreHeld}
 use Rattle.repository_core.proofs.HeldLemmas.{every-filter}
 use Rattle.repository_core.proofs.drafts.Draft.waiting.Goals as goal
 

@@ -1,6 +1,4 @@
-use Rattle.std.proofs.Common.{◌≡◌, ◌++◌}
-use Rattle.std.specs.List.{filter}
-use Rattle.pseudo_time.specs.Order.{same_stamp}
+use Rattle.repository_core.proofs.Names.{◌≡◌, ◌++◌, filter, same_stamp}
 use Rattle.repository_core.proofs.drafts.Draft.waiting.Given as goal
 
 -- those so far and those that are left

@@ -1,5 +1,4 @@
-use Rattle.std.proofs.Common.{◌≡◌}
-use Rattle.repository_core.specs.Rows.{waits_for}
+use Rattle.repository_core.proofs.Names.{◌≡◌, waits_for}
 use Rattle.repository_core.proofs.drafts.Draft.waits_for.Given as goal
 
 -- none so far waits for it

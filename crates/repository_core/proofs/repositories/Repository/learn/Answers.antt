@@ -1,6 +1,4 @@
-use Rattle.std.proofs.Common.{ap, ◌∙◌}
-use Rattle.repository_core.specs.Cores.{Core}
-use Rattle.repository_core.specs.Turns.{gives, Learning}
+use Rattle.repository_core.proofs.Names.{ap, ◌∙◌, Core, gives, Learning}
 use Rattle.repository_core.proofs.TurnLemmas.{gives-is, begins-agreed}
 use Rattle.repository_core.proofs.repositories.Repository.learn.Goals as goal
 

@@ -1,10 +1,5 @@
-use Rattle.std.proofs.Common.{List, [], subst, sym, ap, ◌∙◌}
-use Rattle.effect_form.specs.declared.effects.Effect.{Effect}
+use Rattle.repository_core.proofs.Names.{List, [], subst, sym, ap, ◌∙◌, Effect, AgreeBut, Hand, now, send, is_commit, release, tell_askers}
 use Rattle.message_form.specs.declared.messages.Message.TheVariants as message
-use Rattle.repository_core.specs.Accounts.{AgreeBut}
-use Rattle.repository_core.specs.Hands.{Hand, now, send}
-use Rattle.repository_log.specs.Logs.{is_commit}
-use Rattle.repository_core.specs.Rows.{release, tell_askers}
 use Rattle.repository_core.proofs.RowLemmas.{tell-now, tell-log}
 use Rattle.repository_core.proofs.works.Work.close.Goals as goal
 

@@ -1,14 +1,5 @@
-use Rattle.std.proofs.Common.{◌≡◌, ◌∷◌, false, List, subst, sym, ap, ◌∙◌}
-use Rattle.std.specs.Prelude.{None}
-use Rattle.pseudo_time.specs.StampParts.{StampParts}
-use Rattle.pseudo_time.specs.declared.decisions.Decision.{Decision}
-use Rattle.effect_form.specs.declared.effects.Effect.{Effect}
+use Rattle.repository_core.proofs.Names.{◌≡◌, ◌∷◌, false, List, subst, sym, ap, ◌∙◌, None, StampParts, Decision, Effect, listed_at, AgreeBut, Hand, now, note, record_of, IsUnknown, release}
 use Rattle.effect_form.specs.declared.effects.Effect.TheVariants as effect
-use Rattle.commit_record.specs.States.{listed_at}
-use Rattle.repository_core.specs.Accounts.{AgreeBut}
-use Rattle.repository_core.specs.Hands.{Hand, now, note}
-use Rattle.repository_log.specs.Logs.{record_of, IsUnknown}
-use Rattle.repository_core.specs.Rows.{release}
 use Rattle.repository_core.proofs.RowLemmas.{tell-now, tell-log}
 use Rattle.repository_core.proofs.works.Work.expire.Goals as goal
 

@@ -1,12 +1,4 @@
-use Rattle.std.proofs.Common.{◌≡◌, ◌+◌, List, drop, refl, subst, sym, ap, ◌∙◌}
-use Rattle.pseudo_time.specs.StampParts.{StampParts}
-use Rattle.pseudo_time.specs.declared.decisions.Decision.{Decision}
-use Rattle.pseudo_time.specs.Lists.{Every}
-use Rattle.object_history.specs.History.{settle_of}
-use Rattle.repository_core.specs.Accounts.{AgreeBut}
-use Rattle.repository_core.specs.Hands.{now}
-use Rattle.repository_core.specs.Hearing.{expired}
-use Rattle.repository_log.specs.Expiries.{expiries}
+use Rattle.repository_core.proofs.Names.{◌≡◌, ◌+◌, List, drop, refl, subst, sym, ap, ◌∙◌, StampParts, Decision, Every, settle_of, AgreeBut, now, expired, expiries}
 use Rattle.repository_core.proofs.BookLemmas.{since_same}
 use Rattle.repository_core.proofs.HearLemmas.{IsPending, Apart, expiries-pending, expiries-apart, still-pending, next-is, listed-apart, pending-unknown, pending-unsettled}
 use Rattle.repository_core.proofs.works.Work.expire_all.Goals as goal

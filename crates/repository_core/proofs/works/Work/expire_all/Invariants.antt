@@ -1,9 +1,4 @@
-use Rattle.std.proofs.Common.{◌≡◌, drop}
-use Rattle.std.specs.Prelude.{IsTrue}
-use Rattle.pseudo_time.specs.Lists.{Every}
-use Rattle.repository_core.specs.Accounts.{AgreeBut, AreSince, AreOfOneCall}
-use Rattle.repository_core.specs.Hands.{now, HasSameLog}
-use Rattle.repository_core.specs.Hearing.{expired}
+use Rattle.repository_core.proofs.Names.{◌≡◌, drop, IsTrue, Every, AgreeBut, AreSince, AreOfOneCall, now, HasSameLog, expired}
 use Rattle.repository_core.proofs.HearLemmas.{IsPending, Apart}
 use Rattle.repository_core.proofs.works.Work.expire_all.Given as goal
 

@@ -1,8 +1,4 @@
-use Rattle.std.proofs.Common.{sym, ap, ◌∙◌}
-use Rattle.std.specs.Prelude.{Some}
-use Rattle.object_history.specs.History.{settle_of}
-use Rattle.repository_core.specs.Hands.{now}
-use Rattle.repository_log.proofs.LogLemmas.{unknown-unsettled}
+use Rattle.repository_core.proofs.Names.{sym, ap, ◌∙◌, Some, settle_of, now, unknown-unsettled}
 use Rattle.repository_core.proofs.works.Work.on_close.Goals as goal
 
 pub close-requires-clause-unsettled : goal.close-requires-clause-unsettled

@@ -1,6 +1,4 @@
-use Rattle.std.proofs.Common.{[], sym, ap, ◌∙◌}
-use Rattle.repository_core.specs.Hands.{now}
-use Rattle.repository_core.specs.Rows.{release}
+use Rattle.repository_core.proofs.Names.{[], sym, ap, ◌∙◌, now, release}
 use Rattle.repository_core.proofs.RowLemmas.{on-learn-none}
 use Rattle.repository_core.proofs.works.Work.on_learn.Goals as goal
 

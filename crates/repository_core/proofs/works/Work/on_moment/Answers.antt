@@ -1,9 +1,4 @@
-use Rattle.std.proofs.Common.{List, [], subst, sym, ap, ◌∙◌}
-use Rattle.effect_form.specs.declared.effects.Effect.{Effect}
-use Rattle.repository_core.specs.Accounts.{AgreeBut}
-use Rattle.repository_core.specs.Hands.{Hand, now}
-use Rattle.repository_core.specs.Hearing.{expired, ask_again}
-use Rattle.repository_log.specs.Expiries.{expiries}
+use Rattle.repository_core.proofs.Names.{List, [], subst, sym, ap, ◌∙◌, Effect, AgreeBut, Hand, now, expired, ask_again, expiries}
 use Rattle.repository_core.proofs.HearLemmas.{again-now, again-log, hearing-listed}
 use Rattle.repository_core.proofs.works.Work.on_moment.Goals as goal
 

@@ -1,7 +1,4 @@
-use Rattle.std.proofs.Common.{sym, ap, ◌∙◌}
-use Rattle.std.specs.Prelude.{Some}
-use Rattle.repository_core.specs.Hands.{now}
-use Rattle.repository_log.specs.Logs.{known}
+use Rattle.repository_core.proofs.Names.{sym, ap, ◌∙◌, Some, now, known}
 use Rattle.repository_core.proofs.RowLemmas.{on-read-known, on-read-none}
 use Rattle.repository_core.proofs.works.Work.on_read.Goals as goal
 

@@ -1,8 +1,4 @@
-use Rattle.std.proofs.Common.{List, subst, sym, ap, ◌∙◌}
-use Rattle.effect_form.specs.declared.effects.Effect.{Effect}
-use Rattle.repository_core.specs.Accounts.{AgreeBut}
-use Rattle.repository_core.specs.Hands.{now}
-use Rattle.repository_log.specs.Logs.{HasSameRecords}
+use Rattle.repository_core.proofs.Names.{List, subst, sym, ap, ◌∙◌, Effect, AgreeBut, now, HasSameRecords}
 use Rattle.repository_core.proofs.RowLemmas.{now-read, record-by}
 use Rattle.repository_core.proofs.works.Work.read.Goals as goal
 

@@ -1,12 +1,4 @@
-use Rattle.std.proofs.Common.{◌≡◌, List, drop}
-use Rattle.std.specs.Prelude.{IsTrue}
-use Rattle.pseudo_time.specs.StampParts.{StampParts}
-use Rattle.pseudo_time.specs.declared.decisions.Decision.{Decision}
-use Rattle.repository_core.specs.Accounts.{AgreeBut, AreSince, AreOfOneCall}
-use Rattle.repository_log.specs.Logs.{HasSameRecords}
-use Rattle.repository_core.specs.Hands.{now, HasSameLog}
-use Rattle.repository_core.specs.Ranges.{AreHeld}
-use Rattle.repository_core.specs.Rows.{reread}
+use Rattle.repository_core.proofs.Names.{◌≡◌, List, drop, IsTrue, StampParts, Decision, AgreeBut, AreSince, AreOfOneCall, HasSameRecords, now, HasSameLog, AreHeld, reread}
 use Rattle.repository_core.proofs.works.Work.release.Given as goal
 
 -- those that are left give what all give from before

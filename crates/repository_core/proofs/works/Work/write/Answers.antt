@@ -1,8 +1,4 @@
-use Rattle.std.proofs.Common.{List, [], subst, sym, ap, ◌∙◌}
-use Rattle.effect_form.specs.declared.effects.Effect.{Effect}
-use Rattle.repository_core.specs.Accounts.{AgreeBut}
-use Rattle.repository_core.specs.Hands.{now}
-use Rattle.repository_core.specs.Logs.{wrote}
+use Rattle.repository_core.proofs.Names.{List, [], subst, sym, ap, ◌∙◌, Effect, AgreeBut, now, wrote}
 use Rattle.repository_core.proofs.RowLemmas.{now-write}
 use Rattle.repository_core.proofs.works.Work.write.Goals as goal
 

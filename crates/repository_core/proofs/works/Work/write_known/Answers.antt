@@ -1,8 +1,5 @@
-use Rattle.std.proofs.Common.{List, [], subst, sym, ap, ◌∙◌}
-use Rattle.effect_form.specs.declared.effects.Effect.{Effect}
+use Rattle.repository_core.proofs.Names.{List, [], subst, sym, ap, ◌∙◌, Effect, AgreeBut, Hand, now, HasSameLog}
 use Rattle.object_history.specs.declared.steps.WriteStep.TheVariants.{Again}
-use Rattle.repository_core.specs.Accounts.{AgreeBut}
-use Rattle.repository_core.specs.Hands.{Hand, now, HasSameLog}
 use Rattle.repository_core.proofs.RowLemmas.{now-known, log-known}
 use Rattle.repository_core.proofs.works.Work.write_known.Goals as goal
 

@@ -1,16 +1,7 @@
-use Rattle.std.proofs.Common.{◌≡◌, true, not, refl, ap, sym, subst, ◌∙◌, ◌++◌, Ok}
-use Rattle.std.proofs.lemmas.List.{append-nil}
-use Rattle.pseudo_time.specs.Nodes.{repository}
-use Rattle.medium_port.specs.Moment.{LeavesOnly}
+use Rattle.repository_node.proofs.Names.{◌≡◌, true, not, refl, ap, sym, subst, ◌∙◌, ◌++◌, Ok, append-nil, repository, LeavesOnly, medium_of, HasMarks, content, ledger_of, store_of, AppendsTo, appended, appends-all, appends-none, is_able, medium_in, HasLife, HasMarksOfLog, Owes}
 use Rattle.version_store.specs.Filling.{HasPrefix, KeepsPages}
-use Rattle.version_store.specs.StoreWords.{medium_of}
 use Rattle.version_store.proofs.StoreLemmas.{images_left}
-use Rattle.repository_log.specs.Logs.{HasMarks}
-use Rattle.object_header.specs.Ledgers.{content}
-use Rattle.object_header.specs.Tables.{ledger_of, store_of}
 use Rattle.object_header.proofs.LedgerLemmas.{late-of_log}
-use Rattle.node_turn.proofs.MediumLemmas.{AppendsTo, appended, appends-all, appends-none}
-use Rattle.repository_node.specs.KeptCores.{is_able, medium_in, HasLife, HasMarksOfLog, Owes}
 use Rattle.repository_node.proofs.CoreLemmas.{joined, joined-repository, parted}
 use Rattle.repository_node.proofs.cores.RepositoryCoreStoredCore.append.Goals as goal
 

@@ -1,7 +1,4 @@
-use Rattle.std.proofs.Common.{subst, ap, ◌∙◌, is_some}
-use Rattle.pseudo_time.specs.Nodes.{repository}
-use Rattle.world_core.specs.Walks.{all_effects}
-use Rattle.repository_node.specs.KeptCores.{HasLife}
+use Rattle.repository_node.proofs.Names.{subst, ap, ◌∙◌, is_some, repository, all_effects, HasLife}
 use Rattle.repository_node.proofs.CoreLemmas.{knows-asked}
 use Rattle.repository_node.proofs.cores.RepositoryCoreStoredCore.knows.Goals as goal
 

@@ -1,14 +1,5 @@
-use Rattle.std.proofs.Common.{◌≤◌, IsTrue, refl, ap, sym, subst, ◌∙◌}
-use Rattle.stream_port.specs.Causes.{Rose}
-use Rattle.pseudo_time.specs.Nodes.{repository}
-use Rattle.medium_port.specs.Image.{NoMore}
-use Rattle.version_store.specs.StoreWords.{medium_of}
-use Rattle.object_header.specs.Ledgers.{BeneathParts}
-use Rattle.object_header.specs.Tables.{ledger_of, store_of}
+use Rattle.repository_node.proofs.Names.{◌≤◌, IsTrue, refl, ap, sym, subst, ◌∙◌, Rose, repository, NoMore, medium_of, BeneathParts, ledger_of, store_of, Learning, none-new, medium_in, HasLife, Owes}
 use Rattle.repository_core.specs.Turns as turns
-use Rattle.world_core.specs.Nodes.Input.{Learning}
-use Rattle.node_turn.proofs.MediumLemmas.{none-new}
-use Rattle.repository_node.specs.KeptCores.{medium_in, HasLife, Owes}
 use Rattle.repository_node.proofs.CoreLemmas.{able-called, gave-repository, owed-more, told-same}
 use Rattle.repository_node.proofs.cores.RepositoryCoreStoredCore.learn.Goals as goal
 

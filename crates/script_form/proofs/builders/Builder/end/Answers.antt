@@ -1,7 +1,4 @@
-use Rattle.std.proofs.Common.{◌≡◌, ◌∙◌, sym, subst}
-use Rattle.value_form.specs.Mirror.{Block}
-use Rattle.script_form.specs.Building.{rows_so_far}
-use Rattle.script_form.specs.Rows.{rows}
+use Rattle.script_form.proofs.Names.{◌≡◌, ◌∙◌, sym, subst, Block, rows_so_far, rows}
 use Rattle.script_form.proofs.BeginLemmas.{ended_depth, ended_open}
 use Rattle.script_form.proofs.builders.Builder.end.Goals as goal
 

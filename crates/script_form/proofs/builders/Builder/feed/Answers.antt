@@ -1,7 +1,4 @@
-use Rattle.std.proofs.Common.{Ok, subst}
-use Rattle.script_form.specs.Fed.{Fed}
-use Rattle.script_form.specs.Flats.{row_of}
-use Rattle.script_form.specs.Rows.{on}
+use Rattle.script_form.proofs.Names.{Ok, subst, Fed, row_of, on}
 use Rattle.script_form.proofs.BeginLemmas.{fed_ok, fed_handed}
 use Rattle.script_form.proofs.builders.Builder.feed.Goals as goal
 

@@ -1,6 +1,4 @@
-use Rattle.std.proofs.Common.{sym, subst, ◌∙◌}
-use Rattle.std.specs.Prelude.{Err}
-use Rattle.script_form.specs.Feeds.{FeedsLine}
+use Rattle.script_form.proofs.Names.{sym, subst, ◌∙◌, Err, FeedsLine}
 use Rattle.script_form.proofs.FeedLemmas.{passed_feeds, no_row_feeds}
 use Rattle.script_form.proofs.readers.ScriptReader.feed.Goals as goal
 

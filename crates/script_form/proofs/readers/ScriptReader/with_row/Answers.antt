@@ -1,9 +1,4 @@
-use Rattle.std.proofs.Common.{◌≡◌, ◌+◌, ◌-◌, ◌≤◌, ap, ◌∙◌, sym, subst}
-use Rattle.std.specs.Prelude.{SomeIff, Err}
-use Rattle.script_form.specs.Fed.{Fed}
-use Rattle.script_form.specs.Rows.{on}
-use Rattle.script_form.specs.Flats.{row_of}
-use Rattle.script_form.specs.Feeds.{FeedsLine}
+use Rattle.script_form.proofs.Names.{◌≡◌, ◌+◌, ◌-◌, ◌≤◌, ap, ◌∙◌, sym, subst, SomeIff, Err, Fed, on, row_of, FeedsLine}
 use Rattle.script_form.proofs.FeedLemmas.{placed_feeds, block_feeds, size_with_row}
 use Rattle.script_form.proofs.readers.ScriptReader.with_row.Goals as goal
 

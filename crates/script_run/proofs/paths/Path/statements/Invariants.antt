@@ -1,5 +1,4 @@
-use Rattle.std.proofs.Common.{◌≡◌, take}
-use Rattle.std.specs.Prelude.{reverse}
+use Rattle.script_run.proofs.Names.{◌≡◌, take, reverse}
 use Rattle.script_run.specs.Standings as spec
 use Rattle.script_run.proofs.paths.Path.statements.Given as goal
 

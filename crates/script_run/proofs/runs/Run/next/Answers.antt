@@ -1,5 +1,4 @@
-use Rattle.std.proofs.Common.{sym, subst}
-use Rattle.script_run.specs.RunParts.{Tells}
+use Rattle.script_run.proofs.Names.{sym, subst, Tells}
 use Rattle.script_run.proofs.RunLemmas.{told_tells}
 use Rattle.script_run.proofs.runs.Run.next.Goals as goal
 

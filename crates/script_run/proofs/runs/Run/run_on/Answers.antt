@@ -1,5 +1,4 @@
-use Rattle.script_meaning.specs.Meaning.{answers_of}
-use Rattle.std.proofs.Common.{ap, ◌∙◌}
+use Rattle.script_run.proofs.Names.{answers_of, ap, ◌∙◌}
 use Rattle.script_run.proofs.RunLemmas.{nothing_said, went_on_as, stopped_as, stopped_tells}
 use Rattle.script_run.proofs.runs.Run.run_on.Goals as goal
 

@@ -1,5 +1,4 @@
-use Rattle.std.proofs.Common.{arith, ap}
-use Rattle.seat_lock.specs.Rule.{holding}
+use Rattle.seat_lock.proofs.Names.{arith, ap, holding}
 use Rattle.seat_lock.proofs.Belonging.{still_pass}
 use Rattle.seat_lock.proofs.Visiting.{tests}
 use Rattle.seat_lock.proofs.boards.SeatLock+T.test.Goals as goal

@@ -1,9 +1,5 @@
-use Rattle.std.proofs.Common.{arith, ◌≡◌, [], ◌∷◌, ◌++◌, All, get_or, ap, sym, ◌∙◌, subst, append-nil}
+use Rattle.seat_lock.proofs.Names.{arith, ◌≡◌, [], ◌∷◌, ◌++◌, All, get_or, ap, sym, ◌∙◌, subst, append-nil, Begins, HasOwn, IsOneOf, Belongs, CarriesOn, knows}
 use mathlib.Core.Option.{some-injective}
-use Rattle.seat_lock.specs.Story.{Begins, HasOwn}
-use Rattle.seat_lock.specs.Rule.{IsOneOf}
-use Rattle.seat_lock.specs.Passes.{Belongs}
-use Rattle.seat_lock.specs.Words.{CarriesOn, knows}
 use Rattle.seat_lock.proofs.SplitJoin.{closes}
 use Rattle.seat_lock.proofs.Showing.{carries_on}
 use Rattle.seat_lock.proofs.Gathering.{all_after, all_middle, all_before}

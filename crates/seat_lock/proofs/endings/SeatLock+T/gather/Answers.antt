@@ -1,7 +1,4 @@
-use Rattle.std.proofs.Common.{rules, arith, ◌≡◌, [], ◌∷◌, ◌++◌, length, All, ap, sym, ◌∙◌, subst, append_assoc, length-append}
-use Rattle.std.proofs.lemmas.Grind.{common_steps}
-use Rattle.seat_lock.specs.Steps.{gathered}
-use Rattle.seat_lock.specs.Passes.{Covers, Belongs}
+use Rattle.seat_lock.proofs.Names.{rules, arith, ◌≡◌, [], ◌∷◌, ◌++◌, length, All, ap, sym, ◌∙◌, subst, append_assoc, length-append, common_steps, gathered, Covers, Belongs}
 use Rattle.seat_lock.proofs.SplitJoin.{gathers}
 use Rattle.seat_lock.proofs.Gathering.{covers_right, covers_more, all_more, all_cons, all_middle}
 use Rattle.seat_lock.proofs.endings.SeatLock+T.gather.Goals as goal

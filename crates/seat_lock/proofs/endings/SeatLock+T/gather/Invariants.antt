@@ -1,8 +1,4 @@
-use Rattle.std.proofs.Common.{◌≡◌, ◌+◌, List, ◌++◌, length, vec_len, All}
-use Rattle.seat_lock.specs.declared.views.Stage.TheVariants.{Idle}
-use Rattle.atomic_table.specs.declared.shared.Seat.{Seat}
-use Rattle.seat_lock.specs.declared.views.View.{View}
-use Rattle.seat_lock.specs.Passes.{Covers}
+use Rattle.seat_lock.proofs.Names.{◌≡◌, ◌+◌, List, ◌++◌, length, vec_len, All, Idle, Seat, View, Covers}
 use Rattle.seat_lock.proofs.endings.SeatLock+T.gather.Given as goal
 
 abbrev pub invariant-loop-pass : goal.invariant-loop-pass

@@ -1,6 +1,4 @@
-use Rattle.std.proofs.Common.{arith, length, ap, ◌∙◌, sym, subst}
-use Rattle.atomic_table.specs.Table.{rest}
-use Rattle.seat_lock.specs.Words.{shown}
+use Rattle.seat_lock.proofs.Names.{arith, length, ap, ◌∙◌, sym, subst, rest, shown}
 use Rattle.seat_lock.proofs.Visiting.{leaves}
 use Rattle.seat_lock.proofs.locks.Visit.leave.Goals as goal
 

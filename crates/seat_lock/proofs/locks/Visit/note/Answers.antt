@@ -1,5 +1,4 @@
-use Rattle.std.proofs.Common.{arith, refl, length, ap, ◌∙◌}
-use Rattle.seat_lock.specs.Words.{shown, owner_in}
+use Rattle.seat_lock.proofs.Names.{arith, refl, length, ap, ◌∙◌, shown, owner_in}
 use Rattle.seat_lock.proofs.Visiting.{notes, length-owned_in}
 use Rattle.seat_lock.proofs.Showing.{one_part, shown_noted, still_inside}
 use Rattle.seat_lock.proofs.locks.Visit.note.Goals as goal

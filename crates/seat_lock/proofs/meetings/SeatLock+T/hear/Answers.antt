@@ -1,5 +1,4 @@
-use Rattle.std.proofs.Common.{arith, ap, ◌∙◌, sym, subst, []}
-use Rattle.seat_lock.specs.Story.{Begins, HasOwn}
+use Rattle.seat_lock.proofs.Names.{arith, ap, ◌∙◌, sym, subst, [], Begins, HasOwn}
 use Rattle.seat_lock.proofs.Belonging.{still_pass}
 use Rattle.seat_lock.proofs.SplitJoin.{tells, informs, learns}
 use Rattle.seat_lock.proofs.meetings.SeatLock+T.hear.Goals as goal

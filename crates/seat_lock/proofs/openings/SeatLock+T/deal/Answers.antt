@@ -1,10 +1,4 @@
-use Rattle.std.proofs.Common.{arith, ◌≡◌, ◌<◌, [], ◌∷◌, ◌++◌, length, ap, sym, ◌∙◌, subst, append_assoc}
-use Rattle.seat_lock.specs.declared.views.Stage.TheVariants.{Idle}
-use Rattle.seat_lock.specs.declared.views.View.{View}
-use Rattle.seat_lock.specs.Story.{other_parts}
-use Rattle.seat_lock.specs.Steps.{dealing, dealt_out}
-use Rattle.seat_lock.specs.Passes.{AreNew}
-use Rattle.std.proofs.lemmas.List.{nil_from_length}
+use Rattle.seat_lock.proofs.Names.{arith, ◌≡◌, ◌<◌, [], ◌∷◌, ◌++◌, length, ap, sym, ◌∙◌, subst, append_assoc, Idle, View, other_parts, dealing, dealt_out, AreNew, nil_from_length}
 use Rattle.seat_lock.proofs.SplitJoin.{deals}
 use Rattle.seat_lock.proofs.Dealing.{parts_cut, are_new_snoc}
 use Rattle.seat_lock.proofs.openings.SeatLock+T.deal.Goals as goal

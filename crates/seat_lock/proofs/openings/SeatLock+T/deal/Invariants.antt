@@ -1,6 +1,4 @@
-use Rattle.std.proofs.Common.{◌≡◌, ◌+◌, ◌≤◌, List, [], ◌++◌, length, vec_len, vec_capacity}
-use Rattle.seat_lock.specs.declared.views.Part.{Part}
-use Rattle.seat_lock.specs.Passes.{AreNew}
+use Rattle.seat_lock.proofs.Names.{◌≡◌, ◌+◌, ◌≤◌, List, [], ◌++◌, length, vec_len, vec_capacity, Part, AreNew}
 use Rattle.seat_lock.proofs.openings.SeatLock+T.deal.Given as goal
 
 abbrev pub invariant-loop : goal.invariant-loop

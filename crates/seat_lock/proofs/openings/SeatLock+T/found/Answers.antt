@@ -1,9 +1,4 @@
-use Rattle.std.proofs.Common.{rules, arith, ◌≡◌, ◌≤◌, ℕ, List, [], ◌∷◌, replicate, refl, ap, sym, ◌∙◌, subst}
-use Rattle.std.proofs.lemmas.Grind.{common_steps}
-use Rattle.atomic_table.specs.Table.{opening}
-use Rattle.seat_lock.specs.Story.{meaning}
-use Rattle.seat_lock.specs.Rule.{Kept, total, same}
-use Rattle.seat_lock.specs.Steps.{founder}
+use Rattle.seat_lock.proofs.Names.{rules, arith, ◌≡◌, ◌≤◌, ℕ, List, [], ◌∷◌, replicate, refl, ap, sym, ◌∙◌, subst, common_steps, opening, meaning, Kept, total, same, founder}
 use Rattle.seat_lock.proofs.Sums.{zeros, three_more}
 use Rattle.seat_lock.proofs.SplitJoin.{founds}
 use Rattle.seat_lock.proofs.Apart.{at_most_once}

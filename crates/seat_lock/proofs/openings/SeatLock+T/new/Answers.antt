@@ -1,5 +1,4 @@
-use Rattle.std.proofs.Common.{All, length, ap, ◌∙◌, subst, sym}
-use Rattle.seat_lock.specs.Passes.{AreNew, Belongs}
+use Rattle.seat_lock.proofs.Names.{All, length, ap, ◌∙◌, subst, sym, AreNew, Belongs}
 use Rattle.seat_lock.proofs.Dealing.{length-all_parts}
 use Rattle.seat_lock.proofs.Showing.{new_passes}
 use Rattle.seat_lock.proofs.openings.SeatLock+T.new.Goals as goal

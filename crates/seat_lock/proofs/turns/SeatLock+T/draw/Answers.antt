@@ -1,5 +1,4 @@
-use Rattle.std.proofs.Common.{◌≡◌, length, arith, ap, subst, ◌∙◌}
-use Rattle.std.specs.Prelude.{IfNone}
+use Rattle.seat_lock.proofs.Names.{◌≡◌, length, arith, ap, subst, ◌∙◌, IfNone}
 use Rattle.seat_lock.proofs.Drawing.{draws}
 use Rattle.seat_lock.proofs.turns.SeatLock+T.draw.Goals as goal
 

@@ -1,7 +1,4 @@
-use Rattle.std.proofs.Common.{◌∷◌, length, sym, ap, ◌∙◌, subst, refl}
-use Rattle.seat_lock.specs.Story.{Begins, HasOwn}
-use Rattle.seat_lock.specs.Rule.{holding}
-use Rattle.seat_lock.specs.Words.{CarriesOn, knows}
+use Rattle.seat_lock.proofs.Names.{◌∷◌, length, sym, ap, ◌∙◌, subst, refl, Begins, HasOwn, holding, CarriesOn, knows}
 use Rattle.seat_lock.proofs.Showing.{carries_on, shown_is}
 use Rattle.seat_lock.proofs.turns.SeatLock+T.enter.Goals as goal
 

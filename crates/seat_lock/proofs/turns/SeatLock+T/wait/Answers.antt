@@ -1,9 +1,5 @@
-use Rattle.std.proofs.Common.{rules, arith, sym, ◌∙◌, subst, ◌≡◌}
+use Rattle.seat_lock.proofs.Names.{rules, arith, sym, ◌∙◌, subst, ◌≡◌, step, Waiting, meaning, ticket_of, looked}
 use mathlib.Core.Option.{none}
-use Rattle.atomic_table.specs.Table.{step}
-use Rattle.seat_lock.specs.declared.views.Stage.TheVariants.{Waiting}
-use Rattle.seat_lock.specs.Story.{meaning}
-use Rattle.seat_lock.specs.Steps.{ticket_of, looked}
 use Rattle.seat_lock.proofs.Looking.{looks}
 use Rattle.seat_lock.proofs.turns.SeatLock+T.wait.Goals as goal
 

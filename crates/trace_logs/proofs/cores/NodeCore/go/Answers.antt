@@ -1,6 +1,5 @@
-use Rattle.std.proofs.Common.{rules, refl, subst}
 use Rattle.broker_core.specs.Turns as desks
-use Rattle.trace_logs.proofs.Names.{Going, StandsFor}
+use Rattle.trace_logs.proofs.Names.{Going, StandsFor, rules, refl, subst}
 use Rattle.trace_logs.proofs.CoreLemmas.{repository-still, broker-answers}
 use Rattle.trace_logs.proofs.cores.NodeCore.go.Goals as goal
 

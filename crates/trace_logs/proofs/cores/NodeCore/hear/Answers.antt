@@ -1,7 +1,6 @@
-use Rattle.std.proofs.Common.{rules, refl, subst}
 use Rattle.repository_core.specs.Turns as turns
 use Rattle.broker_core.specs.Turns as desks
-use Rattle.trace_logs.proofs.Names.{Hearing, StandsFor}
+use Rattle.trace_logs.proofs.Names.{Hearing, StandsFor, rules, refl, subst}
 use Rattle.trace_logs.proofs.CoreLemmas.{repository-answers, broker-answers}
 use Rattle.trace_logs.proofs.cores.NodeCore.hear.Goals as goal
 

@@ -1,5 +1,4 @@
-use Rattle.std.proofs.Common.{subst, ap, reverse, ◌∙◌}
-use Rattle.trace_logs.proofs.Names.{is_some, StandsFor}
+use Rattle.trace_logs.proofs.Names.{is_some, StandsFor, subst, ap, reverse, ◌∙◌}
 use Rattle.repository_log.specs.Logs.{known}
 use Rattle.repository_log.proofs.MarkLemmas.{knows-known}
 use Rattle.trace_logs.proofs.MarkLemmas.{knows-reverse}

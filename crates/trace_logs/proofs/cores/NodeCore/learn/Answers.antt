@@ -1,7 +1,5 @@
-use Rattle.std.proofs.Common.{rules, refl, subst}
+use Rattle.trace_logs.proofs.Names.{rules, refl, subst, Learning, StandsFor}
 use Rattle.repository_core.specs.Turns as turns
-use Rattle.world_core.specs.Nodes.Input.{Learning}
-use Rattle.trace_logs.specs.Cores.{StandsFor}
 use Rattle.trace_logs.proofs.CoreLemmas.{repository-answers, broker-still}
 use Rattle.trace_logs.proofs.cores.NodeCore.learn.Goals as goal
 

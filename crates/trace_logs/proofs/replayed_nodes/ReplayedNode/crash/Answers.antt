@@ -1,5 +1,4 @@
-use Rattle.std.proofs.Common.{refl, sym, ap, subst, ◌∙◌, ◌++◌, take}
-use Rattle.trace_logs.proofs.Names.{Scripted, opened_mind, AreEffects, StandsFor}
+use Rattle.trace_logs.proofs.Names.{Scripted, opened_mind, AreEffects, StandsFor, refl, sym, ap, subst, ◌∙◌, ◌++◌, take}
 use Rattle.trace_logs.proofs.ReplayedNodeLemmas.{crashed-lives, crashed-sound, log-kept}
 use Rattle.trace_logs.proofs.replayed_nodes.ReplayedNode.crash.Goals as goal
 

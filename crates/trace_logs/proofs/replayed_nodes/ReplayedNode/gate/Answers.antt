@@ -1,5 +1,4 @@
-use Rattle.std.proofs.Common.{refl, ap, subst, ◌≡◌, ◌++◌, ◌∙◌}
-use Rattle.trace_logs.proofs.Names.{OnOk, filter, posts, leaves, all_effects, gated_life, all_posted}
+use Rattle.trace_logs.proofs.Names.{OnOk, filter, posts, leaves, all_effects, gated_life, all_posted, refl, ap, subst, ◌≡◌, ◌++◌, ◌∙◌}
 use Rattle.trace_logs.proofs.ReplayedNodeLemmas.{gated-lives}
 use Rattle.trace_logs.proofs.replayed_nodes.ReplayedNode.gate.Goals as goal
 

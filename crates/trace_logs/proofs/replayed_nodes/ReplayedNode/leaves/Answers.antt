@@ -1,5 +1,4 @@
-use Rattle.std.proofs.Common.{sym, ap, subst, ◌∙◌, ◌++◌, not}
-use Rattle.trace_logs.proofs.Names.{append-nil, knows, leaves, StandsFor}
+use Rattle.trace_logs.proofs.Names.{append-nil, knows, leaves, StandsFor, sym, ap, subst, ◌∙◌, ◌++◌, not}
 use Rattle.trace_logs.proofs.replayed_nodes.ReplayedNode.leaves.Goals as goal
 
 pub returns-in-Ask : goal.returns-in-Ask

@@ -1,5 +1,4 @@
-use Rattle.std.proofs.Common.{◌≡◌, ◌++◌, []}
-use Rattle.trace_logs.proofs.Names.{filter, posts, leaves, Base, Life, all_posted, AreLetters, Lives}
+use Rattle.trace_logs.proofs.Names.{filter, posts, leaves, Base, Life, all_posted, AreLetters, Lives, ◌≡◌, ◌++◌, []}
 use Rattle.trace_logs.proofs.replayed_nodes.ReplayedNode.send_all.Given as goal
 
 -- those so far

@@ -1,5 +1,4 @@
-use Rattle.std.proofs.Common.{refl, subst, ◌≡◌, ◌<◌, length, true}
-use Rattle.trace_logs.proofs.Names.{with_item, get_or, same_node, sent_by, ReplayedNode, all_posted, IsAbsent}
+use Rattle.trace_logs.proofs.Names.{with_item, get_or, same_node, sent_by, ReplayedNode, all_posted, IsAbsent, refl, subst, ◌≡◌, ◌<◌, length, true}
 use Rattle.world_core.specs.declared.entries.Entry.TheVariants as entry
 use Rattle.trace_logs.proofs.WalkLemmas.{absent}
 use Rattle.trace_logs.proofs.EntryLemmas.{moved-ok, always}

@@ -1,6 +1,5 @@
-use Rattle.std.proofs.Common.{refl, sym, subst, Some}
 use Rattle.world_core.specs.declared.entries.Entry.TheVariants as entry
-use Rattle.trace_logs.proofs.Names.{step, Shows}
+use Rattle.trace_logs.proofs.Names.{step, Shows, refl, sym, subst, Some}
 use Rattle.trace_logs.proofs.WalkLemmas.{still}
 use Rattle.trace_logs.proofs.replays.Replay.on_entry.Goals as goal
 

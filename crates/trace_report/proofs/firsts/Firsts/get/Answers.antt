@@ -1,7 +1,5 @@
-use Rattle.std.proofs.Common.{sym, ap, ◌∙◌}
+use Rattle.trace_report.proofs.Names.{sym, ap, ◌∙◌, stamp_cmp-total, stamp_cmp-exact, get-entries_of}
 use Rattle.std.specs.FinMap as finite
-use Rattle.pseudo_time.proofs.OrderLemmas.{stamp_cmp-total, stamp_cmp-exact}
-use Rattle.object_history.proofs.MapLemmas.{get-entries_of}
 use Rattle.trace_report.proofs.firsts.Firsts.get.Goals as goal
 
 pub returns : goal.returns

@@ -1,5 +1,4 @@
-use Rattle.std.proofs.Common.{reverse, take}
-use Rattle.trace_report.specs.Firsts.{AreFirsts}
+use Rattle.trace_report.proofs.Names.{reverse, take, AreFirsts}
 use Rattle.trace_report.proofs.firsts.Firsts.of.Given as goal
 
 abbrev pub invariant-loop-effect : goal.invariant-loop-effect

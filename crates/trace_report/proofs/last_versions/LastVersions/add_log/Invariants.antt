@@ -1,6 +1,4 @@
-use Rattle.std.proofs.Common.{List, ◌++◌, reverse, take}
-use Rattle.trace_report.proofs.Names.{Mark, RunLogs, AreDecided, AreLast}
-use Rattle.repository_log.specs.Logs.{marks}
+use Rattle.trace_report.proofs.Names.{Mark, RunLogs, AreDecided, AreLast, List, ◌++◌, reverse, take, marks}
 use Rattle.trace_report.proofs.last_versions.LastVersions.add_log.Given as goal
 
 abbrev pub invariant-loop-effect : goal.invariant-loop-effect

@@ -1,6 +1,4 @@
-use Rattle.std.proofs.Common.{◌≡◌, [], reverse}
-use Rattle.trace_report.proofs.Names.{NodeId, RunLogs, AreDecided, AreLast, logs_by}
-use Rattle.trace_report.specs.Finals.{marks_to}
+use Rattle.trace_report.proofs.Names.{NodeId, RunLogs, AreDecided, AreLast, logs_by, ◌≡◌, [], reverse, marks_to}
 use Rattle.trace_report.proofs.last_versions.LastVersions.add_logs.Given as goal
 
 -- the logs of the repositories so far

@@ -1,5 +1,4 @@
-use Rattle.std.proofs.Common.{ap, refl, sym, ◌∙◌}
-use Rattle.world_core.specs.Deeds.{committed}
+use Rattle.trace_report.proofs.Names.{ap, refl, sym, ◌∙◌, committed}
 use Rattle.trace_report.proofs.FinalLemmas.{put-below, put-in, put-out}
 use Rattle.trace_report.proofs.last_versions.LastVersions.add_put.Goals as goal
 

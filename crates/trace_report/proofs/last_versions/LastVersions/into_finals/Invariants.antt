@@ -1,5 +1,4 @@
-use Rattle.std.proofs.Common.{◌≡◌, map}
-use Rattle.trace_report.specs.LastVersions.{final_last}
+use Rattle.trace_report.proofs.Names.{◌≡◌, map, final_last}
 use Rattle.trace_report.proofs.last_versions.LastVersions.into_finals.Given as goal
 
 abbrev pub invariant-loop-object : goal.invariant-loop-object

@@ -1,5 +1,4 @@
-use Rattle.std.proofs.Common.{◌≡◌, ◌+◌, ◌++◌, ◌≤◌, IsTrue, length, sym, subst, arith}
-use Rattle.version_store.proofs.Names.{IsImage, Log, filling, HeadsFit, IsAtRest, all_of, laid, log_of}
+use Rattle.version_store.proofs.Names.{IsImage, Log, filling, HeadsFit, IsAtRest, all_of, laid, log_of, ◌≡◌, ◌+◌, ◌++◌, ◌≤◌, IsTrue, length, sym, subst, arith}
 use Rattle.version_store.proofs.BlankLemmas.{blank_count}
 use Rattle.version_store.proofs.GrownLemmas.{untouched}
 use Rattle.version_store.proofs.StoreLemmas.{log_here, settled_here, rest_here, images_left, prefix_left, pages_kept, all_added, written_run, written_rest}

@@ -1,6 +1,4 @@
-use Rattle.std.proofs.Common.{◌≡◌, ℕ, Option, Some, None, length, sym, ◌∙◌, ap, subst, arith}
-use Rattle.version_store.proofs.Names.{Image, IsImage, Place, Written, Entry, IsIn, BackStands, shown_in, log_of}
-use Rattle.version_store.specs.Sights.{found_of}
+use Rattle.version_store.proofs.Names.{Image, IsImage, Place, Written, Entry, IsIn, BackStands, shown_in, log_of, ◌≡◌, ℕ, Option, Some, None, length, sym, ◌∙◌, ap, subst, arith, found_of}
 use Rattle.version_store.proofs.PlaceLemmas.{log_sound}
 use Rattle.version_store.proofs.StandLemmas.{back-stands}
 use Rattle.version_store.proofs.stores.Store.fetch.Goals as goal

@@ -1,7 +1,4 @@
-use Rattle.std.proofs.Common.{◌≡◌, ℕ, ◌<◌, Option, Some, None, sym, ◌∙◌, subst}
-use Rattle.std.specs.Prelude.{IfSome}
-use Rattle.std.specs.BTreeMap.{get}
-use Rattle.version_store.proofs.Names.{ObjectId, object_cmp, Place, Log, last_put, IsLastPut, Heads, AreBelow}
+use Rattle.version_store.proofs.Names.{ObjectId, object_cmp, Place, Log, last_put, IsLastPut, Heads, AreBelow, ◌≡◌, ℕ, ◌<◌, Option, Some, None, sym, ◌∙◌, subst, IfSome, get}
 use Rattle.version_store.proofs.StandLemmas.{last_put-stands}
 use Rattle.version_store.proofs.stores.Store.last.Goals as goal
 

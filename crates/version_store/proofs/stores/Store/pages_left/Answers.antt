@@ -1,5 +1,4 @@
-use Rattle.std.proofs.Common.{arith}
-use Rattle.medium_port.specs.Image.{IsImage}
+use Rattle.version_store.proofs.Names.{arith, IsImage}
 use Rattle.version_store.proofs.BlankLemmas.{blank_count}
 use Rattle.version_store.proofs.stores.Store.pages_left.Goals as goal
 

@@ -1,7 +1,4 @@
-use Rattle.std.proofs.Common.{◌↔◌, IsTrue, subst}
-use Rattle.message_core.specs.Flights.{AllEmpty}
-use Rattle.message_core.specs.Parts.{state_of}
-use Rattle.vote_courier.specs.Couriers.{CourierParts}
+use Rattle.vote_courier.proofs.Names.{◌↔◌, IsTrue, subst, AllEmpty, state_of, CourierParts}
 use Rattle.vote_courier.proofs.couriers.Courier.is_empty.Goals as goal
 
 pub returns : goal.returns

@@ -1,5 +1,4 @@
-use Rattle.std.proofs.Common.{ap, ◌∙◌}
-use Rattle.wire_core.proofs.Names.{found_same, is_idle_at}
+use Rattle.wire_core.proofs.Names.{found_same, is_idle_at, ap, ◌∙◌}
 use Rattle.wire_core.proofs.stories.Story.is_idle_at.Goals as goal
 
 pub returns-in-Some : goal.returns-in-Some

@@ -1,5 +1,4 @@
-use Rattle.std.proofs.Common.{ap, ◌∙◌}
-use Rattle.wire_core.proofs.Names.{found_same, standing_at}
+use Rattle.wire_core.proofs.Names.{found_same, standing_at, ap, ◌∙◌}
 use Rattle.wire_core.proofs.stories.Story.standing.Goals as goal
 
 pub returns-in-Some : goal.returns-in-Some

@@ -1,5 +1,4 @@
-use Rattle.std.proofs.Common.{◌++◌, map, IsTrue, sym, subst}
-use Rattle.wire_core.proofs.Names.{Plan, asked_of, IsLegal, WireParts, IsRunOf}
+use Rattle.wire_core.proofs.Names.{Plan, asked_of, IsLegal, WireParts, IsRunOf, ◌++◌, map, IsTrue, sym, subst}
 use Rattle.world_core.specs.declared.traces.Trace.{Trace}
 use Rattle.wire_core.proofs.SoundLemmas.{sound-legal}
 use Rattle.wire_core.proofs.wires.Wire.finish.Goals as goal

@@ -1,6 +1,4 @@
-use Rattle.std.proofs.Common.{◌≡◌, false, IsTrue, subst}
-use Rattle.std.specs.Prelude.{◌↔◌}
-use Rattle.wire_core.proofs.Names.{fates_of, Idle, IsQuiet, WireParts, world_of}
+use Rattle.wire_core.proofs.Names.{fates_of, Idle, IsQuiet, WireParts, world_of, ◌≡◌, false, IsTrue, subst, ◌↔◌}
 use Rattle.wire_core.proofs.QuietLemmas.{quiet-by, quiet-not, rests-by}
 use Rattle.wire_core.proofs.wires.Wire.idle.Goals as goal
 

@@ -1,6 +1,4 @@
-use Rattle.std.proofs.Common.{sym, ap, subst, ◌∙◌, ◌∷◌, []}
-use Rattle.wire_core.proofs.Names.{Adds, start, names_of, IsOpened}
-use Rattle.wire_core.specs.Sound.{origin_with}
+use Rattle.wire_core.proofs.Names.{Adds, start, names_of, IsOpened, sym, ap, subst, ◌∙◌, ◌∷◌, [], origin_with}
 use Rattle.wire_core.proofs.NewLemmas.{new-sound}
 use Rattle.wire_core.proofs.wires.Wire.new.Goals as goal
 

@@ -1,5 +1,4 @@
-use Rattle.std.proofs.Common.{◌≡◌, true, ap, subst, ◌∙◌}
-use Rattle.wire_core.proofs.Names.{is_behind, Standing, WireParts, world_of}
+use Rattle.wire_core.proofs.Names.{is_behind, Standing, WireParts, world_of, ◌≡◌, true, ap, subst, ◌∙◌}
 use Rattle.wire_core.proofs.FitLemmas.{up-is, gone-is, due-is, behind-is}
 use Rattle.wire_core.proofs.wires.Wire.standing.Goals as goal
 

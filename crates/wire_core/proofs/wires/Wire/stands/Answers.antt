@@ -1,5 +1,4 @@
-use Rattle.std.proofs.Common.{◌++◌, map, IsTrue, subst}
-use Rattle.wire_core.proofs.Names.{Plan, asked_of, IsLegal, WireParts, IsRunOf, trace_of}
+use Rattle.wire_core.proofs.Names.{Plan, asked_of, IsLegal, WireParts, IsRunOf, trace_of, ◌++◌, map, IsTrue, subst}
 use Rattle.wire_core.proofs.SoundLemmas.{sound-legal}
 use Rattle.wire_core.proofs.wires.Wire.stands.Goals as goal
 

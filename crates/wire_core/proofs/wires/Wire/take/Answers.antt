@@ -1,5 +1,4 @@
-use Rattle.std.proofs.Common.{List, map, IsTrue, refl, sym, ap, subst, ◌∙◌}
-use Rattle.wire_core.proofs.Names.{Post, fates_of, post_of, sent_by, Standing, IsCopyOf, TookAll, WireParts, world_of}
+use Rattle.wire_core.proofs.Names.{Post, fates_of, post_of, sent_by, Standing, IsCopyOf, TookAll, WireParts, world_of, List, map, IsTrue, refl, sym, ap, subst, ◌∙◌}
 use Rattle.wire_core.proofs.ChangeLemmas.{take-more}
 use Rattle.wire_core.proofs.DueLemmas.{is-copy}
 use Rattle.wire_core.proofs.FitLemmas.{behind-is}

@@ -1,5 +1,4 @@
-use Rattle.std.proofs.Common.{ap, sym, subst, get_or, ◌∙◌, List, ℕ, All}
-use Rattle.wire_lock.proofs.Names.{CarriesOn, knows, Trace, IsOneOf, owner_of, trace_of}
+use Rattle.wire_lock.proofs.Names.{CarriesOn, knows, Trace, IsOneOf, owner_of, trace_of, ap, sym, subst, get_or, ◌∙◌, List, ℕ, All}
 use Rattle.wire_lock.proofs.SightLemmas.{idle-closed, rest-closed}
 use Rattle.wire_lock.proofs.UntoldLemmas.{untold}
 use Rattle.wire_lock.proofs.shared.SharedWire.close.Goals as goal

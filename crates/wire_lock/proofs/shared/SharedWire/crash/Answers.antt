@@ -1,5 +1,4 @@
-use Rattle.std.proofs.Common.{◌≤◌, List, [], ◌∷◌, ◌++◌, length, refl, sym, ap, subst, ◌∙◌}
-use Rattle.wire_lock.proofs.Names.{same_node-refl, knows, sees, Entry, Crash, World, Life, Flags}
+use Rattle.wire_lock.proofs.Names.{same_node-refl, knows, sees, Entry, Crash, World, Life, Flags, ◌≤◌, List, [], ◌∷◌, ◌++◌, length, refl, sym, ap, subst, ◌∙◌}
 use Rattle.wire_lock.proofs.SightLemmas.{finds, origin-of, entries-in, story-of, lock-origin, noted-kept, looked-of, visited-of}
 use Rattle.wire_lock.proofs.shared.SharedWire.crash.Goals as goal
 

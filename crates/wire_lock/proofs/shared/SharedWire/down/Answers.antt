@@ -1,7 +1,5 @@
-use Rattle.std.proofs.Common.{List, [], ◌∷◌, ◌++◌, refl, sym, ap, ◌∙◌}
 use Rattle.std.specs.Option.{unwrap_or}
-use Rattle.wire_lock.proofs.Names.{same_node-refl, knows, sees, Entry, Down, World, Flags, Origin, base_at}
-use Rattle.world_core.specs.Walks.{opened_log}
+use Rattle.wire_lock.proofs.Names.{same_node-refl, knows, sees, Entry, Down, World, Flags, Origin, base_at, List, [], ◌∷◌, ◌++◌, refl, sym, ap, ◌∙◌, opened_log}
 use Rattle.wire_lock.proofs.SightLemmas.{finds, origin-of, entries-in, story-of, lock-origin, noted-kept, looked-of, visited-of, moved-before}
 use Rattle.wire_lock.proofs.shared.SharedWire.down.Goals as goal
 

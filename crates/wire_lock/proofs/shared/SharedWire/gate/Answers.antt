@@ -1,6 +1,4 @@
-use Rattle.std.proofs.Common.{List, [], ◌∷◌, ◌++◌, sym, ap, ◌∙◌}
-use Rattle.wire_lock.proofs.Names.{knows, sees, Entry, Gate, World, Life, Flags, base_at, base_from, posted, decided_by}
-use Rattle.world_core.specs.Walks.{all_effects}
+use Rattle.wire_lock.proofs.Names.{knows, sees, Entry, Gate, World, Life, Flags, base_at, base_from, posted, decided_by, List, [], ◌∷◌, ◌++◌, sym, ap, ◌∙◌, all_effects}
 use Rattle.wire_lock.proofs.SightLemmas.{finds, origin-of, entries-in, story-of, lock-origin, looked-of, pass-origin, gated-of, gate-kept, all-posted}
 use Rattle.std.specs.List.{filter}
 use Rattle.world_core.specs.Nodes.{leaves}

@@ -1,5 +1,4 @@
-use Rattle.std.proofs.Common.{List, [], ◌∷◌, ◌++◌, refl, sym, ap, ◌∙◌}
-use Rattle.wire_lock.proofs.Names.{same_node-refl, knows, sees, Entry, Go, World, Flags}
+use Rattle.wire_lock.proofs.Names.{same_node-refl, knows, sees, Entry, Go, World, Flags, List, [], ◌∷◌, ◌++◌, refl, sym, ap, ◌∙◌}
 use Rattle.wire_lock.proofs.SightLemmas.{finds, origin-of, entries-in, story-of, lock-origin, noted-kept, looked-of, visited-of}
 use Rattle.wire_lock.proofs.shared.SharedWire.go.Goals as goal
 

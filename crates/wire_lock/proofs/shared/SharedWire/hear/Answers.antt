@@ -1,6 +1,4 @@
-use Rattle.std.proofs.Common.{◌≡◌, ℕ, List, [], ◌∷◌, ◌++◌, Option, Some, sym, ap, ◌∙◌}
-use Rattle.wire_lock.proofs.Names.{same_node-refl, knows, sees, Entry, Hear, World, Flags, walk, is_behind, walk-more, Sight, base_at, world_at, life_at, flags_at}
-use Rattle.world_core.specs.Walks.{hears, has_heard}
+use Rattle.wire_lock.proofs.Names.{same_node-refl, knows, sees, Entry, Hear, World, Flags, walk, is_behind, walk-more, Sight, base_at, world_at, life_at, flags_at, ◌≡◌, ℕ, List, [], ◌∷◌, ◌++◌, Option, Some, sym, ap, ◌∙◌, hears, has_heard}
 use Rattle.wire_lock.proofs.SightLemmas.{finds, origin-of, entries-in, story-of, lock-origin, noted-kept, looked-of, visited-of}
 use Rattle.wire_lock.proofs.shared.SharedWire.hear.Goals as goal
 

@@ -1,5 +1,4 @@
-use Rattle.std.proofs.Common.{List, [], ◌∷◌, ◌++◌, refl, sym, ap, subst, ◌∙◌}
-use Rattle.wire_lock.proofs.Names.{same_node-refl, knows, sees, Entry, Learn, World, Flags, IsDecidedAs, base_at}
+use Rattle.wire_lock.proofs.Names.{same_node-refl, knows, sees, Entry, Learn, World, Flags, IsDecidedAs, base_at, List, [], ◌∷◌, ◌++◌, refl, sym, ap, subst, ◌∙◌}
 use Rattle.wire_lock.proofs.SightLemmas.{finds, origin-of, entries-in, story-of, lock-origin, noted-kept, looked-of, visited-of, stands-later}
 use Rattle.wire_lock.proofs.shared.SharedWire.learn.Goals as goal
 

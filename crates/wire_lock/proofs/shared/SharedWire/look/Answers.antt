@@ -1,5 +1,4 @@
-use Rattle.std.proofs.Common.{sym, subst, ◌∙◌, ◌≡◌, ◌↔◌, IsTrue, false}
-use Rattle.wire_lock.proofs.Names.{knows, Idle, fates_of, WireParts, world_of}
+use Rattle.wire_lock.proofs.Names.{knows, Idle, fates_of, WireParts, world_of, sym, subst, ◌∙◌, ◌≡◌, ◌↔◌, IsTrue, false}
 use Rattle.wire_lock.proofs.SightLemmas.{finds, origin-of, entries-in, lock-origin, looked-of, sent-left, rest-left, left-of, idle-left}
 use Rattle.wire_lock.proofs.shared.SharedWire.look.Goals as goal
 

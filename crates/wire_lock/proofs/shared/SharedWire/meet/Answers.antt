@@ -1,5 +1,4 @@
-use Rattle.std.proofs.Common.{subst}
-use Rattle.wire_lock.proofs.Names.{knows, CarriesOn, owner_of}
+use Rattle.wire_lock.proofs.Names.{knows, CarriesOn, owner_of, subst}
 use Rattle.wire_lock.proofs.SightLemmas.{story-of, looked-of, owns-left}
 use Rattle.wire_lock.proofs.shared.SharedWire.meet.Goals as goal
 

@@ -1,5 +1,4 @@
-use Rattle.std.proofs.Common.{List, [], ◌∷◌, ◌++◌, true, false, refl, sym, ap, ◌∙◌}
-use Rattle.wire_lock.proofs.Names.{same_node-refl, knows, sees, Entry, Take, World, Flags, walk, numbered, sent_by, WireParts, base_at}
+use Rattle.wire_lock.proofs.Names.{same_node-refl, knows, sees, Entry, Take, World, Flags, walk, numbered, sent_by, WireParts, base_at, List, [], ◌∷◌, ◌++◌, true, false, refl, sym, ap, ◌∙◌}
 use Rattle.wire_lock.proofs.SightLemmas.{finds, origin-of, entries-in, story-of, lock-origin, noted-kept, looked-of, visited-of, took-copy, copy-left, behind-is, if-gave, if-failed, left-of, none-due}
 use Rattle.wire_lock.proofs.shared.SharedWire.take.Goals as goal
 

@@ -1,5 +1,4 @@
-use Rattle.std.proofs.Common.{List, [], ◌∷◌, ◌++◌, sym, ap, ◌∙◌}
-use Rattle.wire_lock.proofs.Names.{knows, sees, Entry, Tick, WireParts}
+use Rattle.wire_lock.proofs.Names.{knows, sees, Entry, Tick, WireParts, List, [], ◌∷◌, ◌++◌, sym, ap, ◌∙◌}
 use Rattle.wire_lock.proofs.SightLemmas.{finds, origin-of, entries-in, story-of, lock-origin, noted-kept, looked-of, ticked-of, rest-found, pass-at, owns-noted, left-of, still-busy}
 use Rattle.wire_lock.proofs.shared.SharedWire.tick.Goals as goal
 
