@@ -1,5 +1,5 @@
 -- The joined marks have no floor; and where no version is told as undecided, none is.
-use Rattle.archive_store.proofs.Names.{◌≡◌, ℕ, zero, suc, ◌+◌, arith, Bool, true, false, List, [], ◌∷◌, ◌++◌, map, filter, reverse, length, slice_index_or, refl, sym, ◌∙◌, ap, Option, Some, None, ◌&&◌, ◌||◌, not, if◌then◌else◌, true≢false, false≢true, reverse-append, Every, TimeParts, lt, ObjectId, Value, Mark, Put, Stretch, Settle, Floor, same_object, settle_of, is_settled, top, floor_of, some_put, Start, is_new, firsts, met_after, all_firsts, is_floor, given_up, joined_with, last_log, is_open, lesser, is_unsettled, first_among, first_open}
+use Rattle.archive_store.proofs.Names.{◌≡◌, ℕ, zero, suc, ◌+◌, arith, Bool, true, false, List, [], ◌∷◌, ◌++◌, map, filter, reverse, length, slice_index_or, refl, sym, ◌∙◌, ap, Option, Some, None, ◌&&◌, ◌||◌, not, if◌then◌else◌, true≢false, false≢true, reverse-append, Every, TimeParts, lt, ObjectId, Mark, Put, Stretch, Settle, Floor, same_object, settle_of, is_settled, top, floor_of, some_put, Start, is_new, firsts, met_after, all_firsts, is_floor, given_up, joined_with, last_log, is_open, lesser, is_unsettled, first_among, first_open}
 use Rattle.pseudo_time.specs.StampParts.{StampParts}
 
 -- ---- no floor

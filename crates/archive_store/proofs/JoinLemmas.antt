@@ -1,5 +1,5 @@
 -- What is met, and what the last log gave up, as the code reads it mark by mark.
-use Rattle.archive_store.proofs.Names.{◌≡◌, ℕ, zero, suc, ◌+◌, ◌<◌, ◌≤◌, arith, Bool, true, false, List, [], ◌∷◌, ◌++◌, map, filter, take, drop, reverse, length, slice_index_or, refl, sym, ◌∙◌, ap, subst, Option, Some, None, ◌&&◌, ◌||◌, not, if◌then◌else◌, cond, is_some, reverse-append, TimeParts, time_cmp, same_time, ObjectId, Value, Mark, Put, same_object, Start, has_start, is_new, firsts, met_after, all_firsts, start_cmp}
+use Rattle.archive_store.proofs.Names.{◌≡◌, ℕ, zero, suc, ◌+◌, ◌<◌, ◌≤◌, arith, Bool, true, false, List, [], ◌∷◌, ◌++◌, filter, take, drop, reverse, length, slice_index_or, refl, sym, ◌∙◌, ap, Option, Some, ◌&&◌, ◌||◌, if◌then◌else◌, cond, is_some, reverse-append, TimeParts, time_cmp, same_time, ObjectId, Value, Mark, Put, same_object, Start, has_start, is_new, firsts, met_after, all_firsts, start_cmp}
 use Rattle.std.specs.Ordering.{is_eq, ordering_then}
 use Rattle.std.specs.declared.cmp.Ordering.{Ordering}
 use Rattle.std.specs.declared.cmp.Ordering.TheVariants.{Less, Equal, Greater}

@@ -1,16 +1,15 @@
 -- The rule that keeps the last value, folded up to a pseudotime below which nothing is undecided, gives the last committed version below it.
-use Rattle.archive_store.proofs.Names.{◌≡◌, Bool, true, false, List, [], ◌∷◌, map, filter, refl, sym, ◌∙◌, ap, subst, Option, Some, None, ◌&&◌, ◌||◌, not, if◌then◌else◌, inl, inr, ◌⊎◌, Result, Ok, Err, true≢false, false≢true, Every, TimeParts, lt, ObjectId, Value, Mark, Put, Stretch, Settle, Floor, same_object, Seen, settle_of, is_settled, is_committed, version_count, starts_above, pick, scan, floor_of, some_put, cursor_of, total_of, moved_at, last_below, entry_of, is_open, is_wanting}
-use Rattle.pseudo_time.proofs.OrderLemmas.{lt-trans, lt-split}
+use Rattle.archive_store.proofs.Names.{◌≡◌, Bool, true, false, List, [], ◌∷◌, map, filter, refl, sym, ◌∙◌, ap, subst, Option, Some, None, ◌&&◌, ◌||◌, not, if◌then◌else◌, inl, inr, ◌⊎◌, Result, Ok, Err, true≢false, false≢true, Every, TimeParts, lt, ObjectId, Value, Mark, Put, Stretch, Settle, Floor, same_object, Seen, settle_of, is_settled, is_committed, version_count, starts_above, pick, scan, floor_of, some_put, moved_at, last_below, entry_of, is_open, is_wanting}
+use Rattle.pseudo_time.proofs.OrderLemmas.{lt-split}
 use Rattle.value_form.specs.declared.values.Value.TheVariants.{Nothing}
 use Rattle.object_history.specs.Kept.{is_past, is_below}
 use Rattle.object_history.specs.Settled.{insert, listed, is_blocked, settled_versions}
-use Rattle.commit_watch.specs.declared.versions.Version.{Version}
 use Rattle.commit_watch.specs.declared.moved.Moved.{Moved}
 use Rattle.commit_watch.specs.declared.faults.WatchFault.{WatchFault}
 use Rattle.commit_watch.specs.declared.faults.WatchFault.TheVariants as fault
 use Rattle.commit_watch.specs.Rules.{latest_next}
 use Rattle.commit_watch.specs.Refusals.{IsRefusal}
-use Rattle.commit_watch.specs.Folds.{version_of, fresh, is_under, is_retired, unless_retired, moved_over, advanced}
+use Rattle.commit_watch.specs.Folds.{version_of, fresh, is_under, unless_retired, moved_over, advanced}
 use Rattle.commit_watch.proofs.StandingLemmas.{Sorted, sorted-listed, filter-listed}
 
 -- ---- the last of a listing
@@ -44,10 +43,6 @@ last-insert q [] r s (inr h) = absurd (false≢true (ap is_none (sym h.2)))
     is_none [] = true
     is_none (z ∷ zs) = false
 last-insert q (p ∷ ps) r s h = last-in q p (lt q.start p.start) ps r refl s (λ e. last-insert q ps (Some p) s.1 (inl e))
-
-either-list : (ps : List Seen) → (ps ≡ []) ⊎ ((p : Seen) × (zs : List Seen) × (ps ≡ p ∷ zs))
-either-list [] = inl refl
-either-list (p ∷ ps) = inr (p, ps, refl)
 
 last-put : (b : Bool) (q : Seen) (qs : List Seen) (r : Option Seen) → Sorted qs → last_or None qs ≡ r → last_or None (if b then insert q qs else qs) ≡ pick b q r
 unfolding pick

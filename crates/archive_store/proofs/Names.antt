@@ -6,7 +6,6 @@ pub use Rattle.archive_store.specs.Met.{Meets, start_cmp}
 pub use Rattle.archive_store.specs.Opens.{first_open, is_unsettled, lesser}
 unfoldable pub use Rattle.archive_store.specs.Opens.{first_among}
 pub use Rattle.archive_store.specs.declared.starts.Start.{Start}
-pub use Rattle.commit_watch.specs.Lists.{cursor_of, total_of}
 unfoldable pub use Rattle.commit_watch.specs.Lists.{moved_at}
 unfoldable pub use Rattle.object_history.specs.Answers.{some_put}
 pub use Rattle.object_history.specs.History.{Seen, is_committed, is_settled, settle_of, starts_above, top, version_count}

@@ -488,18 +488,6 @@ ranged-from l h (Some e) r f =
 pub ranged-after : (l0 l : LedgerParts) (h : Heard) (first : Option Effect) → Ranged l0 → FirstInRange first → l ≡ ledger_from l0 first h → Ranged l
 ranged-after l0 l h first r f e = subst Ranged (sym e) (ranged-from l0 h first r (gained l0 h first r f).1)
 
--- the answers that the notes count still stand
-pub ranged-restored : (number run : ℕ) (acts : List ActSpec) (n : Notes) (old new : List Given) → kept n new ≡ kept n old →
-    Ranged (record { number = number; run = run; acts = acts; notes = n; answers = old }) → Ranged (record { number = number; run = run; acts = acts; notes = n; answers = new })
-ranged-restored number run acts n old new same r = record {
-  are_acts = r.are_acts;
-  number_low = r.number_low;
-  number_high = r.number_high;
-  run_low = r.run_low;
-  run_high = r.run_high;
-  started = r.started;
-  clock = r.clock;
-  in_range = record { begun = r.in_range.begun; shown = r.in_range.shown; stamp = r.in_range.stamp; answers_fit = subst (Every GivenInRange) (sym same) r.in_range.answers_fit };
 }
 
 pub ranged-opened : (number run : ℕ) (acts : List ActSpec) (log : List Effect) (l0 l l' : LedgerParts) → AreBrokerActs acts → 1 ≤ number → number ≤ 16 → 1 ≤ run → run < 2 ^ 32 → AreEffects log →

@@ -1,5 +1,5 @@
 -- An effect that is read is the one that was written.
-use Rattle.effect_form.proofs.Names.{◌≡◌, ℕ, lit<, ◌+◌, ◌-◌, ◌≤◌, ◌<◌, ◌^◌, ◌&&◌, nat_lt, nat_le, Bool, true, false, cond, List, [], ◌∷◌, ◌++◌, length, Option, Some, None, Result, Ok, Err, refl, sym, ap, subst, ◌∙◌, append_assoc, arith, inl, inr, ◌==◌, ◌⊎◌, w16, w32, w64, to_be_bytes, nat_tests, IsStamp, stamp_bytes, TimeParts, IsTime, time_bytes, IsDecision, decision_text, decision_at, IsBytes, Begins, IsForm, byte_at, number_at, between, front_at, stamp_at, time_at, bind_some, chosen_then, some_is, Begins-then, byte_form, u16_form, u32_form, u64_form, between_form, front_takes, front_again, stamp_form, time_form, chosen, decision_form, Value, IsObject, object_bytes, object_bytes_at, IsValue, value_bytes, value_at, found, ◌>>=◌, field, field_ok, ok_is, object_form, value_form, Effect, Put, Stretch, Begin, Decide, Learn, Run, Act, Try, Got, Acked, End, Mark, Whole, Place, IsOutcome, outcome_bytes, outcome_at, clock_at, whole_one, whole_two, Written, IsPlace, IsBack, back_bytes, back_from, back_at, index_at, positive_at, learned_byte, learned_at, home_at, timeout_at, tries_at, length_at, IsIndex, IsPositive, effect_bytes, IsActEffect, IsWritten, put_at, act_at, effect_of_tag, effect_at}
+use Rattle.effect_form.proofs.Names.{◌≡◌, ℕ, lit<, ◌+◌, ◌-◌, ◌≤◌, ◌<◌, ◌^◌, ◌&&◌, nat_lt, nat_le, Bool, true, false, cond, List, [], ◌∷◌, ◌++◌, length, Option, Some, None, Result, Ok, Err, refl, sym, ap, subst, ◌∙◌, append_assoc, arith, inl, inr, ◌==◌, w16, w32, w64, to_be_bytes, nat_tests, IsStamp, stamp_bytes, TimeParts, IsTime, time_bytes, IsDecision, decision_text, decision_at, IsBytes, Begins, IsForm, byte_at, number_at, between, front_at, stamp_at, time_at, bind_some, chosen_then, some_is, Begins-then, byte_form, u16_form, u32_form, u64_form, between_form, front_takes, front_again, stamp_form, time_form, chosen, decision_form, Value, IsObject, object_bytes, object_bytes_at, IsValue, value_bytes, value_at, found, ◌>>=◌, field, field_ok, ok_is, object_form, value_form, Put, Stretch, Begin, Decide, Learn, Run, Act, Try, Got, Acked, End, Mark, Whole, Place, IsOutcome, outcome_bytes, outcome_at, clock_at, whole_one, whole_two, Written, IsPlace, IsBack, back_bytes, back_from, back_at, index_at, positive_at, learned_byte, learned_at, home_at, timeout_at, tries_at, length_at, IsIndex, IsPositive, effect_bytes, IsActEffect, IsWritten, put_at, act_at, effect_of_tag, effect_at}
 use Rattle.field_form.specs.Forms as form
 use Rattle.value_form.specs.declared.objects.ObjectId.{ObjectId}
 use Rattle.effect_form.proofs.OutcomeLaws.{clock_form, outcome_form}
@@ -94,9 +94,6 @@ back_again None rest h =
 back_again (Some p) rest h =
     ap back_at (append_assoc (to_be_bytes w32 p.page) (to_be_bytes w16 p.offset) rest)
     ∙ rw (u32_form.again p.page (to_be_bytes w16 p.offset ++ rest) (omega (arith, h.page)), u16_form.again p.offset rest (omega (arith, h.offset_high)), back_from-again p h) refl
-
-back_form : IsForm back_bytes IsBack back_at
-back_form = record { takes = back_takes; again = back_again }
 
 -- ---- puts and acts
 

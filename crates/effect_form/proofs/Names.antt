@@ -22,7 +22,7 @@ pub use Rattle.pseudo_time.specs.TimeParts.{IsTime, TimeParts, time_bytes}
 pub use Rattle.std.proofs.Common.{Bool, Err, List, None, Ok, Option, Result, Some, [], ap, append_assoc, arith, cond, drop, false, inl, inr, length, lit<, nat_le, nat_lt, refl, subst, sym, take, true, ℕ, ◌&&◌, ◌++◌, ◌+◌, ◌-◌, ◌<◌, ◌^◌, ◌∙◌, ◌∷◌, ◌≡◌, ◌≤◌}
 pub use Rattle.std.proofs.lemmas.Bool.Decides.{nat_tests}
 pub use Rattle.std.specs.Int.{to_be_bytes, w16, w32, w64}
-pub use Rattle.std.specs.Prelude.{IfOk, ◌==◌, ◌⊎◌}
+pub use Rattle.std.specs.Prelude.{IfOk, ◌==◌}
 pub use Rattle.value_form.proofs.ValueLaws.{field_ok, object_form, ok_is, value_form, value_takes}
 pub use Rattle.value_form.specs.ObjectBytes.{IsObject, object_bytes, object_bytes_at}
 pub use Rattle.value_form.specs.ValueBytes.{IsValue, field, found, text_bytes, value_at, value_bytes, ◌>>=◌}

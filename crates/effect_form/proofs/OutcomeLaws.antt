@@ -1,5 +1,5 @@
 -- An outcome that is read is the one that was written.
-use Rattle.effect_form.proofs.Names.{◌≡◌, ℕ, ◌≤◌, ◌<◌, ◌^◌, Bool, true, false, cond, List, [], ◌∷◌, ◌++◌, Option, Some, None, refl, sym, ap, subst, ◌∙◌, arith, inl, inr, ◌==◌, ◌⊎◌, w16, w64, to_be_bytes, nat_tests, IsTime, time_bytes, IsBytes, Begins, IsForm, byte_at, number_at, time_at, bind_some, some_is, Begins-then, byte_form, u16_form, u64_form, between_form, time_form, chosen, IsObject, object_bytes, object_bytes_at, object_form, Outcome, Committed, Withdrawn, Failed, LaterRead, LaterVersion, Expired, Spent, fail_number, fail_from, fail_at, line_at, clock_at, outcome_bytes, IsOutcome, outcome_of_tag, outcome_at, part_one, part_two}
+use Rattle.effect_form.proofs.Names.{◌≡◌, ℕ, ◌≤◌, ◌<◌, ◌^◌, cond, List, [], ◌∷◌, ◌++◌, Some, None, refl, ap, subst, ◌∙◌, arith, inl, inr, ◌==◌, w16, w64, to_be_bytes, nat_tests, IsTime, time_bytes, IsBytes, Begins, IsForm, byte_at, number_at, time_at, bind_some, some_is, Begins-then, byte_form, u16_form, u64_form, between_form, time_form, chosen, IsObject, object_bytes, object_bytes_at, object_form, Outcome, Committed, Withdrawn, Failed, LaterRead, LaterVersion, Expired, Spent, fail_number, fail_from, fail_at, line_at, clock_at, outcome_bytes, IsOutcome, outcome_of_tag, outcome_at, part_one, part_two}
 use Rattle.field_form.specs.Forms as form
 use Rattle.value_form.specs.declared.fail_kinds.FailKind.{FailKind}
 use Rattle.value_form.specs.declared.fail_kinds.FailKind.TheVariants as kind

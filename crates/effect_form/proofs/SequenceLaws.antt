@@ -1,5 +1,5 @@
 -- Fields one after another that are read are those that were written.
-use Rattle.effect_form.proofs.Names.{◌≡◌, ℕ, List, [], ◌∷◌, ◌++◌, Option, Some, None, Result, Ok, refl, ap, ◌∙◌, subst, append_assoc, IsBytes, Begins, IsForm, bind_some, some_is, Begins-then, ◌>>=◌, field, field_ok, ok_is, part_one, part_two, whole_one, whole_two}
+use Rattle.effect_form.proofs.Names.{◌≡◌, ℕ, List, ◌++◌, Option, Some, Ok, refl, ap, ◌∙◌, subst, append_assoc, IsBytes, Begins, IsForm, bind_some, some_is, Begins-then, ◌>>=◌, field, field_ok, ok_is, part_one, part_two, whole_one, whole_two}
 use Rattle.field_form.specs.Forms as form
 
 module _ {A X : Type 0} (text : A → List ℕ) (InRange : A → Type 0) (f : List ℕ → Option (A × List ℕ)) (one : IsForm text InRange f) (make : A → X) where

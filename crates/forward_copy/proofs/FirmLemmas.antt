@@ -170,16 +170,6 @@ dropped-same settled at all firms known are =
 pub noted-none : (settled : StampParts → Option Bool) (at : TimeParts) (l : List Effect) (f : Effect) (firms : FirmMap) → put_below at f ≡ None → AreFirm settled at l firms → AreFirm settled at (f ∷ l) firms
 noted-none settled at l f firms e are o = are o ∙ sym (ap (λ z. with_put settled z (length l) o (firm_of settled at l o)) e)
 
-if-never : (b c : Bool) (p q : Option Firm) → c ≡ false → (if b && c then p else q) ≡ q
-if-never true c p q h = ap (λ z. if z then p else q) h
-if-never false c p q h = refl
-
-pub noted-open : (settled : StampParts → Option Bool) (at : TimeParts) (l : List Effect) (f : Effect) (v : Version) (firms : FirmMap) → put_below at f ≡ Some v → is_committed (settled v.start.stamp) ≡ false →
-    AreFirm settled at l firms → AreFirm settled at (f ∷ l) firms
-noted-open settled at l f v firms e never are o =
-    are o ∙ sym (ap (λ z. with_put settled z (length l) o (firm_of settled at l o)) e
-    ∙ if-never (same_object v.object o) (is_committed (settled v.start.stamp)) (last_of (record { start = v.start; index = length l }) (firm_of settled at l o)) (firm_of settled at l o) never)
-
 stays-over : (b c : Bool) (p : Firm) (r : Option Firm) → (b ≡ true → starts_over r p.start ≡ true) → (if b && c then last_of p r else r) ≡ r
 stays-over true true p r h = ap (λ z. if z then r else Some p) (h refl)
 stays-over true false p r h = refl

@@ -1,28 +1,7 @@
 -- Pages that read 0 in every byte.
-use Rattle.medium_port.proofs.Names.{◌≡◌, ⊎_elim, ℕ, ◌+◌, ◌<◌, List, [], ◌∷◌, ◌++◌, length, get_or, refl, sym, ◌∙◌, ap, subst, arith, length-append, zero, suc, replicate, cases_eq, cases_lt, get_or_append_left, get_or_push, get_or_past, ext_get_or, get_or-replicate, length-replicate, Image, IsImage, IsBlankImage, byte_of}
+use Rattle.medium_port.proofs.Names.{◌≡◌, ⊎_elim, ℕ, ◌<◌, List, [], length, get_or, refl, sym, ◌∙◌, ap, arith, zero, suc, replicate, cases_lt, get_or_past, ext_get_or, get_or-replicate, length-replicate, Image, IsImage, IsBlankImage, byte_of}
 
--- one page more
-pub image_push : (n : ℕ) (image : Image) (page : List ℕ) → IsImage n image → length page ≡ 4096 → ((at : ℕ) → get_or page at 0 < 256) → IsImage (n + 1) (image ++ page ∷ [])
-image_push n image page is size small = record {
-  count = omega (arith, length-append image (page ∷ []), is.count);
-  pages = λ k within. ⊎_elim
-      (λ front. ap length (get_or_append_left image (page ∷ []) [] k (omega (arith, front, is.count))) ∙ is.pages k front)
-      (λ rest. let last : k ≡ n = omega (arith, rest, within) in ap length (ap (λ (j : ℕ). get_or (image ++ page ∷ []) j []) last ∙ get_or_push image page [] n is.count) ∙ size)
-      (cases_lt k n);
-  bytes = λ k at. ⊎_elim
-      (λ front. subst (λ (l : List ℕ). get_or l at 0 < 256) (sym (get_or_append_left image (page ∷ []) [] k (omega (arith, front, is.count)))) (is.bytes k at))
-      (λ rest. ⊎_elim
-      (λ last. subst (λ (l : List ℕ). get_or l at 0 < 256) (sym (ap (λ (j : ℕ). get_or (image ++ page ∷ []) j []) last ∙ get_or_push image page [] n is.count)) (small at))
-      (λ other. subst (λ (l : List ℕ). get_or l at 0 < 256) (sym (get_or_past (image ++ page ∷ []) k [] (omega (arith, length-append image (page ∷ []), is.count, rest, other)))) (omega arith))
-      (cases_eq k n))
-      (cases_lt k n);
 }
-
-pub blank_push : (image : Image) (page : List ℕ) → IsBlankImage image → ((at : ℕ) → get_or page at 0 ≡ 0) → IsBlankImage (image ++ page ∷ [])
-blank_push [] page old new zero at = new at
-blank_push [] page old new (suc k) at = refl
-blank_push (x ∷ image) page old new zero at = old zero at
-blank_push (x ∷ image) page old new (suc k) at = blank_push image page (λ j a. old (suc j) a) new k at
 
 -- images with the same bytes are equal
 pub same_image : (n : ℕ) (a b : Image) → IsImage n a → IsImage n b → ((page at : ℕ) → byte_of a page at ≡ byte_of b page at) → a ≡ b

@@ -1,5 +1,5 @@
 -- What a medium in memory may leave after one more event.
-use Rattle.medium_port.proofs.Names.{◌≡◌, ◌⊎◌, inl, inr, ⊎_elim, ℕ, ◌+◌, ◌-◌, ◌≤◌, ◌<◌, List, [], ◌∷◌, ◌++◌, length, take, drop, get_or, refl, sym, ◌∙◌, ap, subst, arith, length-append, length-take, length-drop, zero, suc, Option, Some, None, IfSome, replicate, cases_eq, cases_lt, set-set, set-get_or, get_or-take, get_or-drop, length-replicate, take_all, take-append-le, Image, IsImage, page_of, byte_of, splice, put_bytes, Torn, Event, Wrote, Synced, Reopened, Stop, torn_bytes, Span, OutsideSpan, Outside, Among, spans_of, damaged, Disk, after, replay, MayLeave, SpanFits, SpansFit, IsSound, reads_left, stage_of, stages_on, only_last}
+use Rattle.medium_port.proofs.Names.{◌≡◌, ◌⊎◌, inl, inr, ⊎_elim, ℕ, ◌+◌, ◌-◌, ◌≤◌, ◌<◌, List, [], ◌∷◌, ◌++◌, length, take, drop, get_or, refl, sym, ◌∙◌, ap, subst, arith, length-append, length-take, length-drop, zero, suc, Option, Some, None, IfSome, replicate, cases_eq, cases_lt, set-set, set-get_or, get_or-take, get_or-drop, length-replicate, Image, IsImage, page_of, byte_of, splice, put_bytes, Torn, Event, Wrote, Synced, Reopened, Stop, torn_bytes, Span, OutsideSpan, Outside, Among, spans_of, damaged, Disk, after, replay, MayLeave, SpanFits, SpansFit, IsSound, reads_left, stage_of, stages_on, only_last}
 use Rattle.medium_port.specs.Moment.{Stage, Goes, EitherSide}
 use Rattle.medium_port.proofs.Pages.{small_append, small_take, small_drop, small_replicate, splice_front, splice_back, splice_size, page_put, image_put, byte_outside, byte_inside}
 use Rattle.medium_port.proofs.Blanks.{same_image}

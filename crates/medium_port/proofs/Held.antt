@@ -1,5 +1,5 @@
 -- Pages of which the first are held.
-use Rattle.medium_port.proofs.Names.{◌≡◌, ℕ, ◌+◌, ◌-◌, ◌≤◌, ◌<◌, List, [], ◌∷◌, ◌++◌, length, refl, sym, ◌∙◌, ap, subst, arith, append_assoc, length-append, slice_set, zero, suc, replicate, length-set, get_or_append_left, get_or-append_right, get_or-replicate, length-replicate, Image, IsImage, IsBlankImage, page_of, put_bytes, splice, with_blanks}
+use Rattle.medium_port.proofs.Names.{◌≡◌, ℕ, ◌+◌, ◌-◌, ◌≤◌, ◌<◌, List, [], ◌∷◌, ◌++◌, length, refl, sym, ◌∙◌, ap, subst, arith, append_assoc, length-append, slice_set, zero, suc, replicate, length-set, get_or_append_left, length-replicate, Image, IsImage, IsBlankImage, page_of, put_bytes, splice, with_blanks}
 use Rattle.medium_port.proofs.Blanks.{blank_replicate, image_replicate, zero_get}
 
 abbrev zeros : List ℕ
@@ -31,11 +31,6 @@ with_more count front few =
 -- a page, held or not
 pub page_held : (count page : ℕ) (front : Image) → page < length front → page_of (with_blanks count front) page ≡ page_of front page
 page_held count page front low = get_or_append_left front (replicate (count - length front) zeros) [] page low
-
-pub page_blank : (count page : ℕ) (front : Image) → length front ≤ page → page < count → page_of (with_blanks count front) page ≡ zeros
-page_blank count page front high within =
-    get_or-append_right front (replicate (count - length front) zeros) (length front) page [] refl high
-    ∙ get_or-replicate (count - length front) (page - length front) zeros [] (omega (arith, high, within))
 
 -- bytes that are put in a held page
 pub put_with : (count page at : ℕ) (bytes : List ℕ) (front : Image) → page < length front → with_blanks count (put_bytes page at bytes front) ≡ put_bytes page at bytes (with_blanks count front)

@@ -15,6 +15,6 @@ pub use Rattle.std.proofs.Common.{List, [], ap, append_assoc, arith, drop, false
 pub use Rattle.std.proofs.Math.ListN.{replicate}
 pub use Rattle.std.proofs.lemmas.Bool.{and_parts, cases_Bool, cases_eq, cases_lt, cond-false, cond-true, eq-eqb, eqb-true, false≢true}
 pub use Rattle.std.proofs.lemmas.Bool.Decides.{when_false, when_true}
-pub use Rattle.std.proofs.lemmas.List.{drop_at, ext_get_or, get_or-append_right, get_or-drop, get_or-replicate, get_or-set_other, get_or-set_same, get_or-take, get_or_append_left, get_or_past, get_or_push, length-replicate, length-set, set-get_or, set-set, set_past, take-append-le, take_all, take_at}
+pub use Rattle.std.proofs.lemmas.List.{drop_at, ext_get_or, get_or-append_right, get_or-drop, get_or-replicate, get_or-set_other, get_or-set_same, get_or-take, get_or_append_left, get_or_past, length-replicate, length-set, set-get_or, set-set, set_past, take_at}
 pub use Rattle.std.specs.Prelude.{Bool, Err, IfSome, MatchOption, None, OnErr, Option, Some, if◌then◌else◌, is_some, ◌&&◌, ◌==◌}
 pub use Rattle.std.specs.declared.snapshot.Snapshot.{Snapshot}

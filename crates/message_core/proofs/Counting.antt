@@ -1,5 +1,5 @@
 -- How often a number stands in a list.
-use Rattle.message_core.proofs.Names.{◌≡◌, ℕ, zero, suc, ◌+◌, ◌-◌, ◌==◌, Bool, true, false, cond, List, [], ◌∷◌, ◌++◌, length, take, drop, replicate, refl, sym, ap, ◌∙◌, arith, put, puts, count}
+use Rattle.message_core.proofs.Names.{◌≡◌, ℕ, zero, suc, ◌+◌, ◌-◌, ◌==◌, Bool, true, false, cond, List, [], ◌∷◌, ◌++◌, length, take, drop, refl, sym, ap, ◌∙◌, arith, put, puts, count}
 
 pub count-append : (k : ℕ) (xs ys : List ℕ) → count k (xs ++ ys) ≡ count k xs + count k ys
 count-append k [] ys = omega arith
@@ -35,7 +35,3 @@ count-puts k (suc n) number overtake queue =
     let b = count-put k number overtake queue in
     let c = once_more (number == k) n in
     omega (arith, a, b, c)
-
-pub count-replicate : (k n number : ℕ) → count k (replicate n number) ≡ cond (number == k) n 0
-count-replicate k zero number = sym (nothing (number == k))
-count-replicate k (suc n) number = let a = count-replicate k n number in let c = once_more (number == k) n in omega (arith, a, c)

@@ -59,11 +59,6 @@ one_at false number to (Some queue) = ap Some (sym (append-nil queue))
 pub one_more : (copy : HeldCopy) (before after : NodeId → Option (List ℕ)) → ((n : NodeId) → after n ≡ (if same_node copy.to n then option_map (λ queue. queue ++ copy.number ∷ []) (before n) else before n)) → Grew (copy ∷ []) before after
 one_more copy before after changed n = changed n ∙ one_at (same_node copy.to n) copy.number copy.to (before n)
 
--- a node that isn't up gets no copy
-no_queue : (b : Bool) (number : ℕ) (to : NodeId) (o : Option (List ℕ)) → o ≡ None → o ≡ option_map (λ queue. queue ++ map (λ (h : HeldCopy). h.number) (cond b ((record { number = number; to = to }) ∷ []) [])) o
-no_queue b number to None none = refl
-no_queue b number to (Some queue) none = cc
-
 pub going_to-append : (n : NodeId) (xs ys : List HeldCopy) → going_to n (xs ++ ys) ≡ going_to n xs ++ going_to n ys
 going_to-append n xs ys = ap (map (λ (h : HeldCopy). h.number)) (filter-append (λ (h : HeldCopy). same_node h.to n) xs ys) ∙ map-append (λ (h : HeldCopy). h.number) (filter (λ (h : HeldCopy). same_node h.to n) xs) (filter (λ (h : HeldCopy). same_node h.to n) ys)
 
@@ -77,22 +72,9 @@ all_but_last xs x =
     let l : length (xs ++ x ∷ []) - 1 ≡ length xs = ap (λ n. n - 1) (length-append xs (x ∷ [])) ∙ less_one (length xs) in
     ap (λ n. take n (xs ++ x ∷ [])) l ∙ take-append_seam xs (x ∷ [])
 
-grown_once : (o : Option (List ℕ)) (xs ys : List ℕ) → option_map (λ queue. queue ++ ys) (option_map (λ queue. queue ++ xs) o) ≡ option_map (λ queue. queue ++ (xs ++ ys)) o
-grown_once None xs ys = refl
-grown_once (Some queue) xs ys = ap Some (append_assoc queue xs ys)
-
--- copies after copies
-pub grew_joins : (xs ys : List HeldCopy) (before between after : NodeId → Option (List ℕ)) → Grew xs before between → Grew ys between after → Grew (xs ++ ys) before after
-grew_joins xs ys before between after one two n =
-    two n ∙ ap (option_map (λ queue. queue ++ going_to n ys)) (one n) ∙ grown_once (before n) (going_to n xs) (going_to n ys) ∙ ap (λ z. option_map (λ queue. queue ++ z) (before n)) (sym (going_to-append n xs ys))
-
 nothing_more : (o : Option (List ℕ)) → option_map (λ queue. queue ++ []) o ≡ o
 nothing_more None = refl
 nothing_more (Some queue) = ap Some (append-nil queue)
-
--- no copies
-pub grew_none : (before after : NodeId → Option (List ℕ)) → ((n : NodeId) → after n ≡ before n) → Grew [] before after
-grew_none before after same n = same n ∙ sym (nothing_more (before n))
 
 pub grew_nothing : (before after : NodeId → Option (List ℕ)) → Grew [] before after → (n : NodeId) → after n ≡ before n
 grew_nothing before after grew n = grew n ∙ nothing_more (before n)

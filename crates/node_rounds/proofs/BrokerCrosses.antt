@@ -1,7 +1,7 @@
 -- A broker's core may go to another thread.
 use denote.RattleType.{RattleType}
 use denote.Hole.{as_row}
-use denote.Struct.Field.{row_field, u8-field, u32-field}
+use denote.Struct.Field.{u8-field}
 use denote.Param.Send.{IsSend, sendable, view_send}
 use denote.Param.SendFields.{declared_send}
 use Rattle.std.proofs.Crossing.{Vec-send, send}

@@ -1,6 +1,6 @@
 -- Nodes may go to another thread.
 use denote.RattleType.{RattleType}
-use denote.Param.Send.{IsSend, sendable, view_send}
+use denote.Param.Send.{IsSend, view_send}
 use denote.Param.SendFields.{declared_send}
 use Rattle.std.proofs.Crossing.{send}
 use Rattle.medium_port.specs.declared.media.Medium as medium

@@ -12,7 +12,7 @@ pub use Rattle.broker_node.specs.Windows.{PassesOn}
 pub use Rattle.broker_node.specs.Wires.{WireParts, base_from}
 pub use Rattle.medium_port.specs.Image.{Image, page_of}
 pub use Rattle.medium_port.specs.declared.media.Medium.{Ghosts as Media}
-pub use Rattle.node_rounds.specs.Nodes.{EachNode, EachPlace, GoesOn, HadTurn, HasAllOf, HasMet, HasPass, HasSeen, IsKeptNow, IsKeptThrough, IsReady, IsUp, Shares, SomeNode}
+pub use Rattle.node_rounds.specs.Nodes.{EachNode, EachPlace, GoesOn, HadTurn, HasAllOf, HasMet, HasPass, HasSeen, IsKeptThrough, IsReady, IsUp, Shares, SomeNode}
 pub use Rattle.node_rounds.specs.Reasons.{Follows, HasMemory, HasTicked, IsDone, IsDown, IsLate, IsLateAfter, SawRest, SeesMore, TicksAreWanted, is_done_after, is_done_at}
 pub use Rattle.node_rounds.specs.Turns.{GoesFurther, HadSome}
 pub use Rattle.pseudo_time.proofs.ListLemmas.{every-append, has-either, has-left, has-right}

@@ -5,7 +5,6 @@ use Rattle.page_gate.specs.declared.pages.PageState.TheVariants.{Spoiled}
 use Rattle.effect_form.specs.declared.effects.Effect.{Effect}
 use Rattle.effect_form.specs.Effects.{IsEffect}
 use Rattle.version_store.specs.Filling.{KeepsPages, StaysClean}
-use Rattle.version_store.specs.Storage.{storage}
 use Rattle.version_store.proofs.FillingLemmas.{apart-append}
 use Rattle.broker_node.specs.Cores.{HasGrown, IsIntact}
 

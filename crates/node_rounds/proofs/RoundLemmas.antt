@@ -1,5 +1,5 @@
 -- What becomes of nodes by turns and meetings.
-use Rattle.node_rounds.proofs.Names.{◌≡◌, ◌≢◌, ◌+◌, ℕ, Bool, List, [], ◌++◌, Result, Ok, Err, IsTrue, OnOk, refl, ap, sym, subst, ◌∙◌, arith, append_assoc, All, AllZip, append-nil, View, Founding, LockTable, DownCause, Image, Media, Begins, entries_of, Entry, WireParts, owner_of, owner_for, NodeId, Sight, IsOf, Looked, Owns, life_at, looked-of, Condition, Turned, costs, PaysFor, PassesOn, kept-on, passes-on, passes-here, passes-beside, NodeParts, Adds, StaysWhole, IsCondition, TurnsTo, MeetsWith, sight, costs-append, adds-more, adds-none, IsKeptNow, IsKeptThrough, GoesOn, HasMet, HasAllOf, HasPass, HasSeen, IsReady}
+use Rattle.node_rounds.proofs.Names.{◌≡◌, ◌≢◌, ◌+◌, ℕ, Bool, List, [], ◌++◌, Result, Ok, Err, OnOk, refl, ap, sym, subst, ◌∙◌, arith, append_assoc, All, AllZip, append-nil, View, Founding, LockTable, DownCause, Image, Media, Begins, entries_of, Entry, WireParts, owner_of, owner_for, NodeId, Sight, Looked, Owns, life_at, looked-of, Condition, Turned, costs, PaysFor, PassesOn, kept-on, passes-on, passes-here, passes-beside, NodeParts, Adds, StaysWhole, IsCondition, TurnsTo, MeetsWith, sight, costs-append, adds-more, adds-none, IsKeptThrough, GoesOn, HasMet, HasAllOf, HasPass, HasSeen}
 use Rattle.medium_port.specs.Moment.{Stage, LeftNow, goes_nowhere}
 use Rattle.broker_node.specs.Condition.TheVariants as condition
 use Rattle.broker_node.specs.Lives.{IsKept}

@@ -1,5 +1,5 @@
 -- What holds of the nodes of all shares.
-use Rattle.node_rounds.proofs.Names.{◌≡◌, ◌≢◌, List, All, Any, AllZip, All-weaker, NodeParts, Shares, EachNode, EachPlace, SomeNode}
+use Rattle.node_rounds.proofs.Names.{All, Any, AllZip, All-weaker, NodeParts, Shares, EachNode, EachPlace, SomeNode}
 use Rattle.node_rounds.proofs.PairLemmas.{all-through, all-both, any-both, any-through, zip-through, zip-same, zip-with}
 
 module _ {M : Type 0} where

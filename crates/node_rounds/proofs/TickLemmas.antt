@@ -1,5 +1,5 @@
 -- What the conductor has seen, over looks and Ticks.
-use Rattle.node_rounds.proofs.Names.{◌≡◌, ◌+◌, ◌<◌, ℕ, Bool, true, false, not, IsTrue, List, [], ◌∷◌, ◌++◌, inr, refl, ap, sym, subst, ◌∙◌, arith, cond, append-nil, sum_by-append, Begins, Entry, Tick, walk, Sight, HasNothingOpen, Looked, Added, base_at, world_at, is_tick, tick_count, Shares, EachNode, EachPlace, HasMet, IsUp, SeesMore, SawRest, Follows}
+use Rattle.node_rounds.proofs.Names.{◌≡◌, ◌+◌, ◌<◌, ℕ, Bool, true, false, not, IsTrue, List, [], ◌∷◌, ◌++◌, inr, refl, ap, sym, subst, ◌∙◌, arith, cond, sum_by-append, Begins, Entry, Tick, walk, Sight, HasNothingOpen, Looked, base_at, world_at, is_tick, tick_count, Shares, EachNode, EachPlace, HasMet, IsUp, SeesMore, SawRest, Follows}
 use Rattle.node_rounds.specs.declared.limits.Limits.{Limits}
 use Rattle.node_rounds.specs.declared.reasons.Reason.TheVariants as reason
 use Rattle.node_rounds.specs.declared.reasons.Next.{Next}
@@ -11,17 +11,9 @@ use Rattle.node_rounds.proofs.ShareLemmas.{each-through}
 count-more : (es : List Entry) (moment : ℕ) → tick_count (es ++ Tick moment ∷ []) ≡ tick_count es + 1
 count-more es moment = sum_by-append (λ e. cond (is_tick e) 1 0) es (Tick moment ∷ [])
 
-pub sees-same : (k : Sight) → SeesMore 0 k k
-sees-same k = record { owner = refl; begins = ([], append-nil k.story); ticked = omega arith }
-
 pub sees-looked : (a b : Sight) → Looked a b → SeesMore 0 a b
 sees-looked a b p = record { owner = looked-owner p; begins = p.before.carries.begins; ticked = ap tick_count (looked-own p) ∙ omega arith }
 
-pub sees-tick : (a b : Sight) (moment : ℕ) → Added a b (Tick moment) → SeesMore 1 a b
-sees-tick a b moment p = record {
-  owner = ap (λ (k : Sight). k.owner) p.kept;
-  begins = begins-joins a.story p.found b.story p.before.carries.begins (Tick moment ∷ [], sym (ap (λ (k : Sight). k.story) p.kept));
-  ticked = ap (λ (k : Sight). tick_count k.own) p.kept ∙ count-more a.own moment;
 }
 
 pub sees-joins : (m n : ℕ) (a b c : Sight) → SeesMore m a b → SeesMore n b c → SeesMore (m + n) a c

@@ -1,5 +1,5 @@
 -- What turns are to a node of the rounds, one or several.
-use Rattle.node_rounds.proofs.Names.{◌≡◌, ◌≢◌, ◌+◌, ◌++◌, List, Result, Ok, Err, IsTrue, refl, ap, sym, subst, ◌∙◌, ⊎_elim, IfOk, OnOk, DownCause, NodeId, has-left, has-right, has-either, View, Founding, LockTable, Media, Entry, place_of, number_of, WireParts, Condition, Turned, costs, NodeParts, Does, Grew, IsCondition, StaysWhole, TurnsTo, sight, PassesOn, passes-on, trail-joins, more-grew, GoesOn, HadTurn, HasPass, IsKeptThrough, IsReady}
+use Rattle.node_rounds.proofs.Names.{◌≡◌, ◌≢◌, ◌+◌, ◌++◌, List, Result, Ok, Err, sym, subst, ◌∙◌, ⊎_elim, IfOk, OnOk, DownCause, NodeId, has-left, has-right, has-either, View, Founding, LockTable, Media, Entry, place_of, number_of, WireParts, Condition, Turned, costs, NodeParts, Does, Grew, IsCondition, StaysWhole, TurnsTo, sight, PassesOn, passes-on, trail-joins, more-grew, GoesOn, HadTurn, IsKeptThrough, IsReady}
 use Rattle.std.specs.declared.alloc.AllocError.{AllocError}
 use Rattle.broker_node.specs.Condition.TheVariants as condition
 use Rattle.broker_node.specs.Turned.TheVariants.{Worked, Quiet, Stopped}

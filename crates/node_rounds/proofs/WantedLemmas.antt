@@ -1,5 +1,5 @@
 -- Each Tick of the conductor's story stands where some node isn't done.
-use Rattle.node_rounds.proofs.Names.{◌≡◌, ◌⊎◌, ◌+◌, ◌≤◌, ◌<◌, ◌==◌, ℕ, Bool, true, false, IsTrue, List, [], ◌∷◌, ◌++◌, length, inl, inr, refl, ap, sym, subst, ◌∙◌, append_assoc, arith, cond, if◌then◌else◌, append-nil, filter-append, sum_by-append, sum_by-cons, NodeId, View, Founding, LockTable, Begins, entries_of, CarriesOn, lock_base, knows, Entry, Take, Go, Learn, Hear, Gate, Crash, Down, Tick, Base, Life, walk, WireParts, base_from, owner_of, Sight, IsOf, Owns, Looked, Added, base_at, life_at, as-before, pass-origin, is_tick, tick_count, NodeParts, sight, Shares, EachNode, EachPlace, SomeNode, HasAllOf, HasMet, HasPass, HasSeen, HasTicked, IsLate, IsLateAfter, SeesMore, TicksAreWanted, is_done_after, is_done_at}
+use Rattle.node_rounds.proofs.Names.{◌≡◌, ◌⊎◌, ◌+◌, ◌≤◌, ◌==◌, ℕ, Bool, true, false, IsTrue, List, [], ◌∷◌, ◌++◌, inl, inr, refl, ap, sym, subst, ◌∙◌, append_assoc, arith, cond, if◌then◌else◌, append-nil, filter-append, sum_by-append, sum_by-cons, NodeId, View, Founding, LockTable, Begins, entries_of, CarriesOn, lock_base, Entry, Take, Go, Learn, Hear, Gate, Crash, Down, Tick, Base, Life, walk, WireParts, base_from, owner_of, Sight, IsOf, Owns, Looked, Added, base_at, life_at, as-before, pass-origin, is_tick, tick_count, NodeParts, sight, Shares, EachNode, EachPlace, SomeNode, HasAllOf, HasMet, HasPass, HasSeen, HasTicked, IsLate, IsLateAfter, SeesMore, TicksAreWanted, is_done_after, is_done_at}
 use Rattle.std.proofs.lemmas.Bool.Decides.{nat_tests}
 use Rattle.pseudo_time.specs.Nodes.{is_broker}
 use Rattle.broker_node.specs.Logs.{is_over}

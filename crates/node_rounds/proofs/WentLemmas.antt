@@ -1,5 +1,5 @@
 -- How nodes went on, over rounds and meetings.
-use Rattle.node_rounds.proofs.Names.{List, Media, View, Founding, LockTable, Begins, Entry, WireParts, NodeParts, Shares, EachNode, EachPlace, GoesOn, IsKeptThrough, HadTurn, HasAllOf, HasMet, HasPass, IsReady, IsUp}
+use Rattle.node_rounds.proofs.Names.{List, Media, View, Founding, LockTable, Begins, Entry, WireParts, Shares, EachNode, EachPlace, GoesOn, IsKeptThrough, HadTurn, HasAllOf, HasMet, HasPass, IsReady, IsUp}
 use Rattle.node_rounds.proofs.RoundLemmas.{goes-same, goes-met, goes-joins, has-more, kept-same, kept-met, kept-joins}
 use Rattle.node_rounds.proofs.TurnedLemmas.{went-turned, kept-turned}
 use Rattle.node_rounds.proofs.WantedLemmas.{SameName}

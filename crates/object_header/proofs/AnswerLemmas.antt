@@ -1,11 +1,11 @@
 -- What a read and a write answer, by the header and by the newest version that passes.
 use Rattle.std.specs.FinMap as finite
-use Rattle.object_header.proofs.Names.{StampParts, stamp_cmp, TimeParts, same_stamp, same_time, lt, lt-irreflexive, ObjectId, Value, Nothing, Mark, Put, Stretch, Settle, Floor, WriteStep, same_object, same_value, is_alive, is_settled, is_committed, settle_of, alive, Seen, scan, sees, newest, top, stretched, floor_of, latest, reach, is_above, is_over, some_put, settled_over, needs_stretch, read_seen, read_from, read_step, has_put, stands_written, write_reach, write_newest, write_step, Settled, Starts, IsOnFloor, Passes, Low, scan-passes, low-all, same_object-is, Limit, Span, Look, HeadParts, within, is_living, is_firm, passes, look, Fits, spans_in, Rising, first_put, IsHead, waits, is_written, first, ◌≡◌, ℕ, Bool, true, false, List, [], ◌∷◌, ◌++◌, refl, sym, ◌∙◌, ap, subst, Option, Some, None, ◌&&◌, ◌||◌, not, if◌then◌else◌, false≢true, true≢false, lt-split, lt-total, same_time-is, same_time-of, answer_first}
+use Rattle.object_header.proofs.Names.{TimeParts, same_stamp, same_time, lt, lt-irreflexive, ObjectId, Value, Nothing, Mark, Put, Stretch, Settle, Floor, same_object, same_value, is_settled, is_committed, settle_of, alive, Seen, scan, sees, newest, top, stretched, floor_of, latest, reach, is_above, some_put, settled_over, needs_stretch, read_seen, read_from, read_step, has_put, stands_written, write_reach, write_newest, Settled, Starts, IsOnFloor, Passes, Low, scan-passes, low-all, same_object-is, Limit, Span, Look, HeadParts, is_living, is_firm, passes, look, Fits, spans_in, Rising, first_put, IsHead, waits, is_written, first, ◌≡◌, Bool, true, false, List, [], ◌∷◌, ◌++◌, refl, sym, ◌∙◌, ap, subst, Option, Some, None, ◌&&◌, ◌||◌, not, if◌then◌else◌, false≢true, true≢false, lt-split, same_time-is, answer_first}
 use Rattle.object_history.specs.declared.steps.ReadStep.TheVariants as read
 use Rattle.object_history.specs.declared.steps.WriteStep.TheVariants as write
 use Rattle.object_header.specs.declared.limits.Limit.TheVariants as limit
 use Rattle.object_header.specs.declared.heads.Look.TheVariants as found
-use Rattle.object_header.proofs.SpanLemmas.{looked, look-same, firm-living}
+use Rattle.object_header.proofs.SpanLemmas.{looked, look-same}
 use Rattle.object_header.proofs.RisingLemmas.{shown, first-scan}
 use Rattle.object_header.proofs.HeadLemmas.{some_put-fewer}
 use Rattle.object_header.proofs.LookLemmas.{Says, look-says, sees-is, newest-is, passes-lives, living-is, newest-living}

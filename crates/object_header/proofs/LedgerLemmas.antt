@@ -1,7 +1,7 @@
 -- A ledger after a change.
 use Rattle.std.specs.declared.cmp.Ordering.{Ordering}
 use Rattle.std.specs.declared.cmp.Ordering.TheVariants.{Less, Equal, Greater}
-use Rattle.object_header.proofs.Names.{StampParts, TimeParts, ObjectId, Value, Effect, Mark, Put, Stretch, Settle, Floor, same_object, floor_of, Settled, AreMarks, IsMark, kept_of, Headed, head_at, first_put, content, odd_in, IsIndexed, marks, mark_of, added, ◌≡◌, ℕ, Bool, true, false, List, [], ◌∷◌, ◌++◌, length, reverse, map, take, ◌+◌, ◌-◌, length-append, refl, sym, ◌∙◌, ap, subst, Option, None, ◌==◌, ◌&&◌, if◌then◌else◌, arith, push, nat_cmp, ordering_then, is_eq, common_steps, reverse-append, take_at, append_cancel_right, false≢true, LedgerParts, IsLedger, HasMarks, is_here, mark_put}
+use Rattle.object_header.proofs.Names.{StampParts, TimeParts, ObjectId, Value, Effect, Mark, Put, Stretch, Settle, Floor, same_object, floor_of, Settled, AreMarks, IsMark, kept_of, Headed, head_at, first_put, content, odd_in, IsIndexed, marks, mark_of, added, ◌≡◌, ℕ, Bool, true, false, List, [], ◌∷◌, ◌++◌, length, reverse, take, ◌+◌, ◌-◌, length-append, refl, sym, ◌∙◌, ap, subst, Option, None, ◌==◌, ◌&&◌, if◌then◌else◌, arith, push, nat_cmp, ordering_then, is_eq, common_steps, reverse-append, take_at, append_cancel_right, false≢true, LedgerParts, IsLedger, HasMarks, is_here, mark_put}
 use Rattle.repository_log.proofs.MarkLemmas.{marks-append}
 
 -- ---- objects

@@ -1,6 +1,5 @@
 -- What a header finds is what a scan of the marks finds.
-use Rattle.std.specs.FinMap as finite
-use Rattle.object_header.proofs.Names.{StampParts, stamp_cmp, TimeParts, lt, lt-irreflexive, ObjectId, Value, Mark, Put, Stretch, Settle, Floor, same_object, is_alive, settle_of, alive, version_count, Seen, scan, sees, newest, stretched, some_put, Settled, same-scan, starts-all, Limit, Span, Look, within, is_living, is_firm, passes, look, Fits, spans_in, Rising, ◌≡◌, ℕ, ◌+◌, ◌≤◌, ◌<◌, Bool, true, false, List, [], ◌∷◌, refl, sym, ◌∙◌, ap, subst, Option, Some, None, ◌==◌, ◌&&◌, ◌||◌, not, if◌then◌else◌, arith, false≢true, true≢false}
+use Rattle.object_header.proofs.Names.{TimeParts, lt, lt-irreflexive, ObjectId, Value, Mark, Put, Stretch, Settle, Floor, same_object, is_alive, alive, version_count, Seen, scan, sees, newest, stretched, some_put, Settled, same-scan, starts-all, Limit, Span, Look, within, is_living, is_firm, passes, look, Fits, spans_in, Rising, ◌≡◌, Bool, true, false, List, [], ◌∷◌, refl, sym, ◌∙◌, ap, Some, None, ◌&&◌, ◌||◌, not, if◌then◌else◌, false≢true, true≢false}
 use Rattle.object_header.specs.declared.limits.Limit.TheVariants as limit
 use Rattle.object_header.specs.declared.heads.Look.TheVariants as found
 use Rattle.object_header.proofs.SpanLemmas.{looked, firm-living}

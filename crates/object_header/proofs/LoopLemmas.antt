@@ -1,5 +1,5 @@
 -- A look through a header, and the reading of what it finds, one version after another.
-use Rattle.object_header.proofs.Names.{TimeParts, lt, top, Settled, Limit, Span, Look, HeadParts, within, is_living, is_firm, read_up_to, look, marked, current, with_version, AreAlike, ◌≡◌, ℕ, zero, suc, ◌+◌, ◌-◌, ◌≤◌, ◌<◌, Bool, true, false, List, [], ◌∷◌, ◌++◌, length, reverse, take, drop, refl, sym, ◌∙◌, ap, subst, Option, Some, None, slice_set, slice_index_or, arith, if◌then◌else◌, push, reverse-append, length-reverse, append_assoc, take-append-drop, take_all}
+use Rattle.object_header.proofs.Names.{TimeParts, lt, top, Settled, Limit, Span, Look, HeadParts, within, is_living, is_firm, read_up_to, look, marked, current, with_version, AreAlike, ◌≡◌, ℕ, zero, suc, ◌+◌, ◌-◌, ◌≤◌, ◌<◌, Bool, true, false, List, [], ◌∷◌, ◌++◌, length, reverse, take, drop, refl, sym, ◌∙◌, ap, Option, Some, None, slice_set, slice_index_or, arith, if◌then◌else◌, push, reverse-append, append_assoc, take-append-drop, take_all}
 use Rattle.object_header.specs.declared.heads.Look.TheVariants as found
 use Rattle.object_header.proofs.SpanLemmas.{looked, mark, firm-living, current-cons}
 

@@ -31,17 +31,17 @@ pub use Rattle.object_history.specs.Views.{IsOnFloor, Starts}
 pub use Rattle.object_history.specs.declared.marks.Mark.{Mark}
 pub use Rattle.object_history.specs.declared.marks.Mark.TheVariants.{Floor, Put, Settle, Stretch}
 pub use Rattle.object_history.specs.declared.steps.WriteStep.{WriteStep}
-pub use Rattle.pseudo_time.proofs.OrderLemmas.{lt-asymmetric, lt-irreflexive, lt-split, lt-total, same_stamp-is, same_time-is, same_time-of, stamp_cmp-total}
+pub use Rattle.pseudo_time.proofs.OrderLemmas.{lt-asymmetric, lt-irreflexive, lt-split, same_stamp-is, same_time-is, stamp_cmp-total}
 pub use Rattle.pseudo_time.specs.Order.{lt, same_time}
 unfoldable pub use Rattle.pseudo_time.specs.Order.{same_stamp}
 pub use Rattle.pseudo_time.specs.StampParts.{StampParts, stamp_cmp}
 pub use Rattle.pseudo_time.specs.TimeParts.{TimeParts}
 pub use Rattle.repository_log.specs.Logs.{HasMarks, mark_of, marks}
-pub use Rattle.std.proofs.Common.{Bool, IsTrue, List, None, Option, Some, [], ap, arith, cond, drop, false, if◌then◌else◌, inl, inr, length, length-append, map, not, refl, reverse, rules, slice_index_or, slice_set, subst, suc, sym, take, true, zero, ℕ, ◌&&◌, ◌++◌, ◌+◌, ◌-◌, ◌<◌, ◌==◌, ◌||◌, ◌∙◌, ◌∷◌, ◌≡◌, ◌≤◌}
+pub use Rattle.std.proofs.Common.{Bool, IsTrue, List, None, Option, Some, [], ap, arith, cond, drop, false, if◌then◌else◌, length, length-append, not, refl, reverse, rules, slice_index_or, slice_set, subst, suc, sym, take, true, zero, ℕ, ◌&&◌, ◌++◌, ◌+◌, ◌-◌, ◌<◌, ◌==◌, ◌||◌, ◌∙◌, ◌∷◌, ◌≡◌, ◌≤◌}
 pub use Rattle.std.proofs.Math.Seq.{take-suc}
-pub use Rattle.std.proofs.lemmas.Bool.{cases_Bool, cond-false, cond-true, false≢true, true≢false}
+pub use Rattle.std.proofs.lemmas.Bool.{cond-false, cond-true, false≢true, true≢false}
 pub use Rattle.std.proofs.lemmas.Grind.{common_steps}
-pub use Rattle.std.proofs.lemmas.List.{append-nil, append_assoc, append_cancel_right, length-reverse, reverse-append, take-append-drop, take_all, take_at}
+pub use Rattle.std.proofs.lemmas.List.{append-nil, append_assoc, append_cancel_right, reverse-append, take-append-drop, take_all, take_at}
 pub use Rattle.std.proofs.lemmas.Result.{on_err_weaker, on_ok_weaker}
 pub use Rattle.std.specs.List.{push}
 pub use Rattle.std.specs.Option.{is_some, option_map}

@@ -1,9 +1,8 @@
 -- A Stretch of the object itself falls on what its header finds.
-use Rattle.std.specs.FinMap as finite
-use Rattle.object_header.proofs.Names.{StampParts, stamp_cmp, TimeParts, lt, ObjectId, Value, Mark, Put, Stretch, Settle, Floor, same_object, is_alive, settle_of, alive, version_count, Seen, scan, sees, place_of, same_place, top, stretched, some_put, Settled, scan-under, same_object-of, Span, Look, HeadParts, within, is_living, is_firm, passes, read_up_to, current, look, marked, with_end, ended, Fits, spans_in, Rising, IsHead, ◌≡◌, ℕ, ◌+◌, ◌≤◌, ◌<◌, Bool, true, false, List, [], ◌∷◌, refl, sym, ◌∙◌, ap, subst, Option, Some, None, ◌==◌, ◌&&◌, ◌||◌, not, if◌then◌else◌, arith, false≢true, true≢false, common_steps}
+use Rattle.object_header.proofs.Names.{TimeParts, lt, ObjectId, Mark, Put, Stretch, Settle, Floor, same_object, version_count, Seen, scan, sees, place_of, same_place, top, stretched, some_put, Settled, scan-under, same_object-of, Span, Look, HeadParts, within, is_living, is_firm, passes, read_up_to, current, look, marked, with_end, ended, Fits, spans_in, Rising, IsHead, ◌≡◌, ℕ, ◌+◌, ◌≤◌, ◌<◌, Bool, true, false, List, [], ◌∷◌, refl, sym, ◌∙◌, ap, subst, Option, Some, None, ◌==◌, ◌&&◌, not, if◌then◌else◌, arith, false≢true, true≢false, common_steps}
 use Rattle.object_header.specs.declared.limits.Limit.TheVariants as limit
 use Rattle.object_header.specs.declared.heads.Look.TheVariants as found
-use Rattle.object_header.proofs.SpanLemmas.{put, mark, looked, current-marked, look-same, firm-living}
+use Rattle.object_header.proofs.SpanLemmas.{put, mark, looked, current-marked, look-same}
 use Rattle.object_header.proofs.RisingLemmas.{scan-own, scan-over}
 use Rattle.object_header.proofs.HeadLemmas.{span_of, some_put-fewer}
 use Rattle.object_header.proofs.LookLemmas.{Says, look-says, sees-is, passes-lives}

@@ -3,7 +3,6 @@ use Rattle.field_form.proofs.FormLaws.{some_is}
 use Rattle.object_header.proofs.Names.{TimeParts, ObjectId, Value, Effect, Place, Mark, same_object, same_object-is, Entry, Log, IsIn, first_put, first, mark_of, marks, added, marks_in, Walks, ◌≡◌, ℕ, zero, suc, ◌+◌, ◌≤◌, ◌<◌, Bool, true, false, List, [], ◌∷◌, ◌++◌, length, reverse, take, refl, sym, ◌∙◌, ap, Option, Some, None, slice_index_or, ◌&&◌, if◌then◌else◌, cond, arith, false≢true, true≢false, cond-true, cond-false, reverse-append, take-suc, effects_of, put_object, is_object, last_put, back_in, is_some, StandsAt, put_found}
 use Rattle.effect_form.specs.declared.effects.Effect.TheVariants.{Put, Stretch, Begin, Decide, Learn, Run, Act, Try, Got, Acked, End}
 use Rattle.effect_form.specs.declared.effects.Effect.TheVariants as effect
-use Rattle.object_history.specs.declared.marks.Mark.TheVariants as mark
 use Rattle.version_store.proofs.LogLemmas.{last_from-push, effects_of-append}
 
 marks-push : (log : Log) (e : Entry) → marks_in (log ++ e ∷ []) ≡ added (mark_of e.effect) (marks_in log)

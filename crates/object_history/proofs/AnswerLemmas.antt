@@ -1,5 +1,5 @@
 -- What the answers of reads and writes say.
-use Rattle.object_history.proofs.Names.{StampParts, TimeParts, ObjectId, Value, Mark, Put, Stretch, Settle, Floor, same_stamp, same_time, lt, same_object, same_value, Seen, settle_of, is_alive, is_settled, is_committed, alive, scan, sees, newest, place_of, same_place, top, stretched, floor_of, latest, read_to, reach, some_put, is_over, settled_over, needs_stretch, Starts, HasPut, views, Covers, Firm, Shut, value_of, Viewed, same_stamp-is, same_time-is, lt-trans, lt-irreflexive, Nothing, Answer, Wait, LaterRead, WriteStep, read_seen, read_from, read_step, write_reach, write_newest, write_step, stands_written, has_put, Has, ℕ, ◌≡◌, ◌≢◌, Bool, true, false, List, [], ◌∷◌, refl, sym, ◌∙◌, ap, subst, Option, Some, None, ◌&&◌, ◌||◌, not, if◌then◌else◌, ◌⊎◌, inl, inr, false≢true, true≢false, is_above, IsOnFloor, after_read}
+use Rattle.object_history.proofs.Names.{StampParts, TimeParts, ObjectId, Value, Mark, Put, Stretch, Settle, Floor, same_stamp, same_time, lt, same_object, same_value, Seen, settle_of, is_alive, is_settled, is_committed, alive, scan, sees, newest, place_of, same_place, top, stretched, floor_of, latest, reach, some_put, is_over, settled_over, needs_stretch, Starts, HasPut, views, Covers, Firm, Shut, value_of, Viewed, same_stamp-is, same_time-is, lt-trans, lt-irreflexive, Nothing, Answer, Wait, LaterRead, WriteStep, read_seen, read_from, read_step, write_reach, write_newest, write_step, stands_written, has_put, Has, ℕ, ◌≡◌, ◌≢◌, Bool, true, false, List, [], ◌∷◌, refl, sym, ◌∙◌, ap, subst, Option, Some, None, ◌&&◌, ◌||◌, not, if◌then◌else◌, ◌⊎◌, inl, inr, false≢true, true≢false, is_above, IsOnFloor, after_read}
 use Rattle.object_history.proofs.Words.{Passes, AtMost}
 use Rattle.object_history.proofs.BoolLemmas.{and-both, and-left, and-right}
 use Rattle.object_history.proofs.ObjectLemmas.{eqb-yes, same_object-is, same_object-of}

@@ -1,8 +1,7 @@
 -- What histories in memory keep stays so when a mark is added.
 use Rattle.std.specs.FinMap as finite
-use Rattle.object_history.proofs.Names.{StampParts, stamp_cmp, TimeParts, same_stamp, lt, stamp_cmp-total, same_stamp-is, ObjectId, Value, object_cmp, IsValue, Mark, Put, Stretch, Settle, Floor, Version, same_object, or_else, settle_of, version_count, Seen, starts_above, pick, scan, sees, place_of, same_place, top, floor_of, latest, read_to, reach, stretched, LaterRead, read_seen, read_from, read_step, Settled, TrackParts, Tracked, empty_track, track_at, IsKept, with_version, read_up_to, ended_at, with_end, versions_in, ◌≡◌, ℕ, ◌+◌, ◌≤◌, ◌<◌, Bool, true, false, List, [], ◌∷◌, ◌++◌, length, reverse, refl, sym, ◌∙◌, ap, subst, Option, Some, None, ◌==◌, ◌&&◌, not, if◌then◌else◌, cond, arith, is_eq, unwrap_or, is_some, reverse-append, length-reverse, get-empty, get-insert, false≢true, true≢false, eq_by_cmp_equiv, common_steps, IsWhole, track_of, Keeps}
+use Rattle.object_history.proofs.Names.{StampParts, stamp_cmp, TimeParts, same_stamp, stamp_cmp-total, same_stamp-is, ObjectId, Value, object_cmp, IsValue, Mark, Put, Stretch, Settle, Floor, Version, same_object, or_else, settle_of, version_count, Seen, starts_above, pick, scan, sees, place_of, same_place, top, floor_of, latest, read_to, reach, stretched, read_seen, read_from, read_step, Settled, TrackParts, Tracked, empty_track, track_at, IsKept, with_version, read_up_to, ended_at, with_end, versions_in, ◌≡◌, ℕ, ◌+◌, ◌≤◌, ◌<◌, Bool, true, false, List, [], ◌∷◌, ◌++◌, length, reverse, refl, sym, ◌∙◌, ap, subst, Option, Some, None, ◌==◌, ◌&&◌, not, if◌then◌else◌, cond, arith, is_eq, unwrap_or, is_some, reverse-append, length-reverse, get-empty, get-insert, false≢true, true≢false, eq_by_cmp_equiv, common_steps, IsWhole, track_of, Keeps}
 use Rattle.value_form.specs.ObjectBytes.{IsObject}
-use Rattle.object_history.specs.declared.steps.ReadStep.{ReadStep}
 use Rattle.object_history.proofs.ObjectLemmas.{same_object-is}
 
 -- ---- places
@@ -307,20 +306,6 @@ reach-some items m floor o r x new read whole view is h same = h ∙ ap (top x) 
 
 pub reach-none : (items m : List Mark) (floor : Option TimeParts) (o : ObjectId) (r : Option Seen) (read : Option TimeParts) → floor ≡ floor_of (reverse items) → reverse items ≡ m → floor ≡ None → read ≡ read_to m o r → read ≡ reach m o r
 reach-none items m floor o r read whole view is same = same ∙ ap (λ f. latest f (read_to m o r)) (floor-is items m floor None whole view is)
-
-if-below : (b : Bool) (e : TimeParts) (s : ReadStep) → b ≡ true → LaterRead e ≡ (if b then LaterRead e else s)
-if-below true e s h = refl
-if-below false e s h = absurd (false≢true h)
-
-if-above : (b : Bool) (e : TimeParts) (s : ReadStep) → b ≡ false → s ≡ (if b then LaterRead e else s)
-if-above true e s h = absurd (true≢false h)
-if-above false e s h = refl
-
-pub answer-below : (items m : List Mark) (floor : Option TimeParts) (o : ObjectId) (t e : TimeParts) → floor ≡ floor_of (reverse items) → reverse items ≡ m → floor ≡ Some e → lt t e ≡ true → LaterRead e ≡ read_step m o t
-answer-below items m floor o t e whole view is l = if-below (lt t e) e (read_seen m o t (sees m o t)) l ∙ ap (λ f. read_from f m o t) (floor-is items m floor (Some e) whole view is)
-
-pub answer-above : (items m : List Mark) (floor : Option TimeParts) (o : ObjectId) (t e : TimeParts) → floor ≡ floor_of (reverse items) → reverse items ≡ m → floor ≡ Some e → lt t e ≡ false → read_seen m o t (sees m o t) ≡ read_step m o t
-answer-above items m floor o t e whole view is l = if-above (lt t e) e (read_seen m o t (sees m o t)) l ∙ ap (λ f. read_from f m o t) (floor-is items m floor (Some e) whole view is)
 
 pub answer-none : (items m : List Mark) (floor : Option TimeParts) (o : ObjectId) (t : TimeParts) → floor ≡ floor_of (reverse items) → reverse items ≡ m → floor ≡ None → read_seen m o t (sees m o t) ≡ read_step m o t
 answer-none items m floor o t whole view is = ap (λ f. read_from f m o t) (floor-is items m floor None whole view is)

@@ -3,7 +3,7 @@ use Rattle.std.specs.FinMap as finite
 use Rattle.std.proofs.lemmas.Option.{unwrap_or-slice_get, slice_get_past}
 use Rattle.std.proofs.Math.ListN.{get_or-append}
 use Rattle.std.proofs.Math.Seq.{get_or-append_seam}
-use Rattle.object_history.proofs.Names.{TimeParts, same_stamp, same_time, lt, lt-trans, lt-split, ObjectId, Value, Nothing, IsValue, Mark, Put, Stretch, Settle, Floor, Version, same_object, same_value, settle_of, is_alive, is_settled, is_committed, alive, version_count, Seen, starts_above, pick, scan, sees, floor_of, stretched, is_over, some_put, settled_over, needs_stretch, read_seen, read_from, read_step, has_put, value_of, AreMarks, Answer, Wait, LaterRead, Settled, Tracked, TrackParts, empty_track, IsKept, versions_in, value_under, takes_over, joined, last_of, is_living, is_past, is_firm, some_version, ◌≡◌, ℕ, suc, ◌≤◌, ◌<◌, Bool, true, false, List, [], ◌∷◌, ◌++◌, length, reverse, refl, sym, ◌∙◌, ap, subst, Option, Some, None, ◌==◌, ◌&&◌, ◌||◌, not, if◌then◌else◌, nat_lt, slice_index_or, arith, option_map, push, unwrap_or, reverse-append, length-reverse, reverse-reverse, true≢false, common_steps, IsMark, IsReadStep, value_put, seen_in, is_below, HasEnd}
+use Rattle.object_history.proofs.Names.{TimeParts, same_time, lt, lt-trans, lt-split, ObjectId, Value, Nothing, IsValue, Mark, Put, Stretch, Settle, Floor, Version, same_object, same_value, settle_of, is_alive, is_committed, alive, version_count, Seen, starts_above, pick, scan, stretched, is_over, some_put, settled_over, has_put, value_of, AreMarks, Settled, Tracked, TrackParts, empty_track, IsKept, versions_in, value_under, takes_over, joined, last_of, is_living, is_past, is_firm, some_version, ◌≡◌, ℕ, suc, ◌≤◌, ◌<◌, Bool, true, false, List, [], ◌∷◌, ◌++◌, length, reverse, refl, sym, ◌∙◌, ap, subst, Option, Some, None, ◌==◌, ◌&&◌, ◌||◌, not, if◌then◌else◌, nat_lt, slice_index_or, arith, option_map, push, unwrap_or, reverse-append, length-reverse, reverse-reverse, true≢false, common_steps, IsMark, value_put, seen_in, is_below, HasEnd}
 use Rattle.pseudo_time.proofs.ListLemmas.{every-has}
 use Rattle.object_history.proofs.BoolLemmas.{not-false}
 use Rattle.object_history.proofs.ObjectLemmas.{eqb-yes, eq-from}
@@ -307,9 +307,6 @@ pub put-by : (items m : List Mark) (settled : Settled) (tracks : Tracked) (o : O
     some_version (is_written m t w) (unwrap_or r empty_track).versions ≡ has_put o t w m
 put-by items m settled tracks o t w r kept view is = put-is m settled tracks (subst (λ z. IsKept z settled tracks) view kept) o t w r is
 
-pub origin-by : (items m : List Mark) (settled : Settled) (tracks : Tracked) (o : ObjectId) (r : Option TrackParts) → IsKept (reverse items) settled tracks → reverse items ≡ m → r ≡ finite.get tracks o → (unwrap_or r empty_track).origin ≡ stretched m o None
-origin-by items m settled tracks o r kept view is = origin-is m settled tracks (subst (λ z. IsKept z settled tracks) view kept) o r is
-
 pub put-some : (items m : List Mark) (settled : Settled) (tracks : Tracked) (o : ObjectId) (t : TimeParts) (w : Value) (r : TrackParts) → IsKept (reverse items) settled tracks → reverse items ≡ m → Some r ≡ finite.get tracks o →
     some_version (is_written m t w) r.versions ≡ has_put o t w m
 put-some items m settled tracks o t w r kept view is = put-by items m settled tracks o t w (Some r) kept view is
@@ -324,27 +321,5 @@ seen-in_range : (o : ObjectId) (m : List Mark) (r : Option Seen) → AreMarks m 
 seen-in_range o m None all s = tt
 seen-in_range o m (Some q) all s = (every-has IsMark m (Put o q.start q.value) all (stands-has o m q s)).1
 
-answer-in_range : (m : List Mark) (o : ObjectId) (t : TimeParts) (r : Option Seen) → IsValue (value_of r) → IsReadStep (read_seen m o t r)
-answer-in_range m o t None h = h
-answer-in_range m o t (Some q) h = either (same_stamp q.start.stamp t.stamp || is_settled (settle_of m q.start.stamp))
-  where
-    either : (b : Bool) → IsReadStep (if b then Answer q.value (needs_stretch m o t (Some q)) else Wait q.start.stamp)
-    either true = h
-    either false = tt
-
 pub value-in_range : (m : List Mark) (ok : TimeParts → Bool) (o : ObjectId) (v : Value) → AreMarks m → v ≡ value_of (scan ok o m) → IsValue v
 value-in_range m ok o v all is = subst IsValue (sym is) (seen-in_range o m (scan ok o m) all (standing ok o m))
-
-pub read-in_range : (m : List Mark) (o : ObjectId) (t : TimeParts) → AreMarks m → IsReadStep (read_step m o t)
-read-in_range m o t all = go (floor_of m)
-  where
-    seen : IsReadStep (read_seen m o t (sees m o t))
-    seen = answer-in_range m o t (sees m o t) (seen-in_range o m (sees m o t) all (standing (λ x. lt x t && alive m x) o m))
-
-    either : (b : Bool) (e : TimeParts) → IsReadStep (if b then LaterRead e else read_seen m o t (sees m o t))
-    either true e = tt
-    either false e = seen
-
-    go : (f : Option TimeParts) → IsReadStep (read_from f m o t)
-    go None = seen
-    go (Some e) = either (lt t e) e

@@ -6,7 +6,7 @@ unfoldable pub use Rattle.object_history.specs.History.{floor_of, pick, scan, se
 pub use Rattle.object_history.specs.Kept.{HasEnd, IsKept, IsWhole, Keeps, Settled, TrackParts, Tracked, empty_track, is_below, is_firm, is_living, is_past, joined, read_up_to, seen_in, takes_over, tops, track_at, track_of, value_put, value_under, with_end, with_version}
 unfoldable pub use Rattle.object_history.specs.Kept.{ended_at, last_of, rising, some_version, versions_in}
 unfoldable pub use Rattle.object_history.specs.Objects.{same_object, same_value}
-pub use Rattle.object_history.specs.Ranges.{AreMarks, IsMark, IsReadStep}
+pub use Rattle.object_history.specs.Ranges.{AreMarks, IsMark}
 pub use Rattle.object_history.specs.Views.{Covers, Distinct, Firm, Fits, Grown, HasPut, IsOnFloor, IsVersion, Shut, Starts, Viewed, shows, value_of, views}
 pub use Rattle.object_history.specs.declared.marks.Mark.{Mark}
 pub use Rattle.object_history.specs.declared.marks.Mark.TheVariants.{Floor, Put, Settle, Stretch}

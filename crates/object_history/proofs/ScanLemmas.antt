@@ -3,7 +3,7 @@ use Rattle.object_history.proofs.Names.{StampParts, TimeParts, ObjectId, Value, 
 use Rattle.object_history.proofs.Words.{Passes, Ends, AtMost}
 use Rattle.object_history.proofs.ObjectLemmas.{same_object-is}
 use Rattle.object_history.specs.declared.steps.WriteStep.TheVariants as write
-use Rattle.object_history.proofs.StableLemmas.{starts-map, low-all, put-says, settled-stays, kept-choice, scan-passes}
+use Rattle.object_history.proofs.StableLemmas.{starts-map, low-all, put-says, settled-stays, scan-passes}
 use Rattle.object_history.proofs.ViewLemmas.{top-all}
 
 -- what is found stands there, passes, and nothing that passes lies above it
@@ -57,12 +57,6 @@ same-scan f g o (Put a x v ∷ m) h =
 same-scan f g o (Stretch a x ∷ m) h = same-scan f g o m h
 same-scan f g o (Settle s c ∷ m) h = same-scan f g o m h
 same-scan f g o (Floor z ∷ m) h = same-scan f g o m h
-
--- a put of another object, or that doesn't pass, or lies below, changes nothing
-pub scan-kept : (ok : TimeParts → Bool) (o a : ObjectId) (x : TimeParts) (v : Value) (m : List Mark) →
-    (same_object a o ≡ true → ok x ≡ true → starts_above (scan ok o m) x ≡ false → ⊥) → scan ok o (Put a x v ∷ m) ≡ scan ok o m
-unfolding scan pick
-scan-kept ok o a x v m h = kept-choice (same_object a o) (ok x) (starts_above (scan ok o m) x) (Some (record { place = version_count o m; start = x; value = v })) (scan ok o m) h
 
 -- with distinct starts, one start is one version
 pub stands-starts : (P : TimeParts → Type 0) (o : ObjectId) (m : List Mark) (q : Seen) → Starts P o m → IsVersion o m q → P q.start

@@ -65,11 +65,6 @@ passes-left : (b : Bool) (g : TimeParts → Bool) (s : Seen) (r : Option Seen) �
 passes-left true g s r p k = absurd (true≢false k)
 passes-left false g s r p k = p
 
-passes-open : (b : Bool) (s : Seen) (r : Option Seen) (g : TimeParts → Bool) → Passes g (pick b s r) →
-    Passes g (if b && not (starts_above r s.start) then Some s else r)
-unfolding pick
-passes-open b s r g p = p
-
 and-mono : (e bg bf : Bool) → (e ≡ true → bg ≡ true → bf ≡ true) → (e && bg) ≡ true → (e && bf) ≡ true
 and-mono true bg bf h k = h refl k
 and-mono false bg bf h k = k

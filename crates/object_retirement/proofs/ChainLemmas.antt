@@ -37,9 +37,6 @@ new-on-floor m (f ∷ fresh) o x v g (inr j) e is = new-on-floor m fresh o x v g
 
 -- ---- along a chain
 
-distinct-empty : Distinct []
-distinct-empty = tt
-
 append-none : (m : List Mark) → m ++ [] ≡ m
 append-none [] = refl
 append-none (f ∷ m) = ap (λ l. f ∷ l) (append-none m)

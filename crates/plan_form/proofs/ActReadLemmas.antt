@@ -1,5 +1,5 @@
 -- Acts read one after another, and the plan that they are.
-use Rattle.plan_form.proofs.Names.{◌≡◌, ℕ, ◌+◌, ◌<◌, ◌≤◌, true, false, List, [], ◌∷◌, ◌++◌, length, refl, sym, ap, ◌∙◌, subst, append_assoc, append-nil, length-append, arith, Err, ActSpec, block, lines, is_blank, IsScriptLines, Fault, NoMemory, HasHead, IsActLine, terms, has_done, before_done, behind_done, past_blanks, AreActs, Reaches, BodyFault, Parses, IsActRead, ReadsAct, ReadsActs, ReadsHead}
+use Rattle.plan_form.proofs.Names.{◌≡◌, ℕ, ◌+◌, ◌<◌, ◌≤◌, true, false, List, [], ◌∷◌, ◌++◌, length, refl, sym, ap, ◌∙◌, subst, append_assoc, append-nil, length-append, arith, Err, ActSpec, block, lines, is_blank, IsScriptLines, Fault, NoMemory, IsActLine, terms, has_done, before_done, behind_done, past_blanks, AreActs, Reaches, IsActRead, ReadsAct, ReadsActs}
 use Rattle.plan_form.specs.declared.plan_faults.PlanKind.TheVariants as kind
 use Rattle.plan_form.specs.declared.plan_faults.PlanFault.{PlanFault}
 use Rattle.plan_form.proofs.LineListLemmas.{past_blanks-line, past_blanks-blank, split_at_done}
@@ -14,9 +14,6 @@ pub record Reading (r b before : ℕ) (bytes rest : List ℕ) (at : ℕ) (acts :
   pub few : length acts ≤ 10000
   pub count : at ≡ before + length done
   pub fits : at + length rest ≤ before + length bytes
-
-pub reading_none : (r b before : ℕ) (bytes : List ℕ) → Reading r b before bytes bytes before []
-reading_none r b before bytes = record { done = []; parts = refl; whole = refl; few = omega arith; count = omega arith; fits = omega arith }
 
 joined : (bytes rest line after : List ℕ) (done : List (List ℕ)) → lines bytes ≡ done ++ lines rest → lines rest ≡ line ∷ lines after → lines bytes ≡ (done ++ line ∷ []) ++ lines after
 joined bytes rest line after done parts e = parts ∙ ap (λ z. done ++ z) e ∙ sym (append_assoc done (line ∷ []) (lines after))
@@ -102,34 +99,4 @@ reading_fault r b before bytes rest at acts line after (Fault number kind.Run) g
 reading_fault r b before bytes rest at acts line after (Fault number kind.Repositories) g n is (few, t, says, inside, number_is, fault) = absurd fault
 reading_fault r b before bytes rest at acts line after (Fault number kind.Brokers) g n is (few, t, says, inside, number_is, fault) = absurd fault
 
-pub reading_all : (r b before : ℕ) (bytes : List ℕ) (at : ℕ) (acts : List ActSpec) → Reading r b before bytes [] at acts → AreActs r b 1 acts (lines bytes) × (length acts ≤ 10000)
-reading_all r b before bytes at acts g = (subst (AreActs r b 1 acts) (sym (g.parts ∙ append-nil g.done)) g.whole, g.few)
-
 -- ---- a fault of the plan
-
-pub head_fault : (bytes : List ℕ) (wrong : PlanFault) → length bytes ≤ 4194304 → ReadsHead bytes (Err wrong) → Parses bytes (Err wrong)
-head_fault bytes NoMemory small h = tt
-head_fault bytes (Fault line kind.Size) small h = absurd h
-head_fault bytes (Fault line kind.Header) small h = (small, h)
-head_fault bytes (Fault line kind.Run) small h = (small, h)
-head_fault bytes (Fault line kind.Repositories) small h = (small, h)
-head_fault bytes (Fault line kind.Brokers) small h = (small, h)
-head_fault bytes (Fault line kind.Act) small h = (small, h)
-head_fault bytes (Fault line kind.Acts) small h = (small, h)
-head_fault bytes (Fault line (kind.Script what)) small h = (small, h)
-head_fault bytes (Fault line kind.End) small h = (small, h)
-
-no_such : (r b : ℕ) (ls : List (List ℕ)) (inside : ℕ) → BodyFault r b ls inside kind.Size → ⊥
-no_such r b ls inside (acts, before, more, line, reaches, few2, t, says, at2, is, fault) = fault
-
-pub body_fault : (bytes body : List ℕ) (run r b : ℕ) (wrong : PlanFault) → length bytes ≤ 4194304 → HasHead (lines bytes) run r b (lines body) → ReadsActs r b 4 body (Err wrong) → Parses bytes (Err wrong)
-body_fault bytes body run r b NoMemory small head h = tt
-body_fault bytes body run r b (Fault line kind.Act) small head (inside, is, fault) = (small, (run, r, b, lines body, head, inside, is, fault))
-body_fault bytes body run r b (Fault line kind.Acts) small head (inside, is, fault) = (small, (run, r, b, lines body, head, inside, is, fault))
-body_fault bytes body run r b (Fault line (kind.Script what)) small head (inside, is, fault) = (small, (run, r, b, lines body, head, inside, is, fault))
-body_fault bytes body run r b (Fault line kind.End) small head (inside, is, fault) = (small, (run, r, b, lines body, head, inside, is, fault))
-body_fault bytes body run r b (Fault line kind.Size) small head (inside, is, (acts, before, more, l, reaches, few2, t, says, at2, is2, fault)) = absurd fault
-body_fault bytes body run r b (Fault line kind.Header) small head (inside, is, (acts, before, more, l, reaches, few2, t, says, at2, is2, fault)) = absurd fault
-body_fault bytes body run r b (Fault line kind.Run) small head (inside, is, (acts, before, more, l, reaches, few2, t, says, at2, is2, fault)) = absurd fault
-body_fault bytes body run r b (Fault line kind.Repositories) small head (inside, is, (acts, before, more, l, reaches, few2, t, says, at2, is2, fault)) = absurd fault
-body_fault bytes body run r b (Fault line kind.Brokers) small head (inside, is, (acts, before, more, l, reaches, few2, t, says, at2, is2, fault)) = absurd fault

@@ -1,5 +1,5 @@
 -- Lines up to a `done`, and lines past blank ones, where more lines follow.
-use Rattle.plan_form.proofs.Names.{◌≡◌, ℕ, true, false, cond, List, [], ◌∷◌, ◌++◌, refl, sym, ap, ◌∙◌, subst, by_test, is_blank, is_done, has_done, before_done, behind_done, past_blanks}
+use Rattle.plan_form.proofs.Names.{◌≡◌, ℕ, true, false, cond, List, [], ◌∷◌, ◌++◌, refl, sym, ap, ◌∙◌, by_test, is_blank, is_done, has_done, before_done, behind_done, past_blanks}
 
 -- ---- past blank lines
 
@@ -22,13 +22,6 @@ past_blanks-line line rest is = ap (λ p. cond p (past_blanks rest) (line ∷ re
 
 pub past_blanks-blank : (line : List ℕ) → is_blank line ≡ true → past_blanks (line ∷ []) ≡ []
 past_blanks-blank line is = ap (λ p. cond p [] (line ∷ [])) is
-
-pub past_blanks-first : (ls rest : List (List ℕ)) (line : List ℕ) → past_blanks ls ≡ line ∷ rest → is_blank line ≡ false
-past_blanks-first [] rest line e = absurd (cc)
-past_blanks-first (l ∷ ls) rest line e =
-    by_test (is_blank l) (λ p. is_blank l ≡ p → cond p (past_blanks ls) (l ∷ ls) ≡ line ∷ rest → is_blank line ≡ false)
-    (λ is k h. past_blanks-first ls rest line h)
-    (λ is k h. let e : l ≡ line = cc in subst (λ z. is_blank z ≡ false) e is) refl e
 
 -- ---- up to `done`
 
@@ -65,10 +58,6 @@ before_done-behind (l ∷ ls) more e =
 pub behind_done-behind : (ls more : List (List ℕ)) → has_done ls ≡ false → behind_done (ls ++ more) ≡ behind_done more
 behind_done-behind [] more e = refl
 behind_done-behind (l ∷ ls) more e = let k = not_done l ls e in ap (λ p. cond p (ls ++ more) (behind_done (ls ++ more))) k.0 ∙ behind_done-behind ls more k.1
-
-pub before_done-all : (ls : List (List ℕ)) → has_done ls ≡ false → before_done ls ≡ ls
-before_done-all [] e = refl
-before_done-all (l ∷ ls) e = let k = not_done l ls e in ap (λ p. cond p [] (l ∷ before_done ls)) k.0 ∙ ap (λ z. l ∷ z) (before_done-all ls k.1)
 
 pub has_done-snoc : (ls : List (List ℕ)) (line : List ℕ) → has_done ls ≡ false → is_done line ≡ false → has_done (ls ++ line ∷ []) ≡ false
 has_done-snoc ls line none is = has_done-behind ls (line ∷ []) none ∙ ap (λ p. cond p true false) is

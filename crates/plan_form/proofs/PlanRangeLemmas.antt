@@ -33,6 +33,3 @@ whole-names plan w = of-whole (λ act. IsInRange 1 act.broker act.home) plan w (
 pub plan-scripts : (bytes : List ℕ) (plan : Plan) → IsPlan bytes plan → Every (λ act. IsScript act.script.lines) plan.acts
 plan-scripts bytes plan is =
     of-whole (λ act. IsScript act.script.lines) plan (plan_is_whole bytes plan is) (λ k act low high is_act. printable-range plan.repositories (block act.script.lines) is_act.script)
-
-pub plan-names : (bytes : List ℕ) (plan : Plan) → IsPlan bytes plan → Every (λ act. IsInRange 1 act.broker act.home) plan.acts
-plan-names bytes plan is = whole-names plan (plan_is_whole bytes plan is)

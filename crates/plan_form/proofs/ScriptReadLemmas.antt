@@ -24,9 +24,6 @@ pub record Next (rest line after : List ℕ) : Type 0 where
   pub first : lines rest ≡ line ∷ lines after
   pub shorter : length after < length rest
 
-pub feeding_none : (greatest before : ℕ) (bytes : List ℕ) (reader : ScriptReader) → HoldsLines [] reader → reader.greatest ≡ greatest → Feeding greatest before bytes bytes before reader
-feeding_none greatest before bytes reader h g = record { done = []; parts = refl; without = refl; holds = h; same = g; count = omega arith; fits = omega arith }
-
 joined : (bytes rest line after : List ℕ) (done : List (List ℕ)) → lines bytes ≡ done ++ lines rest → lines rest ≡ line ∷ lines after → lines bytes ≡ (done ++ line ∷ []) ++ lines after
 joined bytes rest line after done parts e = parts ∙ ap (λ z. done ++ z) e ∙ sym (append_assoc done (line ∷ []) (lines after))
 

@@ -1,8 +1,7 @@
 -- a repository's log
-use Rattle.repository_laws.proofs.Names.{StampParts, TimeParts, ObjectId, Value, Decision, Effect, Put, Stretch, Decide, Learn, Unknown, Decided, or_else, settle_of, floor_of, read_step, read-below, same_stamp-is, same_stamp-of, Has, same_stamp, unknown-unsettled, FitsLog, IsTidy, IsTimely, Once, grew_keeps, Grew, ◌≡◌, ◌≢◌, ℕ, Bool, true, false, List, [], ◌∷◌, ◌++◌, refl, sym, ◌∙◌, ap, subst, Option, Some, None, if◌then◌else◌, inl, inr, false≢true, Begin, Mark, Whole, new-start, settled-kept, undecided, from-begin, from-decided}
+use Rattle.repository_laws.proofs.Names.{StampParts, TimeParts, ObjectId, Value, Decision, Effect, Put, Stretch, Decide, Learn, Unknown, Decided, or_else, settle_of, floor_of, same_stamp-is, same_stamp-of, Has, same_stamp, unknown-unsettled, FitsLog, IsTidy, IsTimely, grew_keeps, Grew, ◌≡◌, ◌≢◌, ℕ, Bool, true, false, List, [], ◌∷◌, ◌++◌, refl, sym, ◌∙◌, ap, subst, Option, Some, None, if◌then◌else◌, inl, inr, false≢true, Begin, Mark, Whole, new-start, settled-kept, undecided, from-begin, from-decided}
 use Rattle.object_history.specs.declared.marks.Mark.TheVariants as mark
 use Rattle.object_history.proofs.ViewLemmas.{viewed-kept}
-use Rattle.object_history.specs.declared.steps.ReadStep.TheVariants as read
 use Rattle.object_history.specs.Views.{Distinct, IsOnFloor, Viewed}
 use Rattle.repository_core.specs.Logs.{decision_of, first_begin, is_commit, marks, record_of, as_decision}
 
@@ -99,13 +98,6 @@ floor-through r l (f ∷ added) g = floor-log r (added ++ l) f g.1 ∙ floor-thr
 pub on-floor-log : (r : ℕ) (l : List Effect) (f : Effect) (t : TimeParts) → FitsLog r l f → IsOnFloor (marks l) t → IsOnFloor (marks (f ∷ l)) t
 on-floor-log r l f t k h e is = h e (sym (floor-log r l f k) ∙ is)
 
--- and a log that grew from an empty one has none
-pub grown-marks : (r : ℕ) (l : List Effect) (at : TimeParts) → Grew (FitsLog r) [] l → Has (Mark at) l → ⊥
-grown-marks r [] at g h = h
-grown-marks r (f ∷ l) at g (inr h) = grown-marks r l at g.0 h
-grown-marks r (Mark x ∷ l) at g (inl e) = absurd g.1
-grown-marks r (f ∷ l) at g (inl e) = absurd (cc e)
-
 pub grown-floor : (r : ℕ) (l : List Effect) → Grew (FitsLog r) [] l → floor_of (marks l) ≡ None
 unfolding floor_of
 grown-floor r [] g = refl
@@ -128,15 +120,6 @@ grown-floors r (Decide s d ∷ l) e g (inr h) = grown-floors r l e g.0 h
 grown-floors r (Learn s c ∷ l) e g (inl q) = absurd (cc q)
 grown-floors r (Learn s c ∷ l) e g (inr h) = grown-floors r l e g.0 h
 grown-floors r (f ∷ l) e g h = absurd g.1
-
--- so no read of it was refused
-grown-reads : (r : ℕ) (l : List Effect) (o : ObjectId) (t e : TimeParts) → Grew (FitsLog r) [] l → read_step (marks l) o t ≡ read.LaterRead e → ⊥
-grown-reads r l o t e g h = grown-floors r l e g (read-below (marks l) o t e h).1
-
-pub grown-once : (r : ℕ) (l : List Effect) (o : ObjectId) (t e : TimeParts) → Grew (FitsLog r) [] l → Once (λ k. read_step (marks k) o t ≡ read.LaterRead e) l → ⊥
-grown-once r [] o t e g h = grown-reads r [] o t e g h
-grown-once r (f ∷ l) o t e g (inl h) = grown-reads r (f ∷ l) o t e g h
-grown-once r (f ∷ l) o t e g (inr h) = grown-once r l o t e g.0 h
 
 pub tidy-distinct : (r : ℕ) (l : List Effect) → IsTidy r l → Distinct (marks l)
 tidy-distinct r [] t = tt

@@ -1,5 +1,5 @@
 -- What the closing of a run's wire says, and what its calls ask.
-use Rattle.run_rounds.proofs.Names.{Asked, Plan, IsOfLanguage, View, Founding, LockTable, IsOneOf, CarriesOn, fresh, knows, Entry, Trace, Idle, fates_of, IsLegal, Origin, WireParts, owner_of, IsWirePass, Sight, owners_for, IsWhole, LeavesUntold, end_of, tick_count, NodeParts, Limits, Reason, Media, node_count, End, ClosedAs, HaveGone, IfRan, IfWanting, Pass, ◌≡◌, ◌⊎◌, ◌<◌, ◌+◌, ◌++◌, ◌↔◌, ◌∙◌, ◌^◌, ℕ, Bool, true, IsTrue, List, [], ◌∷◌, Option, inl, inr, refl, ap, sym, subst, arith, All, All-push, ToldFor}
+use Rattle.run_rounds.proofs.Names.{Asked, View, Founding, LockTable, IsOneOf, CarriesOn, fresh, knows, Entry, Trace, Idle, fates_of, IsLegal, Origin, WireParts, owner_of, IsWirePass, Sight, owners_for, IsWhole, LeavesUntold, end_of, tick_count, NodeParts, Limits, Reason, Media, End, ClosedAs, HaveGone, IfRan, IfWanting, Pass, ◌≡◌, ◌⊎◌, ◌+◌, ◌++◌, ◌↔◌, ◌∙◌, ℕ, Bool, true, IsTrue, List, [], ◌∷◌, Option, inl, inr, refl, ap, sym, subst, All, All-push, ToldFor}
 use Rattle.run_starts.specs.Reason.TheVariants as reason
 use Rattle.run_rounds.specs.declared.ends.End.TheVariants as end
 
@@ -55,12 +55,6 @@ whole-untold tells o passes told asked answers whole carries owned end.NoMemory 
   owned,
 )
 
--- where memory ran out nothing is told
-pub none-told : (tells : Bool) (o : Origin) (passes : List Pass) (asked : List Asked) (answers : Option (List ℕ)) (e : End) → IfRan e (λ t. ClosedAs tells o passes reason.Wanting t asked answers) → e ≡ end.NoMemory
-none-told tells o passes asked answers (end.Ran t) h = absurd (h.memory refl)
-none-told tells o passes asked answers (end.Refused fault) h = absurd h
-none-told tells o passes asked answers end.NoMemory h = refl
-
 -- ---- passes
 
 -- one pass of the wire more
@@ -68,10 +62,6 @@ pub wires-pushed : {Q A : Type 0} (lock : LockTable WireParts (View WireParts En
 wires-pushed lock all front last e are is = subst (All (IsWirePass lock)) (sym e) (All-push (IsWirePass lock) front last are is)
 
 -- ---- counts
-
--- a plan has few nodes
-pub few-nodes : (plan : Plan) → IsOfLanguage plan → node_count plan < 2 ^ 32
-few-nodes plan lang = let r = lang.repositories.1 in let b = lang.brokers.1 in omega (arith, r, b)
 
 -- the conductor's new pass has no entries
 pub new-conductor : (w : WireParts) (k : Sight) → k ≡ fresh w 0 → (k.owner ≡ 0) × (tick_count k.own ≡ 0)

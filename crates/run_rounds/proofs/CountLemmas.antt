@@ -1,9 +1,9 @@
 -- Counts of faults, and why nodes went down.
-use Rattle.run_rounds.proofs.Names.{Every, NodeId, DownCause, Asked, RoseBy, Plan, View, Founding, LockTable, entries_of, Entry, Trace, Life, names, own, start_world, fates_of, in_plan, IsLegal, life_after, WireParts, owner_for, owner_of, IsOf, life_at, down_cause, IsIntact, costs, IsCause, NodeParts, sight, Media, AreCounted, Became, HaveCauses, ◌≡◌, ◌≤◌, ◌∙◌, ℕ, Bool, true, IsTrue, List, [], Option, Some, None, refl, ap, sym, subst, every-map, rise_of_fewer, IsFullFor}
+use Rattle.run_rounds.proofs.Names.{Every, NodeId, DownCause, Asked, RoseBy, Plan, View, Founding, LockTable, entries_of, Entry, Trace, Life, names, own, start_world, fates_of, in_plan, IsLegal, life_after, WireParts, owner_for, owner_of, IsOf, life_at, down_cause, IsIntact, costs, IsCause, NodeParts, sight, Media, AreCounted, Became, HaveCauses, ◌≡◌, ◌≤◌, ◌∙◌, ℕ, true, IsTrue, List, Option, Some, None, refl, ap, sym, subst, every-map, rise_of_fewer, IsFullFor}
 use Rattle.pseudo_time.specs.declared.down_causes.DownCause.TheVariants as down
 use Rattle.run_rounds.proofs.EndLemmas.{costs-whole, own-whole}
 use Rattle.run_rounds.proofs.FlagLemmas.{named-opened, one-down}
-use Rattle.run_rounds.proofs.SeenLemmas.{Seen, left, new-is, old-is}
+use Rattle.run_rounds.proofs.SeenLemmas.{left, new-is, old-is}
 use Rattle.run_rounds.proofs.KnownLemmas.{HaveStood, Known, base, cause-at, down-at, has-down, known-end, life-end, origin}
 use Rattle.run_rounds.proofs.LogLemmas.{Stood, has-memory, opened-at, stood-at}
 

@@ -1,6 +1,5 @@
 -- How the nodes of shares have gone, told of them in one list.
-use Rattle.atomic_table.specs.declared.shared.Seat.{Seat}
-use Rattle.run_rounds.proofs.Names.{View, Founding, LockTable, knows, Entry, WireParts, IsWirePass, Sight, base_at, tick_count, NodeParts, IsAtRest, Limits, Reason, GoesOn, IsKeptThrough, IsUp, HasMemory, IsDone, IsLateAfter, TicksAreWanted, Media, HaveGone, ListEnds, Pass, IsDealt, ◌≡◌, ◌≤◌, ◌<◌, ℕ, Bool, IsTrue, List, [], ◌∷◌, ◌++◌, length, map, Option, Some, All, refl, ap, sym, subst, ◌∙◌, arith, AllZip, Vec, Global, All-append, All-cons, All-map, All-nil, AllZip-long, EachNode, EachPlace, HasAllOf, HasPass, Shares, EndsFor, IsDown, dealt-along, each-listed, some-listed}
+use Rattle.run_rounds.proofs.Names.{View, Founding, LockTable, knows, Entry, WireParts, IsWirePass, Sight, base_at, tick_count, NodeParts, IsAtRest, Limits, Reason, GoesOn, IsKeptThrough, IsUp, HasMemory, IsDone, IsLateAfter, TicksAreWanted, Media, HaveGone, ListEnds, Pass, IsDealt, ◌≡◌, ◌≤◌, ◌<◌, ℕ, Bool, IsTrue, List, [], ◌∷◌, ◌++◌, length, map, Option, Some, All, ap, sym, subst, ◌∙◌, AllZip, Vec, Global, All-append, All-cons, All-map, All-nil, AllZip-long, EachNode, EachPlace, HasAllOf, HasPass, Shares, EndsFor, IsDown, dealt-along, each-listed, some-listed}
 use Rattle.run_starts.specs.Reason.TheVariants as reason
 
 module _ {M : Type 0} (W : ℕ) (pos : 0 < W) (nodes : List (NodeParts M)) (shares : List (Vec (NodeParts M) Global)) (d : IsDealt W nodes shares) (size : length shares ≡ W) where

@@ -1,5 +1,5 @@
 -- Entries that are just the Downs of nodes that can't be opened.
-use Rattle.run_rounds.proofs.Names.{Every, Has, same_node, NodeId, DownCause, same_is, same_node-refl, Plan, IsOneOf, entries_of, CarriesOn, knows, Entry, Down, Base, Life, World, is_down, names, opened_life, opened_log, own, start_world, step, walk, walk_from, WireParts, owner_for, owner_of, owners_for, down_cause, Opening, Open, Shut, Wanting, opened_from, node_at, Along, HasFallen, downs_of, Pass, filter-has, ◌≡◌, ◌≤◌, ◌+◌, ◌-◌, ◌==◌, ◌&&◌, ◌⊎◌, inl, inr, ◌∙◌, ◌++◌, ℕ, zero, suc, Bool, true, false, List, [], ◌∷◌, cond, eq-eqb, length, map, Option, Some, None, All, slice_get, refl, ap, sym, subst, arith, if◌then◌else◌, unwrap_or, nat_tests, same_Some, total, same, lives_on, every-has, every-of, has-filter}
+use Rattle.run_rounds.proofs.Names.{Every, Has, same_node, NodeId, DownCause, same_is, same_node-refl, Plan, IsOneOf, entries_of, CarriesOn, knows, Entry, Down, Base, World, is_down, names, opened_life, opened_log, own, start_world, step, walk, walk_from, WireParts, owner_for, owner_of, owners_for, down_cause, Opening, Open, Shut, Wanting, opened_from, node_at, Along, HasFallen, downs_of, Pass, filter-has, ◌≡◌, ◌+◌, ◌-◌, ◌==◌, ◌&&◌, inl, inr, ◌∙◌, ℕ, zero, suc, Bool, true, false, List, [], ◌∷◌, cond, eq-eqb, Option, Some, All, slice_get, refl, ap, sym, subst, arith, if◌then◌else◌, unwrap_or, nat_tests, same_Some, same, every-has, every-of, has-filter}
 
 -- ---- lists
 

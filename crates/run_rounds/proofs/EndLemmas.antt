@@ -1,6 +1,5 @@
 -- What a node's own story says of the whole list of a run.
-use Rattle.std.proofs.lemmas.List.Sums.{sum_by-cons}
-use Rattle.run_rounds.proofs.Names.{Every, Has, NodeId, NodeKind, Repository, Broker, is_broker, same_node, same_is, same_node-refl, DownCause, CarriesOn, entries_of, Entry, Take, Go, Learn, Hear, Gate, Crash, Down, Tick, Trace, Base, is_down, names, own, walk, Plan, in_plan, is_within, most_of, Origin, base_from, owner_for, owner_of, Sight, IsOf, base_at, flags_at, life_at, end_of, tick_count, costs, is_over, is_done_at, life-whole, filter-has, in-range, ◌≡◌, ◌≤◌, ◌+◌, ◌==◌, ◌∙◌, ◌++◌, ℕ, Bool, true, false, List, [], ◌∷◌, cond, length, length-append, map, inl, refl, ap, sym, subst, arith, if◌then◌else◌, list_any, nat_tests, length-map, has-right, sent_by, post_of, sent-grows, owner_with, Owns, world_at, as-before, is_tick}
+use Rattle.run_rounds.proofs.Names.{Every, Has, NodeId, NodeKind, Repository, Broker, is_broker, same_node, same_is, same_node-refl, DownCause, CarriesOn, entries_of, Entry, Take, Go, Learn, Hear, Gate, Crash, Down, Tick, Trace, Base, is_down, names, own, walk, Plan, in_plan, is_within, most_of, Origin, base_from, owner_for, owner_of, Sight, IsOf, base_at, flags_at, life_at, end_of, costs, is_over, is_done_at, life-whole, filter-has, in-range, ◌≡◌, ◌≤◌, ◌+◌, ◌==◌, ◌∙◌, ◌++◌, ℕ, Bool, true, false, List, [], ◌∷◌, cond, length, length-append, map, inl, refl, ap, sym, subst, arith, if◌then◌else◌, list_any, nat_tests, length-map, has-right, sent_by, post_of, sent-grows, owner_with, Owns, world_at, as-before}
 use Rattle.run_rounds.proofs.ListLemmas.{any-has}
 
 -- ---- flags

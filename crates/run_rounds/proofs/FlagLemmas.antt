@@ -1,6 +1,6 @@
 -- Nodes that went down: what the entries alone say of them.
 use Rattle.std.proofs.lemmas.Bool.{and_from}
-use Rattle.run_rounds.proofs.Names.{Every, Has, NodeId, DownCause, same_node, same_is, same_node-refl, Entry, Take, Go, Learn, Hear, Gate, Crash, Down, Tick, Base, Flags, World, is_down, names, opened_log, step, walk_from, down_cause, ◌≡◌, ◌⊎◌, ◌∙◌, ◌++◌, ◌&&◌, Bool, true, false, List, [], ◌∷◌, Option, Some, None, is_some, if◌then◌else◌, inl, inr, refl, ap, sym, subst, same_Some, flagged, Meets, Rule}
+use Rattle.run_rounds.proofs.Names.{Every, Has, NodeId, DownCause, same_node, same_is, same_node-refl, Entry, Take, Go, Learn, Hear, Gate, Crash, Down, Tick, Base, World, is_down, names, opened_log, step, walk_from, down_cause, ◌≡◌, ◌⊎◌, ◌∙◌, ◌&&◌, Bool, true, false, List, [], ◌∷◌, Some, is_some, if◌then◌else◌, inl, inr, refl, ap, sym, subst, same_Some, flagged, Meets, Rule}
 use Rattle.stream_port.specs.declared.fates.Fate.{Fate}
 use Rattle.kill_law.proofs.Steps.{step-known}
 

@@ -1,5 +1,5 @@
 -- Nothing that stood in a node's log is lost, also where memory ran out in a round.
-use Rattle.run_rounds.proofs.Names.{NodeId, Image, Effect, storage, Plan, View, Founding, LockTable, knows, Entry, Opened, Base, opened_log, walk, walk_from, Origin, WireParts, IsWirePass, Sight, base_at, life_at, pass-origin, IsKept, NodeParts, sight, Media, node_at, Along, IsKeptWhole, ◌≡◌, ◌∙◌, ◌++◌, ℕ, IsTrue, List, [], Option, Some, Ok, map, take, append_assoc, inr, refl, ap, sym, subst, AllZip, unwrap_or, lock_base, gated-grows, origin_at, HasItsLog}
+use Rattle.run_rounds.proofs.Names.{NodeId, Image, Effect, storage, Plan, View, Founding, LockTable, Entry, Base, opened_log, walk, walk_from, Origin, WireParts, IsWirePass, base_at, life_at, pass-origin, IsKept, NodeParts, sight, Media, node_at, Along, IsKeptWhole, ◌≡◌, ◌∙◌, ◌++◌, List, [], Option, Some, Ok, map, take, append_assoc, inr, ap, sym, subst, AllZip, unwrap_or, lock_base, gated-grows, HasItsLog}
 use Rattle.run_rounds.proofs.ListLemmas.{along-mapped}
 use Rattle.run_rounds.proofs.SeenLemmas.{At, Went}
 

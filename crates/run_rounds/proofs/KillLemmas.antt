@@ -1,5 +1,5 @@
 -- What crashes leave of a node's medium at each place of a run.
-use Rattle.run_rounds.proofs.Names.{NodeId, Asked, Image, LeftNow, Goes, goes_nowhere, Effect, medium_of, Plan, View, Founding, LockTable, fresh, knows, reading, Entry, Trace, base_of, in_plan, Base, Life, names, opened_life, opened_log, own, walk, walk_from, WireParts, base_from, owner_for, Sight, base_at, life_at, IsKept, NodeParts, sight, Passes, cuts_of, kept-none, IsKeptThrough, HasMemory, Opening, Open, Shut, Wanting, Media, HasOpened, IsOpen, log_in, node_at, node_count, place_of, at-place, Along, IsNewNode, IsSetUp, fresh_for, zip-at, all-at, Pass, KeepsThroughout, SurvivesKills, Became, inner, ◌≡◌, ◌<◌, ◌+◌, ◌++◌, ◌∙◌, ℕ, suc, true, IsTrue, List, [], ◌∷◌, Option, Some, None, cond, length, map, slice_get, refl, ap, sym, subst, arith, All, AllZip, unwrap_or, Vec, Global, append-nil, length-map, filter-append, same_Some, Stage, lock_base, looked-of, IsNext, KeptAlong, Mark, PassesOn, entries_in, IsKeptNow, IsOpened, KeepsPlaces}
+use Rattle.run_rounds.proofs.Names.{NodeId, Asked, Image, LeftNow, Goes, goes_nowhere, Effect, medium_of, Plan, View, Founding, LockTable, fresh, knows, reading, Entry, Trace, base_of, Base, Life, names, opened_life, opened_log, own, walk_from, WireParts, base_from, owner_for, Sight, base_at, life_at, IsKept, NodeParts, sight, Passes, cuts_of, kept-none, IsKeptThrough, HasMemory, Opening, Open, Shut, Wanting, Media, HasOpened, IsOpen, log_in, node_at, node_count, place_of, at-place, Along, IsNewNode, IsSetUp, fresh_for, zip-at, all-at, Pass, KeepsThroughout, SurvivesKills, inner, ◌≡◌, ◌<◌, ◌+◌, ◌++◌, ◌∙◌, ℕ, suc, IsTrue, List, [], ◌∷◌, Option, Some, None, cond, length, map, slice_get, refl, ap, sym, subst, arith, All, AllZip, unwrap_or, append-nil, length-map, filter-append, same_Some, Stage, lock_base, looked-of, IsNext, KeptAlong, Mark, PassesOn, entries_in, IsKeptNow, IsOpened, KeepsPlaces}
 use Rattle.version_store.specs.declared.stores.Store.{Store}
 use Rattle.run_starts.proofs.PhaseLemmas.{kept-on, passes-beside, passes-on}
 use Rattle.run_starts.proofs.WindowLemmas.{place-of}

@@ -1,9 +1,9 @@
 -- What a run's closing leaves known of each node.
-use Rattle.run_rounds.proofs.Names.{Has, NodeId, DownCause, Asked, Plan, View, Founding, LockTable, CarriesOn, knows, reading, Entry, Down, Opened, Trace, Base, Flags, Life, opened_log, start_world, walk, base_of, in_plan, WasNotOpened, life_after, Origin, WireParts, base_from, owner_of, IsOf, IsWirePass, base_at, flags_at, life_at, pass-origin, down_cause, Condition, IsCause, NodeParts, Stands, sight, HasMemory, Opening, Media, node_count, Along, IsSetUp, Pass, life-whole, ◌≡◌, ◌≢◌, ◌∙◌, ◌++◌, ℕ, Bool, true, false, IsTrue, List, [], ◌∷◌, Option, Some, None, is_some, length, map, refl, ap, sym, subst, All, lock_base}
+use Rattle.run_rounds.proofs.Names.{Has, NodeId, DownCause, Asked, Plan, View, Founding, LockTable, CarriesOn, knows, reading, Entry, Down, Opened, Trace, Base, Flags, opened_log, start_world, walk, base_of, WasNotOpened, life_after, Origin, WireParts, base_from, owner_of, IsOf, IsWirePass, base_at, flags_at, life_at, pass-origin, down_cause, Condition, IsCause, NodeParts, Stands, sight, HasMemory, Opening, Media, node_count, Along, IsSetUp, Pass, life-whole, ◌≡◌, ◌∙◌, ◌++◌, ℕ, true, false, IsTrue, List, [], ◌∷◌, Option, Some, None, is_some, length, refl, ap, sym, subst, All, lock_base}
 use Rattle.run_starts.specs.Condition.TheVariants as condition
 use Rattle.run_rounds.proofs.EndLemmas.{down-in, flags-whole}
 use Rattle.run_rounds.proofs.FlagLemmas.{down-ends, none-due, told-of}
-use Rattle.run_rounds.proofs.SeenLemmas.{At, Seen, Went, of-seen, seen}
+use Rattle.run_rounds.proofs.SeenLemmas.{At, Went}
 
 -- a walk over the trace of a run that was set up begins with what its wire began with
 pub same-base : {M : Type 0} {g : _} (plan : Plan) (os : List (Opening M g)) (asked : List Asked) (answers : Option (List ℕ)) (o : Origin) (t : Trace) → IsSetUp plan os asked answers o → t.start ≡ o.start → t.opened ≡ o.opened → base_from o ≡ base_of (reading plan.acts) plan t

@@ -1,5 +1,5 @@
 -- Lists, lists beside each other, and what holds of each element.
-use Rattle.run_rounds.proofs.Names.{Has, Along, ◌≡◌, ◌<◌, ◌+◌, ◌++◌, ◌∙◌, ℕ, zero, suc, Bool, true, false, List, [], ◌∷◌, Some, length, map, get_or, slice_get, ◌||◌, inl, inr, refl, ap, subst, arith, ◌≤◌, Option, None, sym, All, Any, AllZip, list_any, All-nil, All-cons, same_Some}
+use Rattle.run_rounds.proofs.Names.{Has, Along, ◌≡◌, ◌<◌, ◌+◌, ◌++◌, ◌∙◌, ℕ, zero, suc, Bool, true, false, List, [], ◌∷◌, Some, length, map, get_or, slice_get, ◌||◌, inl, inr, refl, ap, subst, arith, All, AllZip, list_any, All-nil, All-cons, same_Some}
 
 -- ---- what holds of each element
 

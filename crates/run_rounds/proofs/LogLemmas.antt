@@ -1,5 +1,5 @@
 -- The logs of a run's trace are those of its media, before and after.
-use Rattle.run_rounds.proofs.Names.{NodeId, Image, Effect, storage, Plan, View, Founding, LockTable, Entry, Trace, in_plan, WasNotOpened, Life, opened_log, open_effects, WireParts, base_from, life_at, down_cause, IsKept, NodeParts, sight, HasMemory, Media, node_count, Along, Became, RestoresLogs, KeepsLog, ◌≡◌, ◌∙◌, ℕ, true, IsTrue, List, [], length, Option, Some, None, Ok, ap, sym, subst, All, same_Some, LeavesLife, WasHeld}
+use Rattle.run_rounds.proofs.Names.{NodeId, Effect, storage, Plan, View, Founding, LockTable, Entry, Trace, in_plan, WasNotOpened, Life, WireParts, base_from, life_at, IsKept, NodeParts, sight, HasMemory, Media, node_count, Along, Became, RestoresLogs, KeepsLog, ◌≡◌, ◌∙◌, true, IsTrue, List, length, Option, Ok, ap, sym, subst, same_Some, LeavesLife, WasHeld}
 use Rattle.run_rounds.proofs.SeenLemmas.{At, Seen, are-back, left, of-seen, seen}
 use Rattle.run_rounds.proofs.KnownLemmas.{HaveStood, Known, base, life-end, log-end, none-open, origin, was-opened}
 

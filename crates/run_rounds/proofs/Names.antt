@@ -44,16 +44,16 @@ pub use Rattle.run_starts.specs.Logs.{is_over}
 pub use Rattle.run_starts.specs.Nodes.{EachNode, EachPlace, GoesOn, HasAllOf, HasPass, IsKeptNow, IsKeptThrough, IsReady, IsUp, Shares}
 pub use Rattle.run_starts.specs.Reason.{Reason}
 pub use Rattle.run_starts.specs.Reasons.{EndsFor, HasMemory, IsDone, IsDown, IsLateAfter, TicksAreWanted, is_done_after, is_done_at}
-pub use Rattle.run_starts.specs.Seats.{Along, CanOpen, CanSeat, IsNewNode, IsSound}
-pub use Rattle.run_starts.specs.Sights.{IsOf, IsWirePass, Owns, Sight, base_at, flags_at, life_at, origin_at, owners_for, world_at}
+pub use Rattle.run_starts.specs.Seats.{Along, CanSeat, IsNewNode, IsSound}
+pub use Rattle.run_starts.specs.Sights.{IsOf, IsWirePass, Owns, Sight, base_at, flags_at, life_at, owners_for, world_at}
 pub use Rattle.run_starts.specs.Starts.{HasFallen, HasPasses, IsSetUp, IsUnseen, downs_of, fresh_for}
 pub use Rattle.run_starts.specs.Stories.{IsUntold, IsWhole, LeavesUntold, end_of}
 pub use Rattle.run_starts.specs.TurnNodes.{IsAtRest, NodeParts, Stands, sight}
 pub use Rattle.run_starts.specs.Windows.{IsNext, KeptAlong, Mark, Passes, PassesOn, cuts_of, entries_in}
 pub use Rattle.run_starts.specs.Wires.{IsRunOf, Origin, WireParts, base_from}
-pub use Rattle.seat_lock.specs.Rule.{IsOneOf, same, total}
+pub use Rattle.seat_lock.specs.Rule.{IsOneOf, same}
 pub use Rattle.seat_lock.specs.Story.{entries_of}
-pub use Rattle.seat_lock.specs.Words.{CarriesOn, Known, base_of as lock_base, fresh, knows}
+pub use Rattle.seat_lock.specs.Words.{CarriesOn, base_of as lock_base, fresh, knows}
 pub use Rattle.seat_lock.specs.declared.locks.LockTable.{LockTable}
 pub use Rattle.seat_lock.specs.declared.views.Founding.{Founding}
 pub use Rattle.seat_lock.specs.declared.views.View.{View}
@@ -66,7 +66,7 @@ pub use Rattle.std.proofs.lemmas.Option.{get_or_from_slice_get, same_Some, slice
 pub use Rattle.std.proofs.lemmas.Slice.Zip.{AllZip-long}
 pub use Rattle.std.specs.List.{AllZip, list_any}
 pub use Rattle.std.specs.Option.{option_map, unwrap_or}
-pub use Rattle.std.specs.Prelude.{All, Any}
+pub use Rattle.std.specs.Prelude.{All}
 pub use Rattle.std.specs.declared.alloc.Global.{Global}
 pub use Rattle.std.specs.declared.vec.Vec.{Vec}
 pub use Rattle.stream_port.specs.Causes.{Rose, RoseBy, rise_of_fewer, rose_by_none}
@@ -74,14 +74,14 @@ pub use Rattle.stream_port.specs.declared.fates.Asked.{Asked}
 pub use Rattle.version_store.specs.Storage.{storage}
 pub use Rattle.version_store.specs.StoreWords.{medium_of}
 pub use Rattle.world_core.proofs.Lives.{gated-grows, sent-grows}
-pub use Rattle.world_core.specs.Counts.{down_cause, is_tick, tick_count}
+pub use Rattle.world_core.specs.Counts.{down_cause, tick_count}
 pub use Rattle.world_core.specs.Legal.{AllReady, Idle, JustNodes, Rule, base_of, fates_of, in_plan, is_within, most_of, post_of}
 unfoldable pub use Rattle.world_core.specs.Legal.{Meets}
 pub use Rattle.world_core.specs.Nodes.{kind_ready}
 unfoldable pub use Rattle.world_core.specs.Nodes.{is_ready}
 pub use Rattle.world_core.specs.Pasts.{WasNotOpened}
-pub use Rattle.world_core.specs.Readings.{IsLegal, life_after, open_effects}
-pub use Rattle.world_core.specs.Walks.{Base, Flags, Life, World, flagged, is_down, lives_on, names, opened_life, opened_log, own, sent_by, start_world, step, walk}
+pub use Rattle.world_core.specs.Readings.{IsLegal, life_after}
+pub use Rattle.world_core.specs.Walks.{Base, Flags, Life, World, flagged, is_down, names, opened_life, opened_log, own, sent_by, start_world, step, walk}
 unfoldable pub use Rattle.world_core.specs.Walks.{walk_from}
 pub use Rattle.world_core.specs.declared.entries.Entry.{Entry}
 pub use Rattle.world_core.specs.declared.entries.Entry.TheVariants.{Crash, Down, Gate, Go, Hear, Learn, Take, Tick}

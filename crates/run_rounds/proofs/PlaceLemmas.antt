@@ -1,5 +1,5 @@
 -- The passes of a run that begins, each in the place of its node.
-use Rattle.run_rounds.proofs.Names.{NodeId, Effect, Asked, Plan, fresh, knows, Opened, opened_log, WireParts, owner_for, Sight, Opening, log_in, opened_from, node_at, log-at, Along, IsSetUp, IsUnseen, fresh_for, Pass, ◌≡◌, ◌∙◌, ◌+◌, ℕ, zero, suc, List, [], ◌∷◌, length, map, Option, Some, slice_get, take, refl, ap, sym, subst, arith, length-map, take-length}
+use Rattle.run_rounds.proofs.Names.{Asked, Plan, fresh, knows, Opened, opened_log, WireParts, owner_for, Opening, log_in, opened_from, node_at, log-at, Along, IsSetUp, IsUnseen, fresh_for, Pass, ◌≡◌, ◌∙◌, ◌+◌, ℕ, suc, List, [], ◌∷◌, length, map, Option, Some, slice_get, take, refl, ap, sym, subst, arith, length-map, take-length}
 
 first-same : {T : Type 0} {x y : T} {xs ys : List T} → x ∷ xs ≡ y ∷ ys → x ≡ y
 first-same e = cc

@@ -1,12 +1,12 @@
 -- From how its nodes ended, and what the closing of its wire tells, to the end of a run.
-use Rattle.run_rounds.proofs.Names.{NodeId, broker, is_broker, NodeKind, Repository, Broker, DownCause, Asked, Image, LeftNow, View, Founding, LockTable, CarriesOn, knows, Plan, IsOfLanguage, reading, Entry, Tick, Trace, Base, World, walk, Idle, base_of, fates_of, in_plan, is_within, most_of, Origin, WireParts, base_from, owner_of, IsOf, IsWirePass, LeavesUntold, tick_count, Condition, NodeParts, IsAtRest, Stands, sight, is_over, Limits, Reason, GoesOn, IsUp, HasMemory, IsDone, IsLateAfter, is_done_at, Opening, Media, AreReady, HasOpened, IsOpen, node_at, node_count, in-at, Along, IsNewNode, IsSetUp, fresh_for, End, ClosedAs, HaveGone, IfRan, IfWanting, ListEnds, Pass, EndsAs, IsKeptWhole, account_of, tellers, IsTold, Ran, along-length, ◌≡◌, ◌≢◌, ◌⊎◌, ◌≤◌, ◌<◌, ◌++◌, ◌∙◌, ◌+◌, ℕ, Bool, true, false, if◌then◌else◌, IsTrue, List, [], ◌∷◌, Option, Some, length, map, get_or, inl, inr, refl, ap, sym, subst, arith, All, Any, AllZip, get_or_from_slice_get, slice_get_within, AllZip-long, lock_base, IsUntold, is_done_after, HasClosed, RanUntold, story-ticks, tick-before, ticks-whole}
+use Rattle.run_rounds.proofs.Names.{NodeId, broker, is_broker, NodeKind, Repository, Broker, DownCause, Asked, Image, LeftNow, View, Founding, LockTable, CarriesOn, knows, Plan, IsOfLanguage, reading, Entry, Trace, Base, walk, Idle, base_of, fates_of, in_plan, is_within, most_of, Origin, WireParts, owner_of, IsOf, IsWirePass, LeavesUntold, tick_count, Condition, NodeParts, IsAtRest, Stands, sight, is_over, Limits, Reason, HasMemory, IsDone, IsLateAfter, is_done_at, Opening, Media, AreReady, HasOpened, IsOpen, node_at, node_count, in-at, Along, IsNewNode, IsSetUp, End, ClosedAs, HaveGone, IfRan, IfWanting, ListEnds, Pass, EndsAs, IsKeptWhole, account_of, tellers, IsTold, Ran, along-length, ◌≡◌, ◌≢◌, ◌⊎◌, ◌≤◌, ◌<◌, ◌++◌, ◌∙◌, ◌+◌, ℕ, Bool, true, false, if◌then◌else◌, IsTrue, List, [], ◌∷◌, Option, Some, length, map, get_or, inl, inr, refl, ap, sym, subst, arith, All, AllZip, get_or_from_slice_get, slice_get_within, AllZip-long, lock_base, IsUntold, is_done_after, HasClosed, RanUntold, story-ticks, tick-before, ticks-whole}
 use Rattle.run_starts.specs.Condition.TheVariants as condition
 use Rattle.run_starts.specs.Reason.TheVariants as reason
 use Rattle.run_rounds.specs.declared.ends.End.TheVariants as end
 use Rattle.run_rounds.specs.Ends.{AllDone, HasEnded, HasRunOut, TicksAreWanted, broker_done_after, some_down}
 use Rattle.run_rounds.proofs.ListLemmas.{all-end, all-front, all-mapped, along-at, one-of}
 use Rattle.run_rounds.proofs.EndLemmas.{down-whole, done-whole, enough-whole}
-use Rattle.run_rounds.proofs.SeenLemmas.{At, are-back, logs-of, none-own, went-along}
+use Rattle.run_rounds.proofs.SeenLemmas.{At, are-back, logs-of, went-along}
 use Rattle.run_rounds.proofs.KnownLemmas.{HaveStood, Known, at-base, same-base}
 use Rattle.run_rounds.proofs.LogLemmas.{all-live, restores, stood-at}
 use Rattle.run_rounds.proofs.CountLemmas.{are-counted, have-causes}

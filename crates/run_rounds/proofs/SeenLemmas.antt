@@ -1,5 +1,5 @@
 -- What is known at the end of the node in each place of the plan.
-use Rattle.run_rounds.proofs.Names.{NodeId, Asked, RoseBy, rose_by_none, Image, Effect, storage, medium_of, Plan, fresh, knows, Opened, in_plan, opened_log, Origin, WireParts, owner_for, Sight, IsIntact, costs, NodeParts, IsAtRest, sight, GoesOn, Opening, Open, Shut, Wanting, Media, IsBack, AreBack, HasOpened, IsOpen, log_in, medium_in, opened_from, node_at, node_count, place_of, at-place, log-at, Along, IsNewNode, IsSetUp, fresh_for, Pass, Became, inner, medium_at, ◌≡◌, ◌≢◌, ◌≤◌, ◌<◌, ◌+◌, ◌++◌, ◌∙◌, ℕ, zero, suc, true, false, IsTrue, List, [], ◌∷◌, Option, Some, None, length, map, take, get_or, slice_get, Ok, refl, ap, sym, subst, arith, All, Any, AllZip, AllZip-long, All-map, get_or_from_slice_get, slice_get_within, same_Some}
+use Rattle.run_rounds.proofs.Names.{NodeId, Asked, RoseBy, rose_by_none, Image, Effect, storage, medium_of, Plan, fresh, knows, Opened, in_plan, opened_log, Origin, WireParts, owner_for, Sight, IsIntact, costs, NodeParts, IsAtRest, sight, GoesOn, Opening, Open, Shut, Wanting, Media, IsBack, AreBack, HasOpened, IsOpen, log_in, node_at, node_count, place_of, at-place, log-at, Along, IsNewNode, IsSetUp, fresh_for, Pass, Became, inner, medium_at, ◌≡◌, ◌≢◌, ◌≤◌, ◌<◌, ◌+◌, ◌∙◌, ℕ, suc, true, IsTrue, List, [], ◌∷◌, Option, Some, None, length, map, slice_get, Ok, refl, ap, sym, subst, arith, All, AllZip, All-map, get_or_from_slice_get, slice_get_within, same_Some}
 use Rattle.run_starts.specs.Condition.TheVariants as condition
 use Rattle.run_rounds.proofs.ListLemmas.{all-first, all-mapped, all-rest, along-at, along-mapped, get-mapped}
 

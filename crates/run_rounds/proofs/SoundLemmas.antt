@@ -1,5 +1,5 @@
 -- What was opened can be seated: what opening the run's nodes asks.
-use Rattle.run_rounds.proofs.Names.{Asked, Plan, View, Founding, LockTable, fresh, knows, Entry, Opened, Origin, WireParts, owner_for, IsWirePass, Sight, NodeParts, IsReady, Opening, Open, Shut, Wanting, Media, AreReady, HasOpened, IsOpen, log_in, opened_from, node_at, Along, IsNewNode, IsSetUp, fresh_for, all-at, Pass, ◌≡◌, ◌≤◌, ◌<◌, ◌+◌, ◌∙◌, ℕ, suc, List, [], ◌∷◌, Option, Some, None, length, map, slice_get, refl, ap, sym, subst, arith, All, AllZip, All-nil, All-cons, All-weaker, CanOpen, CanSeat, IsSound}
+use Rattle.run_rounds.proofs.Names.{Plan, View, Founding, LockTable, knows, Entry, WireParts, IsWirePass, NodeParts, IsReady, Opening, Open, Shut, Wanting, Media, AreReady, HasOpened, IsOpen, Along, IsNewNode, IsSetUp, fresh_for, all-at, Pass, ◌≡◌, ℕ, suc, List, [], ◌∷◌, Option, Some, None, map, sym, subst, All, AllZip, All-nil, All-cons, All-weaker, CanSeat, IsSound}
 use Rattle.run_starts.proofs.SeatLemmas.{can-open}
 use Rattle.run_rounds.proofs.ListLemmas.{all-first, all-mapped, all-rest}
 use Rattle.run_rounds.proofs.PlaceLemmas.{fresh-along}

@@ -1,11 +1,7 @@
 -- What the closing of a run's wire tells, of the plan that the run was set up for.
-use Rattle.run_rounds.proofs.Names.{NodeId, Effect, Asked, Plan, IsOfLanguage, reading, Opened, Trace, is_ready, opened_log, base_of, Origin, IsWhole, Opening, AreReady, node_count, IsSetUp, account_of, tellers, IsTold, ◌≡◌, ◌∙◌, ℕ, true, IsTrue, List, length, Option, Some, refl, ap, sym, subst, AllReady, JustNodes, IsRunOf, run-of}
+use Rattle.run_rounds.proofs.Names.{Asked, Plan, IsOfLanguage, reading, Opened, Trace, is_ready, opened_log, base_of, Origin, IsWhole, Opening, AreReady, node_count, IsSetUp, account_of, tellers, IsTold, ◌≡◌, ◌∙◌, ℕ, true, IsTrue, List, length, Option, ap, sym, subst, AllReady, JustNodes, IsRunOf, run-of}
 use Rattle.value_form.specs.declared.acts.ActSpec.{ActSpec}
 use Rattle.run_starts.specs.Clocked.{IsClocked}
-
--- what is set up is so for what its wire began with
-pub set-up-own : {M : Type 0} {g : _} (plan : Plan) (os : List (Opening M g)) (asked : List Asked) (answers : Option (List ℕ)) (o : Origin) → IsSetUp plan os asked answers o → IsSetUp plan os o.asked o.answers o
-set-up-own plan os asked answers o s = record { run = s.run; acts = s.acts; opened = s.opened; start = s.start; asked_is = refl; answers_are = refl }
 
 module _ {M : Type 0} {g : _} (plan : Plan) (os : List (Opening M g)) (o : Origin) (t : Trace) (set : IsSetUp plan os o.asked o.answers o) (language : IsOfLanguage plan) (count : length os ≡ node_count plan) (ready : AreReady plan 0 os) where
   -- the wire is one of a run of the plan

@@ -1,6 +1,6 @@
 -- A run of which a node couldn't be opened.
-use Rattle.std.proofs.Common.{◌≡◌, ◌≢◌, ◌≤◌, ◌<◌, ◌+◌, ◌⊎◌, inl, inr, ◌∙◌, ◌++◌, ℕ, zero, suc, Bool, true, false, IsTrue, List, [], ◌∷◌, length, map, Option, Some, None, Ok, Err, All, slice_get, take, refl, ap, sym, subst, arith, append-nil}
-use Rattle.run_rounds.proofs.Names.{Every, Has, NodeId, DownCause, Asked, Rose, RoseBy, rose_by_none, Image, LeftNow, Goes, goes_nowhere, Effect, storage, Plan, IsOfLanguage, IsOneOf, entries_of, CarriesOn, fresh, knows, Entry, Down, Opened, Trace, Life, opened_life, opened_log, own, walk, base_of, in_plan, WasNotOpened, life_after, open_effects, reading, Origin, WireParts, owner_for, owner_of, Sight, owners_for, down_cause, IsIntact, costs, IsKept, kept-none, Reason, Opening, Open, Shut, Wanting, Media, Passes, cuts_of, AreReady, HasOpened, IsOpen, log_in, medium_in, opened_from, node_at, node_count, place_of, at-place, in-at, log-at, place-at, Along, HasFallen, IsSetUp, downs_of, zip-at, zip-back, End, Pass, ClosedAs, IfRan, EndsAs, account_of, tellers, KeepsThroughout, SurvivesKills, AreCounted, Became, HaveCauses, KeepsLog, RestoresLogs, inner, medium_at, Ran, AllZip, option_map, unwrap_or, take-length, slice_get-map, slice_get_within, same_Some, Known, IsAsItWas, IsShutFor, one-place, some-within, all-front, all-last}
+use Rattle.std.proofs.Common.{◌≡◌, ◌≢◌, ◌+◌, ◌⊎◌, inl, inr, ◌∙◌, ◌++◌, ℕ, true, IsTrue, List, [], ◌∷◌, length, map, Option, Some, None, Ok, All, slice_get, take, refl, ap, sym, subst, arith, append-nil}
+use Rattle.run_rounds.proofs.Names.{Every, NodeId, DownCause, Asked, RoseBy, rose_by_none, Image, LeftNow, Goes, goes_nowhere, Effect, storage, Plan, IsOfLanguage, IsOneOf, entries_of, CarriesOn, fresh, knows, Entry, Down, Opened, Trace, Life, opened_life, opened_log, own, walk, base_of, in_plan, WasNotOpened, life_after, reading, WireParts, owner_for, owner_of, Sight, owners_for, down_cause, IsIntact, costs, IsKept, kept-none, Reason, Opening, Open, Shut, Wanting, Media, Passes, cuts_of, AreReady, HasOpened, IsOpen, log_in, medium_in, opened_from, node_at, node_count, place_of, at-place, in-at, log-at, place-at, Along, HasFallen, IsSetUp, downs_of, zip-at, zip-back, End, Pass, ClosedAs, IfRan, EndsAs, account_of, tellers, KeepsThroughout, SurvivesKills, AreCounted, Became, HaveCauses, KeepsLog, RestoresLogs, inner, medium_at, Ran, AllZip, option_map, unwrap_or, take-length, slice_get-map, slice_get_within, same_Some, IsAsItWas, IsShutFor, one-place, some-within, all-front, all-last}
 use Rattle.pseudo_time.specs.declared.down_causes.DownCause.TheVariants as down
 use Rattle.run_starts.proofs.TurnPageLemmas.{whole-same}
 use Rattle.run_starts.proofs.StepLemmas.{passes-between}

@@ -83,11 +83,6 @@ fresh-owners w (o ∷ os) = ap (λ l. fresh w (owner_for o.node) ∷ l) (fresh-o
 pub split-passes : {P : Type 0} (f : P → Sight) (w : WireParts) (opened : List Opened) (all front : List P) (last : P) → map f all ≡ map (fresh w) (owners_for opened) → all ≡ front ++ last ∷ [] → (map f front ≡ fresh_for w opened) × (f last ≡ fresh w 0)
 split-passes f w opened all front last is split = same_from_push (map f front) (fresh_for w opened) (f last) (fresh w 0) (sym (map-append f front (last ∷ [])) ∙ (ap (map f) (sym split) ∙ (is ∙ fresh-owners w opened)))
 
-pub some-passes : {P : Type 0} (f : P → Sight) (w : WireParts) (opened : List Opened) (all : List P) → map f all ≡ map (fresh w) (owners_for opened) → all ≢ []
-some-passes f w opened [] is e =
-    let n : 0 ≡ length (fresh_for w opened) + 1 = ap length (is ∙ fresh-owners w opened) ∙ length_push (fresh_for w opened) (fresh w 0) in omega (arith, n)
-some-passes f w opened (p ∷ all) is e = absurd cc
-
 pub all-front : {T : Type 0} (P : T → Type 0) (all front : List T) (last : T) → all ≡ front ++ last ∷ [] → All P all → All P front
 all-front P all front last e h k d lt =
     subst P (ap (λ l. slice_index_or l k d) e ∙ get_or_append_left front (last ∷ []) d k lt) (h k d (let n = ap length e ∙ length_push front last in omega (arith, n, lt)))

@@ -42,9 +42,6 @@ so_far_shallow b sound =
 
 -- ---- what was fed
 
-after_one : (n : ℕ) (x : Numbered) → open_after n (x ∷ []) ≡ open_by n x.row
-after_one n x = refl
-
 open_by-opens : (n : ℕ) (flat : Flat) → opens flat ≡ true → open_by n (row_of flat) ≡ suc n
 open_by-opens n (f.If x) h = refl
 open_by-opens n (f.Repeat x) h = refl

@@ -39,7 +39,7 @@ pub use Rattle.std.specs.Result.{IsErr, IsErrAnd}
 pub use Rattle.token_form.proofs.LineLaws.{one_list}
 pub use Rattle.token_form.proofs.Runs.{both, by_test}
 pub use Rattle.token_form.proofs.Spellings.{line_has_tokens, spells}
-pub use Rattle.token_form.specs.Tokens.{AreTokens, Ends, IsToken, IsTokens, all_in_limits, in_limits, in_range, is_dot, is_object_number, next_fits, objects_fit, opens_object}
+pub use Rattle.token_form.specs.Tokens.{AreTokens, Ends, IsToken, IsTokens, all_in_limits, in_range, is_dot, is_object_number, next_fits, objects_fit, opens_object}
 pub use Rattle.token_form.specs.declared.tokens.Token.{Token}
 pub use Rattle.value_form.specs.Mirror.{Applied, At, Before, Between, Block, End, Fixed, Given, If, IfElse, Let, Name, Nothing, Number, Print, Read, Repeat, Spot, Step, Term, Text, Then, Withdraw, Write, block, plain, spot, step_layer, term}
 pub use Rattle.value_form.specs.MirrorLaws.{block-made, made, made-block, made-term, made_all, made_place, made_step, plain-if, plain-if_else, plain-repeat, term-made}

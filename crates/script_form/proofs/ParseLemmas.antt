@@ -1,5 +1,5 @@
 -- Lines fed one after another.
-use Rattle.script_form.proofs.Names.{◌≡◌, ℕ, List, [], ◌∷◌, ◌++◌, inl, inr, refl, sym, ap, ◌∙◌, subst, append_assoc, append-nil, Result, Ok, Err, Script, block, rows_so_far, LineFault, IsScriptLines, BeginScript, LeftOpen, FaultBehind, HoldsLines, FeedsLine, EndsLines, Parses, ScriptReader, ParseFault}
+use Rattle.script_form.proofs.Names.{◌≡◌, ℕ, List, [], ◌∷◌, ◌++◌, inl, inr, sym, ap, ◌∙◌, subst, append_assoc, append-nil, Result, Ok, Err, Script, block, rows_so_far, LineFault, IsScriptLines, BeginScript, LeftOpen, FaultBehind, HoldsLines, FeedsLine, EndsLines, Parses, ScriptReader, ParseFault}
 use Rattle.script_form.specs.declared.parse_faults.ParseFault.TheVariants.{Fault, NoMemory}
 use Rattle.script_form.proofs.ProgressLemmas.{holds_begin}
 
@@ -9,9 +9,6 @@ pub record Read (greatest : ℕ) (all rest : List (List ℕ)) (reader : ScriptRe
   pub parts : all ≡ done ++ rest
   pub holds : HoldsLines done reader
   pub same : reader.greatest ≡ greatest
-
-pub read_none : (greatest : ℕ) (all : List (List ℕ)) (reader : ScriptReader) → HoldsLines [] reader → reader.greatest ≡ greatest → Read greatest all all reader
-read_none greatest all reader h g = record { done = []; parts = refl; holds = h; same = g }
 
 pub read_one : (greatest : ℕ) (all rest more : List (List ℕ)) (line : List ℕ) (old new : ScriptReader) (r : Read greatest all rest old) → rest ≡ line ∷ more
     → FeedsLine old.greatest r.done line (Ok new) → Read greatest all more new

@@ -1,19 +1,8 @@
 -- One line more: the lines still begin a script, or this is what is wrong with it.
-use Rattle.script_form.proofs.Names.{◌≡◌, ℕ, ◌+◌, ◌-◌, ◌<◌, ◌≤◌, ◌⊎◌, inl, inr, true, List, [], ◌∷◌, ◌++◌, length, refl, sym, ap, ◌∙◌, subst, arith, length-append, End, Row, Numbered, on, row_depth, Begins, BeginsShallow, row_text, rows_text, is_blank, LineRow, LinesRows, BeginScript, LineFault, Holds}
+use Rattle.script_form.proofs.Names.{◌≡◌, ℕ, ◌+◌, ◌-◌, ◌<◌, ◌≤◌, ◌⊎◌, inl, inr, true, List, [], ◌∷◌, ◌++◌, length, refl, sym, ap, ◌∙◌, subst, arith, length-append, Row, Numbered, on, row_depth, Begins, BeginsShallow, row_text, rows_text, is_blank, LineRow, LinesRows, BeginScript, LineFault, Holds}
 use Rattle.script_form.specs.declared.parse_faults.ParseKind.TheVariants as kind
 use Rattle.script_form.proofs.RowLemmas.{lines_with_row, lines_with_blank, shallow_with, next_line-with, text_with}
 
--- no line at all
-pub holds_nothing : (greatest : ℕ) → Holds greatest [] [] 0 1 0
-holds_nothing greatest = record {
-  rows = refl;
-  shallow = tt;
-  begins = record { more = []; script = End; is = refl; shallow = omega arith };
-  count_is = refl;
-  next_is = refl;
-  size_is = refl;
-  few = omega arith;
-  small = omega arith;
 }
 
 pub holds_begin : (greatest : ℕ) (lines : List (List ℕ)) (xs : List Numbered) (count next size : ℕ) → Holds greatest lines xs count next size → BeginScript greatest lines

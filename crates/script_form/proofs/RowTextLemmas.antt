@@ -1,5 +1,5 @@
 -- The canonical text of a row is its canonical tokens, which spell it and are in their limits.
-use Rattle.script_form.proofs.Names.{◌≡◌, ℕ, ◌<◌, ◌^◌, true, false, List, [], ◌∷◌, ◌++◌, refl, ap, ◌∙◌, subst, arith, append-nil, codes, not, ◌&&◌, ◌||◌, nat_lt, nat_le, le-leb, lt-ltb, Token, Ends, IsTokens, IsToken, AreTokens, in_limits, all_in_limits, is_dot, opens_object, is_object_number, objects_fit, in_range, spells, Spot, Fixed, At, text, canonical-spells, AllFit, AllFit-append, AllFit-canonical, SpellsSpot, SpellsRow, Row, spot_tokens, row_tokens, spot_text, row_text, SpotInLimits, RowInLimits, SpotUpTo, RowUpTo}
+use Rattle.script_form.proofs.Names.{◌≡◌, ℕ, ◌<◌, ◌^◌, true, false, List, [], ◌∷◌, ◌++◌, refl, ap, ◌∙◌, subst, arith, append-nil, codes, not, ◌&&◌, ◌||◌, nat_lt, nat_le, le-leb, lt-ltb, Token, Ends, IsTokens, IsToken, AreTokens, all_in_limits, is_dot, opens_object, is_object_number, objects_fit, in_range, spells, Spot, Fixed, At, text, canonical-spells, AllFit, AllFit-append, AllFit-canonical, SpellsSpot, SpellsRow, Row, spot_tokens, row_tokens, spot_text, row_text, SpotInLimits, RowInLimits, SpotUpTo, RowUpTo}
 use Rattle.std.specs.Fmt.{decimal}
 use Rattle.token_form.specs.declared.tokens.Token.TheVariants as t
 use Rattle.token_form.specs.declared.tokens.Word.TheVariants as w

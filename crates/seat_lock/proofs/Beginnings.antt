@@ -1,5 +1,5 @@
 -- Beginnings of one list, and the entries of an owner in them.
-use Rattle.seat_lock.proofs.Names.{◌≡◌, ◌≢◌, ℕ, ◌+◌, ◌≤◌, Bool, true, false, cond, eqb, eq-eqb, ne_eqb, List, [], ◌∷◌, ◌++◌, length, nat_le, refl, ap, sym, subst, ◌∙◌, arith, append_assoc, append-nil, length-append, filter, nil_from_length, filter-append, Part, View, Begins, entries_of, longer, HasOwn, first_part, other_parts, with_own, owned_in, total, same}
+use Rattle.seat_lock.proofs.Names.{◌≡◌, ◌≢◌, ℕ, ◌+◌, ◌≤◌, Bool, true, false, cond, eqb, eq-eqb, ne_eqb, List, [], ◌∷◌, ◌++◌, length, nat_le, refl, ap, sym, ◌∙◌, arith, append_assoc, append-nil, length-append, filter, nil_from_length, filter-append, Part, Begins, entries_of, longer, HasOwn, first_part, other_parts, total, same}
 use Rattle.std.proofs.lemmas.Bool.Decides.{nat_tests}
 
 module _ {E : Type 0} where
@@ -70,14 +70,3 @@ pub own_adds : {E : Type 0} (owner : E → ℕ) (e : E) (p : Part E) (l : List E
 own_adds owner e p l is h =
     let in_it : filter (λ d. eqb (owner d) p.owner) (e ∷ []) ≡ e ∷ [] = ap (λ b. cond b (e ∷ []) []) (eq-eqb (owner e) p.owner is) in
     filter-append (λ d. eqb (owner d) p.owner) l (e ∷ []) ∙ (ap (λ t. filter (λ d. eqb (owner d) p.owner) l ++ t) in_it ∙ ap (λ t. t ++ e ∷ []) h)
-
--- a view after a note is the view with the entry
-pub noted_is : {T E : Type 0} (owner : E → ℕ) (v : View T E) (e : E) (p : Part E) (l : List E) → l ≡ v.story ++ e ∷ [] → v.parts ≡ p ∷ [] → owner e ≡ p.owner → HasOwn owner v.parts v.story
-    → (let a : View T E = record v { story = l; parts = owned_in owner l v.parts } in let b : View T E = record v { story = v.story ++ e ∷ []; parts = with_own e v.parts } in a ≡ b)
-noted_is {T} {E} owner v e p l is parts mine own =
-    let had : entries_of owner p.owner v.story ≡ p.own = (subst (λ ps. HasOwn owner ps v.story) parts own).0 in
-    let now : entries_of owner p.owner l ≡ p.own ++ e ∷ [] = ap (entries_of owner p.owner) is ∙ own_adds owner e p v.story mine had in
-    let one : owned_in owner l v.parts ≡ record p { own = entries_of owner p.owner l } ∷ [] = ap (owned_in owner l) parts in
-    let two : with_own e v.parts ≡ record p { own = p.own ++ e ∷ [] } ∷ [] = ap (with_own e) parts in
-    let same : owned_in owner l v.parts ≡ with_own e v.parts = one ∙ (ap (λ (o : List E). let q : Part E = record p { own = o } in q ∷ []) now ∙ sym two) in
-    λ i. (let z : View T E = record v { story = is i; parts = same i } in z)

@@ -6,7 +6,7 @@ pub use Rattle.atomic_table.specs.declared.shared.Seat.{Seat}
 pub use Rattle.seat_lock.specs.Passes.{AreNew, Belongs, Covers, Knows, newcomer}
 pub use Rattle.seat_lock.specs.Rule.{AtHome, AtStage, Fits, IsOneOf, IsOut, Kept, at_ticket, has_ticket, holding, holds_slot, same, ticket_at, total, waits, weight}
 pub use Rattle.seat_lock.specs.Steps.{Seated, all_parts, dealing, dealt_out, drew, drew_if, founder, gathered, informed, learned, left, looked, nobody, note, noted, posted, staged, tested, ticket_of}
-pub use Rattle.seat_lock.specs.Story.{Begins, HasOwn, Meaning, entries_of, first_part, longer, meaning, other_parts, owned_in, with_own}
+pub use Rattle.seat_lock.specs.Story.{Begins, HasOwn, Meaning, entries_of, first_part, longer, meaning, other_parts, owned_in}
 pub use Rattle.seat_lock.specs.Words.{CarriesOn, IsInside, Known, base_in, fresh, knows, own_in, owner_in, shown}
 pub use Rattle.seat_lock.specs.declared.views.Part.{Part}
 pub use Rattle.seat_lock.specs.declared.views.Stage.{Stage}

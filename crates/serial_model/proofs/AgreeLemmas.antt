@@ -1,7 +1,6 @@
 -- Answers that agree with a map: what they lead to, and that there are at most 10,000.
-use Rattle.serial_model.proofs.Names.{◌≡◌, ℕ, zero, suc, ◌≤◌, Bool, true, false, List, [], ◌∷◌, ◌++◌, length, Result, Ok, Err, refl, sym, ap, ◌∙◌, arith, if◌then◌else◌, Ending, FailKind, ObjectId, Value, Step, Let, Read, Write, Print, If, IfElse, Repeat, Withdraw, Block, End, Then, Objects, value_at, Names, with_name, value, object_at, condition, count, ToRead, ToWrite, Asks, Over, Answer, Got, Stored, AreAsked, Tree, Ends, Says, Reads, Writes, Onward, asked_with, asked_turns, asked, all_asked, denote, line_before, talked, talked_alone, left_by, stop, AnswersOf, left_after}
+use Rattle.serial_model.proofs.Names.{◌≡◌, ◌≤◌, List, [], ◌∷◌, ◌++◌, length, refl, sym, ap, ◌∙◌, Ending, ObjectId, Value, Read, Print, Block, Objects, value_at, ToRead, ToWrite, Asks, Over, Answer, Got, Stored, AreAsked, Tree, Ends, Says, Reads, Writes, denote, line_before, talked, talked_alone, left_by, stop, AnswersOf, left_after}
 use Rattle.std.specs.FinMap as finite
-use Rattle.value_form.specs.declared.endings.Ending.TheVariants as ending
 use Rattle.value_form.specs.declared.transcripts.Line.TheVariants as line
 use Rattle.serial_model.proofs.AskedLemmas.{asked-few}
 

@@ -1,5 +1,5 @@
 -- Answers to what a script asks: one answer more, those before one, and how many there are.
-use Rattle.serial_model.proofs.Names.{◌≡◌, ℕ, zero, suc, ◌≤◌, Bool, true, false, List, [], ◌∷◌, ◌++◌, length, Result, Ok, Err, refl, sym, ap, ◌∙◌, arith, if◌then◌else◌, Ending, FailKind, Value, Step, Let, Read, Write, Print, If, IfElse, Repeat, Withdraw, Block, End, Then, Names, with_name, value, object_at, condition, count, Answer, Got, Stored, Tree, Ends, Says, Reads, Writes, Onward, asked_with, asked_turns, asked, all_asked, denote, stop, IsAnswerTo, AreAsked}
+use Rattle.serial_model.proofs.Names.{ℕ, zero, suc, ◌≤◌, Bool, true, false, List, [], ◌∷◌, ◌++◌, length, Result, Ok, Err, arith, if◌then◌else◌, FailKind, Value, Step, Let, Read, Write, Print, If, IfElse, Repeat, Withdraw, Block, End, Then, Names, with_name, value, object_at, condition, count, Answer, Got, Stored, Tree, Ends, Says, Reads, Writes, Onward, asked_with, asked_turns, asked, all_asked, denote, stop, IsAnswerTo, AreAsked}
 use Rattle.value_form.specs.declared.endings.Ending.TheVariants as ending
 
 pub asked-none : (t : Tree) → AreAsked t []

@@ -17,7 +17,7 @@ pub use Rattle.std.proofs.Common.{Bool, Err, List, None, Ok, Result, Some, T, []
 pub use Rattle.std.proofs.lemmas.Bool.Decides.{nat_tests}
 pub use Rattle.std.proofs.lemmas.Fmt.{IsAscii-decimal, IsAscii-signed, length_signed_le}
 pub use Rattle.std.proofs.lemmas.List.{drop_more, length-append}
-pub use Rattle.std.specs.FinMap.{empty, entries, entries-from_sorted, find, from_entries, from_sorted, get, get-empty, get-entries, get-from_entries, get-from_sorted, get-insert, insert, is_sorted, same_map}
+pub use Rattle.std.specs.FinMap.{empty, entries, entries-from_sorted, find, from_entries, from_sorted, get, get-entries, get-from_entries, get-from_sorted, get-insert, insert, is_sorted, same_map}
 pub use Rattle.std.specs.Int.{is_in_range, w64}
 pub use Rattle.std.specs.List.{AllByRecursion, flat_map, list_all}
 pub use Rattle.std.specs.Ordering.{eq_by_cmp, is_lt}

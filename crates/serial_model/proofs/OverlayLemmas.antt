@@ -1,5 +1,5 @@
 -- What a map over another has.
-use Rattle.serial_model.proofs.Names.{◌≡◌, List, [], ◌∷◌, Some, None, Bool, true, false, cond, refl, sym, ap, ◌∙◌, Option, unwrap_or, eq_by_cmp, find, get, insert, entries, get-entries, get-insert, same_map, empty, get-empty, ObjectId, Value, object_cmp, Objects, value_at, object_cmp-total, object_cmp-exact, onto, overlaid}
+use Rattle.serial_model.proofs.Names.{◌≡◌, List, [], ◌∷◌, Some, None, Bool, true, false, cond, refl, sym, ap, ◌∙◌, Option, unwrap_or, eq_by_cmp, find, get, entries, get-entries, get-insert, ObjectId, Value, object_cmp, Objects, value_at, object_cmp-total, onto, overlaid}
 use Rattle.value_form.specs.declared.values.Value.TheVariants.{Nothing}
 
 -- the first, or the second where that is none
@@ -20,19 +20,5 @@ get-onto m (e ∷ es) q =
 pub get-overlaid : (w m : Objects) (q : ObjectId) → get (overlaid w m) q ≡ or_below (get w q) (get m q)
 get-overlaid w m q = get-onto m (entries w) q ∙ ap (λ z. or_below z (get m q)) (sym (get-entries w q))
 
--- what the writes have, or else the map
-pub found_above : (w m : Objects) (q : ObjectId) (v : Value) → get w q ≡ Some v → value_at (overlaid w m) q ≡ v
-found_above w m q v is = ap (λ z. unwrap_or z Nothing) (get-overlaid w m q ∙ ap (λ z. or_below z (get m q)) is)
-
 pub found_below : (w m : Objects) (q : ObjectId) → get w q ≡ None → value_at (overlaid w m) q ≡ value_at m q
 found_below w m q is = ap (λ z. unwrap_or z Nothing) (get-overlaid w m q ∙ ap (λ z. or_below z (get m q)) is)
-
--- a write more
-pub overlaid-insert : (w m : Objects) (o : ObjectId) (v : Value) → overlaid (insert w o v) m ≡ insert (overlaid w m) o v
-overlaid-insert w m o v = same_map object_cmp-total object_cmp-exact _ _ (λ q.
-    get-overlaid (insert w o v) m q ∙ ap (λ z. or_below z (get m q)) (get-insert object_cmp-total w o v q)
-    ∙ sym (get-insert object_cmp-total (overlaid w m) o v q ∙ ap (cond (eq_by_cmp object_cmp q o) (Some v)) (get-overlaid w m q) ∙ or_below-cond (eq_by_cmp object_cmp q o) v (get w q) (get m q)))
-
--- no writes
-pub overlaid-none : (m : Objects) → overlaid empty m ≡ m
-overlaid-none m = same_map object_cmp-total object_cmp-exact _ _ (λ q. get-overlaid empty m q ∙ ap (λ z. or_below z (get m q)) (get-empty object_cmp q))

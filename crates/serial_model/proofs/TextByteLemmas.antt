@@ -1,12 +1,11 @@
 -- The text of a script of the language is one of bytes.
-use Rattle.serial_model.proofs.Names.{◌≡◌, ℕ, zero, suc, ◌+◌, ◌-◌, ◌/◌, ◌%◌, ◌<◌, ◌≤◌, ◌^◌, nat_lt, nat_le, ◌==◌, Bool, true, false, cond, List, [], ◌∷◌, ◌++◌, length, refl, arith, subst, replicate, codes, is_in_range, flat_map, nat_tests, IsAscii-decimal, IsBytes, Prefix, Infix, Call, Term, Number, Text, Nothing, Name, Before, Between, Applied, Given, Spot, Fixed, At, Block, text, prefix_text, parenthesized_if, InLimits, Numbered, rows, SpotInLimits, RowInLimits, spot_text, row_text, line_text, rows_text, script_text, RowsInLimits, IsPrintable}
+use Rattle.serial_model.proofs.Names.{◌≡◌, ℕ, zero, suc, ◌+◌, ◌-◌, ◌/◌, ◌%◌, ◌<◌, ◌^◌, nat_lt, ◌==◌, Bool, true, false, cond, List, [], ◌∷◌, refl, arith, replicate, codes, is_in_range, flat_map, nat_tests, IsAscii-decimal, IsBytes, Prefix, Infix, Call, Term, Number, Text, Nothing, Name, Before, Between, Applied, Given, Spot, Fixed, At, Block, text, prefix_text, parenthesized_if, InLimits, Numbered, rows, SpotInLimits, RowInLimits, spot_text, row_text, line_text, rows_text, script_text, RowsInLimits, IsPrintable}
 use Rattle.std.specs.Fmt.{decimal}
 use Rattle.value_form.specs.declared.expressions.Prefix.TheVariants as p
 use Rattle.value_form.specs.declared.expressions.Infix.TheVariants as op
 use Rattle.value_form.specs.declared.expressions.Call.TheVariants as call
 use Rattle.value_form.specs.TextForm.{byte_text, hex_digit_of, quoted_text}
 use Rattle.token_form.specs.Tokens.{AllPass, IsName, is_byte, is_letter, is_name_byte, spelling}
-use Rattle.token_form.specs.declared.tokens.Token.TheVariants as t
 use Rattle.expression_form.specs.Levels.{infix_level, left_level, prefix_level, infix_token, call_token}
 use Rattle.expression_form.specs.Canonical.{is_looser}
 use Rattle.script_form.specs.Row as r

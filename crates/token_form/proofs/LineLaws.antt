@@ -134,9 +134,6 @@ pub record Sofar (line rest : List ℕ) (tokens : List Token) (fits : Bool) : Ty
   pub fits_is : fits ≡ all_in_limits found
   pub kept_is : fits ≡ true → tokens ≡ found
 
-pub at_start : (line : List ℕ) → Sofar line (unspaced line) [] true
-at_start line = record { found = []; pending = line; rest_is = refl; joins = λ ts h. h; only = λ ts h. (ts, refl, h); fits_is = refl; kept_is = λ e. refl }
-
 and_assoc : (p q r : Bool) → (p && (q && r)) ≡ ((p && q) && r)
 and_assoc true q r = refl
 and_assoc false q r = refl

@@ -1,17 +1,9 @@
 -- How a call that looks for an effect goes on from page to page.
-use Rattle.version_store.proofs.Names.{IsBytes, Image, page_of, state_of, PageState, Place, Written, effect_bytes, effect_at, effect_takes, length-effect_bytes, size_most, without_back, LastTells, first_sight, next_sight, sheet_on, shown, shown_alone, shown_behind, shown_in, sight_then, Gated, Sheet, sheet_of, First, Middle, Last, Stand, Sees, ◌≡◌, ℕ, ◌+◌, ◌≤◌, ◌<◌, List, [], ◌∷◌, ◌++◌, length, drop, Option, Some, None, Result, Ok, Err, refl, sym, ◌∙◌, ap, subst, arith, Vec, inl, ⊎_elim, length-append, Global, drop_more, drop_all, Sight, Told, Due, StandsBehind, Tells, sight_of, ◌==◌, cond-true, eq-eqb}
+use Rattle.version_store.proofs.Names.{IsBytes, Image, page_of, state_of, PageState, Place, Written, effect_bytes, effect_at, effect_takes, length-effect_bytes, size_most, without_back, LastTells, first_sight, next_sight, sheet_on, shown_alone, shown_behind, shown_in, sight_then, Gated, Sheet, sheet_of, First, Middle, Last, Stand, Sees, ◌≡◌, ℕ, ◌+◌, ◌≤◌, ◌<◌, List, [], ◌∷◌, ◌++◌, length, drop, Option, Some, None, Result, Ok, Err, refl, sym, ◌∙◌, ap, subst, arith, Vec, inl, ⊎_elim, length-append, Global, drop_more, drop_all, Sight, Told, Due, StandsBehind, Tells, sight_of, ◌==◌, cond-true, eq-eqb}
 use Rattle.version_store.proofs.ReadLemmas.{IsBytes-append}
 use Rattle.version_store.specs.declared.fetches.Sight.TheVariants as code
 
 -- ---- one effect and no more
-
-pub shown_whole : (place : Place) (r : Result (Written × List ℕ) ℕ) (w : Written) (rest : List ℕ) → r ≡ Ok (w, rest) → length rest ≡ 0 → shown_alone place r ≡ shown place (Ok (w, []))
-shown_whole place r w [] is none_left = ap (shown_alone place) is
-shown_whole place r w (b ∷ rest) is none_left = absurd (omega (arith, none_left))
-
-pub shown_part : (place : Place) (r : Result (Written × List ℕ) ℕ) (w : Written) (rest : List ℕ) → r ≡ Ok (w, rest) → 1 ≤ length rest → shown_alone place r ≡ None
-shown_part place r w [] is some = absurd (omega (arith, some))
-shown_part place r w (b ∷ rest) is some = ap (shown_alone place) is
 
 -- no effect is so long
 long_unshown : (place : Place) (bytes : List ℕ) → IsBytes bytes → 65567 < length bytes → shown_alone place (effect_at bytes) ≡ None
@@ -147,9 +139,3 @@ module _ (told : Type 0) (reads : Image) (place : Place) (state : PageState) (pa
 pub none_left : (told : Type 0) (reads : Image) (last : Option (ℕ × List ℕ)) (place : Place) (page : ℕ) (kept : List ℕ) (pages : ℕ) → pages ≤ page → Looking told reads last place page kept → (told → length reads ≡ pages) → told → None ≡ shown_in reads place
 none_left told reads last place page kept pages over looking size t =
     sym (looking.shows t ∙ ap (λ (l : Image). shown_behind looking.pieces place l) (drop_all page reads (let s = size t in omega (arith, s, over))))
-
-pub none_tells : (told : Type 0) (reads : Image) (last : Option (ℕ × List ℕ)) (place : Place) (page : ℕ) (kept : List ℕ) (pages k : ℕ) → page ≡ pages → k + 1 ≡ pages → Looking told reads last place page kept → LastTells last pages k place None
-none_tells told reads last place page kept pages k over is looking =
-    let same : looking.at ≡ k = omega (arith, looking.behind, over, is) in
-    subst (λ (j : ℕ). LastTells last pages j place None) same
-    (record { bytes = looking.bytes; before = looking.before; read = looking.read; stands = looking.stands; tells = subst (λ (s : Sight). Tells pages looking.at None s) (sym looking.sees) (refl, omega (arith, same, is)) })

@@ -1,13 +1,8 @@
 -- How an opening goes on from page to page.
 use Rattle.std.proofs.lemmas.List.Folds.{list_all-append}
-use Rattle.version_store.proofs.Names.{Image, Only, is_blank, state_of, PageState, Blank, Spoiled, Gated, Effect, Content, content_of, Reading, log_going, Going, Ended, Damaged, begun, next, scan, going_or_damaged, with_sheet, sheet_of, IsAtRest, Heads, IsFound, HeldFit, Reached, reading_of, Held, ◌==◌, ◌≡◌, ◌≢◌, ℕ, ◌+◌, ◌<◌, List, [], ◌∷◌, length, get_or, take, drop, Bool, true, false, cond, Option, Some, None, refl, sym, ◌∙◌, ap, arith, inl, inr, length-take, list_all, cases_Bool, and_from, cond-true, cond-false, take_more, take_all, drop_all, drop-append-le}
+use Rattle.version_store.proofs.Names.{Image, Only, is_blank, state_of, PageState, Blank, Spoiled, Gated, Effect, Content, content_of, Reading, log_going, Going, Ended, Damaged, begun, next, scan, going_or_damaged, with_sheet, sheet_of, IsAtRest, Heads, IsFound, HeldFit, Reached, reading_of, Held, ◌==◌, ◌≡◌, ℕ, ◌+◌, ◌<◌, List, [], ◌∷◌, length, get_or, take, drop, Bool, true, false, cond, Option, Some, None, refl, sym, ◌∙◌, ap, arith, inl, inr, length-take, list_all, cases_Bool, and_from, cond-true, cond-false, take_more, take_all, drop_all, drop-append-le}
 use Rattle.version_store.proofs.ScanLemmas.{scan_more}
 
--- a page that is in another state isn't blank
-pub marked_bytes : (bytes : List ℕ) → state_of bytes ≢ Blank → is_blank bytes ≡ false
-marked_bytes bytes marked = elim (cases_Bool (is_blank bytes)) [
-  | inl all_zero ↦ absurd (marked (cond-true (is_blank bytes) _ _ all_zero))
-  | inr some_set ↦ some_set
 ]
 
 blank_from_state : (p : List ℕ) → state_of p ≡ Blank → is_blank p ≡ true

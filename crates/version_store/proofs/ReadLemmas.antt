@@ -70,12 +70,6 @@ pub record SoFar (log : Log) (page from : ℕ) (texts : List ℕ) (i : ℕ) (res
   pub stands : IsFound heads effects now
   pub leads : log_at (length texts - i) now page (from + length texts) rest ≡ log_at (length texts) log page (from + length texts) texts
 
-pub so_far_none : (log : Log) (page from : ℕ) (texts : List ℕ) (heads : Heads) (effects : List Effect) → IsFound heads effects log → SoFar log page from texts 0 texts heads effects
-so_far_none log page from texts heads effects stands = record { now = log; stands = stands; leads = ap (λ (k : ℕ). log_at k log page (from + length texts) texts) (whole (length texts)) }
-  where
-    whole : (n : ℕ) → n - 0 ≡ n
-    whole n = omega arith
-
 one_more : (n i : ℕ) → i < n → n - i ≡ suc (n - (i + 1))
 one_more n i low = omega arith
 
@@ -144,19 +138,6 @@ alone_some o more (b ∷ rest) is none_left = absurd (omega (arith, none_left))
 pub alone_more : (o : Option (Log × List ℕ)) (more : Log) (rest : List ℕ) → o ≡ Some (more, rest) → 1 ≤ length rest → alone o ≡ None
 alone_more o more [] is some = absurd (omega (arith, some))
 alone_more o more (b ∷ rest) is some = ap alone is
-
--- one piece more
-pub stand_more : (bytes pieces piece : List ℕ) → Stand bytes pieces → Stand (bytes ++ piece) (pieces ++ piece)
-stand_more bytes pieces piece stand = ⊎_elim
-    (λ same. inl (ap (λ (l : List ℕ). l ++ piece) same))
-    (λ long. inr (omega (arith, long.0, length-append bytes piece), omega (arith, long.1, length-append pieces piece)))
-    stand
-
-pub stand_over : (bytes pieces piece : List ℕ) → 65567 < length bytes → Stand bytes pieces → Stand bytes (pieces ++ piece)
-stand_over bytes pieces piece over stand = ⊎_elim
-    (λ same. inr (over, omega (arith, over, ap (λ (l : List ℕ). length l) same, length-append pieces piece)))
-    (λ long. inr (over, omega (arith, long.1, length-append pieces piece)))
-    stand
 
 -- ---- what follows an effect, or that there is none
 

@@ -1,5 +1,5 @@
 -- Poll lines are read as they are written.
-use Rattle.std.proofs.Common.{◌≡◌, ℕ, ◌-◌, ◌<◌, ◌^◌, List, [], ◌∷◌, ◌++◌, Option, Some, None, refl, sym, ap, ◌∙◌, subst, arith, true, false, Bool, cond}
+use Rattle.std.proofs.Common.{◌≡◌, ℕ, ◌-◌, ◌^◌, List, ◌++◌, Option, Some, None, refl, sym, ap, ◌∙◌, subst, arith, true, cond}
 use Rattle.std.specs.Prelude.{decimal, codes, ◌==◌}
 use Rattle.std.specs.Char.{is_ascii_digit}
 use Rattle.std.specs.Cmp.Lexicographic.{pointwise}
@@ -8,7 +8,6 @@ use Rattle.std.proofs.lemmas.Slice.Eq.{slice_eq-Decides}
 use Rattle.pseudo_time.specs.StampParts.{StampParts, IsStamp}
 use Rattle.token_form.proofs.Runs.{by_test, Stops}
 use Rattle.plan_form.specs.Reading.{number_behind}
-use Rattle.plan_form.specs.Plans.{InRange}
 use Rattle.plan_form.proofs.NumberLemmas.{bind_some, bind_is, pairs_are, number_behind-written, number_behind-is}
 use Rattle.record_votes.specs.declared.ballots.Wish.{Wish}
 use Rattle.record_votes.specs.declared.ballots.Wish.TheVariants.{Commit, Withdraw}

@@ -1,12 +1,12 @@
 -- Lines read one after another, and what they are.
-use Rattle.std.proofs.Common.{◌≡◌, ℕ, ◌+◌, ◌<◌, ◌≤◌, inl, inr, List, [], ◌∷◌, ◌++◌, map, length, Option, Some, None, refl, sym, ap, ◌∙◌, subst, append_assoc, append-nil, length-append, arith}
+use Rattle.std.proofs.Common.{◌≡◌, ℕ, ◌+◌, ◌<◌, ◌≤◌, inl, inr, List, [], ◌∷◌, ◌++◌, map, length, Option, Some, None, refl, sym, ap, ◌∙◌, append_assoc, append-nil, length-append, arith}
 use Rattle.std.proofs.lemmas.List.{map-append, length-map}
 use Rattle.pseudo_time.specs.Lists.{Every}
 use Rattle.pseudo_time.proofs.ListLemmas.{every-append}
 use Rattle.script_form.specs.Lines.{lines}
 use Rattle.plan_form.specs.PlanFaults.{Lacks}
 use Rattle.vote_form.specs.declared.poll_lines.PollLine.{PollLine}
-use Rattle.vote_form.specs.Inputs.{title, poll_text, IsPoll, AreVotes, IsInput}
+use Rattle.vote_form.specs.Inputs.{title, poll_text, IsPoll, IsInput}
 use Rattle.vote_form.specs.Faults.{BeginVotes, FaultAt, IsLinesFault, IsInputFault}
 use Rattle.vote_form.specs.Reading.{poll_at}
 use Rattle.vote_form.proofs.LineLemmas.{poll-written, poll-is, one-poll}
@@ -17,9 +17,6 @@ pub record Reading (bytes rest : List ℕ) (polls : List PollLine) : Type 0 wher
   pub each : Every IsPoll polls
   pub few : length polls ≤ 16
 
-pub reading-none : (bytes : List ℕ) → Reading bytes bytes []
-reading-none bytes = record { parts = refl; each = tt; few = omega arith }
-
 pub reading-one : (bytes rest after line : List ℕ) (polls : List PollLine) (p : PollLine) → Reading bytes rest polls → lines rest ≡ line ∷ lines after → length polls < 16 → poll_at line ≡ Some p
     → Reading bytes after (polls ++ p ∷ [])
 reading-one bytes rest after line polls p r first small e =
@@ -29,9 +26,6 @@ reading-one bytes rest after line polls p r first small e =
       each = every-append IsPoll polls (p ∷ []) r.each (is.0, tt);
       few = (let n = length-append polls (p ∷ []) in omega (arith, n, small));
     }
-
-pub reading-all : (bytes : List ℕ) (polls : List PollLine) → Reading bytes [] polls → AreVotes (title ∷ lines bytes) polls
-reading-all bytes polls r = record { are = ap (λ z. title ∷ z) (r.parts ∙ append-nil (map poll_text polls)); each = r.each; few = r.few }
 
 -- the poll of a line of an input, and how many stand before it
 pub record Picked (before : List (List ℕ)) (line : List ℕ) (polls : List PollLine) : Type 0 where

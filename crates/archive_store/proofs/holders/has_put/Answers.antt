@@ -1,4 +1,4 @@
-use Rattle.archive_store.proofs.Names.{ap, sym, ◌∙◌, ◌+◌, drop, refl, has_start}
+use Rattle.archive_store.proofs.Names.{sym, ◌∙◌, ◌+◌, drop, refl}
 use Rattle.archive_store.proofs.JoinLemmas.{drop-item, drop-end}
 use Rattle.archive_store.proofs.HolderLemmas.{has-here, has-on, has-nowhere}
 use Rattle.archive_store.proofs.holders.has_put.Goals as goal

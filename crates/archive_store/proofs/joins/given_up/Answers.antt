@@ -1,4 +1,4 @@
-use Rattle.archive_store.proofs.Names.{ap, ◌∙◌, ◌+◌, ◌++◌, List, map, drop, reverse, refl, Mark, all_firsts, met_after}
+use Rattle.archive_store.proofs.Names.{ap, ◌∙◌, ◌+◌, ◌++◌, map, drop, reverse, refl, all_firsts, met_after}
 use Rattle.archive_store.proofs.JoinLemmas.{drop-item, drop-end, given-step, given-done}
 use Rattle.archive_store.proofs.joins.given_up.Goals as goal
 

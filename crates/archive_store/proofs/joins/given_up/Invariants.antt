@@ -1,4 +1,4 @@
-use Rattle.archive_store.proofs.Names.{◌≡◌, ◌++◌, List, map, drop, reverse, Mark, all_firsts, given_up, Meets}
+use Rattle.archive_store.proofs.Names.{◌≡◌, ◌++◌, List, map, drop, Mark, all_firsts, given_up, Meets}
 use Rattle.archive_store.proofs.joins.given_up.Given as goal
 
 -- what was added, with what the logs that are left add

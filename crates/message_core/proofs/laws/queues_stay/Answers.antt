@@ -1,4 +1,4 @@
-use Rattle.message_core.proofs.Names.{list_any, same_node, puts, next_number, going_to, copies_of}
+use Rattle.message_core.proofs.Names.{list_any, same_node}
 use Rattle.message_core.proofs.StayLemmas.{made, kept-if, kept-map, gone, kept-sent}
 use Rattle.message_core.proofs.laws.queues_stay.Goals as goal
 

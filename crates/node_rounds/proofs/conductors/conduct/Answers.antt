@@ -1,5 +1,4 @@
 use Rattle.node_rounds.proofs.Names.{◌∙◌, subst, arith, knows, Follows}
-use Rattle.node_rounds.specs.declared.reasons.Next.TheVariants as next
 use Rattle.node_rounds.proofs.WentLemmas.{went-none, went-on, ready-again, kept-none, kept-more}
 use Rattle.node_rounds.proofs.WantedLemmas.{first-wanted}
 use Rattle.node_rounds.proofs.conductors.conduct.Goals as goal

@@ -1,4 +1,4 @@
-use Rattle.node_rounds.proofs.Names.{◌≡◌, ◌<◌, ◌∙◌, ℕ, sym, subst, length, length-set, get_or, arith, All, AllZip, All-set, All-weaker, AllWithin-none, AllWithin-more_set, knows, sight, HasMet, HasAllOf, HasPass, HasSeen}
+use Rattle.node_rounds.proofs.Names.{◌<◌, ◌∙◌, sym, subst, length, length-set, get_or, arith, All, AllZip, All-set, All-weaker, AllWithin-none, AllWithin-more_set, knows, sight, HasMet, HasAllOf, HasPass, HasSeen}
 use Rattle.node_rounds.proofs.PairLemmas.{zip-set}
 use Rattle.node_rounds.proofs.RoundLemmas.{begins-joins, looked-joins, looked-same, has-more, met-same, mets-join}
 use Rattle.node_rounds.proofs.ShareLemmas.{place-same}

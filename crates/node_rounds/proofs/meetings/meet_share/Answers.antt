@@ -1,4 +1,4 @@
-use Rattle.node_rounds.proofs.Names.{◌≡◌, ◌<◌, ◌∙◌, ℕ, sym, subst, length, length-set, get_or, arith, All-set, AllWithin-none, AllWithin-more_set, knows, HasMet, HasAllOf, HasPass, HasSeen}
+use Rattle.node_rounds.proofs.Names.{◌<◌, ◌∙◌, sym, subst, length, length-set, get_or, arith, All-set, AllWithin-none, AllWithin-more_set, knows, HasMet, HasAllOf, HasPass, HasSeen}
 use Rattle.node_rounds.proofs.PairLemmas.{zip-set}
 use Rattle.node_rounds.proofs.RoundLemmas.{looked-joins, has-more, has-met, looked-same, mets-same, met-joins, met-of, seen-met}
 use Rattle.node_rounds.proofs.meetings.meet_share.Goals as goal

@@ -1,4 +1,4 @@
-use Rattle.std.proofs.Common.{ℕ, ◌+◌, ◌*◌, length}
+use Rattle.std.proofs.Common.{◌+◌, ◌*◌, length}
 use Rattle.node_rounds.proofs.turns.+rounds.Given as goal
 
 abbrev pub decreases-beside : goal.decreases-beside

@@ -1,4 +1,4 @@
-use Rattle.run_rounds.proofs.Names.{knows, Base, base_from, pass-origin, IsReady, TicksAreWanted, ◌≡◌, ◌∙◌, ◌++◌, ◌∷◌, [], length, sym, ap, subst, arith, length-map, each-shared}
+use Rattle.run_rounds.proofs.Names.{knows, Base, base_from, pass-origin, IsReady, TicksAreWanted, ◌∙◌, ◌++◌, ◌∷◌, [], length, ap, subst, arith, length-map, each-shared}
 use Rattle.run_rounds.proofs.CloseLemmas.{gone-left}
 use Rattle.run_rounds.proofs.CourseLemmas.{all-passes, dealt-again, have-gone, shares-count}
 use Rattle.run_rounds.proofs.courses.rounds.Goals as goal

@@ -1,5 +1,5 @@
 use Rattle.seat_lock.specs.Words.{base_of}
-use Rattle.run_rounds.proofs.Names.{FirstRefusal, IsInRange, IsOpen, IsSetUp, EndsAs, IsEndFor, tellers, rules, ◌≡◌, Some, length, slice_get, sym, subst, ap, arith, All}
+use Rattle.run_rounds.proofs.Names.{FirstRefusal, IsInRange, IsOpen, IsSetUp, EndsAs, IsEndFor, tellers, rules, ◌≡◌, Some, slice_get, sym, subst, ap, All}
 use Rattle.run_rounds.specs.declared.ends.End.TheVariants as end
 use Rattle.run_rounds.proofs.BackLemmas.{opened-in-range}
 use Rattle.run_rounds.proofs.BeginLemmas.{ends-refused, ends-set-up, ends-wanting, has-begun}

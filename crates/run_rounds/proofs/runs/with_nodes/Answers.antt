@@ -1,4 +1,4 @@
-use Rattle.run_rounds.proofs.Names.{knows, IsWirePass, NodeParts, IsDealt, IsNewNode, Pass, EndsAs, tellers, along-length, ◌≡◌, ◌∙◌, [], length, map, sym, subst, ap, arith, inl, length-map, All, HaveRoom}
+use Rattle.run_rounds.proofs.Names.{knows, IsWirePass, NodeParts, IsDealt, IsNewNode, Pass, EndsAs, tellers, along-length, ◌≡◌, ◌∙◌, [], length, sym, subst, ap, arith, inl, length-map, All, HaveRoom}
 use Rattle.seat_lock.specs.Words.{base_of}
 use Rattle.run_rounds.specs.declared.ends.End.TheVariants as end
 use Rattle.run_rounds.proofs.BackLemmas.{opened-alone, opened-back, opened-kept}

@@ -1,5 +1,5 @@
 use Rattle.seat_lock.specs.Words.{base_of}
-use Rattle.run_rounds.proofs.Names.{IsWirePass, node_at, Along, HasFallen, IsUnseen, EndsAs, tellers, ◌≡◌, ◌∙◌, length, take, vec_len, sym, subst, ap, arith, all-pushed}
+use Rattle.run_rounds.proofs.Names.{IsWirePass, node_at, Along, HasFallen, IsUnseen, EndsAs, tellers, ◌∙◌, length, take, vec_len, sym, subst, ap, arith, all-pushed}
 use Rattle.run_rounds.proofs.PlaceLemmas.{seats-count, pass-count, unseen-along}
 use Rattle.run_rounds.proofs.UnopenedLemmas.{ends-unopened}
 use Rattle.run_rounds.proofs.runs.without_nodes.Goals as goal

@@ -1,4 +1,4 @@
-use Rattle.version_store.proofs.Names.{Image, page_of, joins, state_of, LastTells, next_sight, sheet_on, Sees, sym, ◌∙◌, ap, subst, arith}
+use Rattle.version_store.proofs.Names.{Image, page_of, state_of, LastTells, next_sight, sheet_on, Sees, sym, ◌∙◌, ap, subst, arith}
 use Rattle.version_store.proofs.FetchLemmas.{told_is, looking_next, next_told, next_tells}
 use Rattle.version_store.proofs.fetches.find.Goals as goal
 

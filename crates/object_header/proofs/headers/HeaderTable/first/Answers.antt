@@ -1,5 +1,4 @@
-use Rattle.object_history.specs.Causes.{HasHistoryCause}
-use Rattle.object_header.proofs.Names.{medium_of, damage_in, passes, first_put, marks, rules, arith, ◌≡◌, ◌≤◌, ℕ, IsTrue, Some, refl, sym, ap, ◌∙◌, subst, reverse, Err, damage_after, effects_in, stored}
+use Rattle.object_header.proofs.Names.{damage_in, passes, first_put, marks, arith, ◌≡◌, ◌≤◌, ℕ, ap, ◌∙◌, reverse, Err, damage_after, effects_in, stored}
 use Rattle.object_header.specs.Tables.{ledger_of, store_of}
 use Rattle.object_header.proofs.AnswerLemmas.{late-hit, late-miss}
 use Rattle.object_header.proofs.headers.HeaderTable.first.Goals as goal

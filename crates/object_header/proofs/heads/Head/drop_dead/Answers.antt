@@ -1,4 +1,4 @@
-use Rattle.std.proofs.Common.{rules, arith, ◌≡◌, ◌≤◌, ◌<◌, length, true, false, refl, sym, ap, ◌∙◌, subst}
+use Rattle.std.proofs.Common.{rules, arith, false, refl, sym, ◌∙◌}
 use Rattle.object_header.proofs.LoopLemmas.{drop-code}
 use Rattle.object_header.proofs.heads.Head.drop_dead.Goals as goal
 

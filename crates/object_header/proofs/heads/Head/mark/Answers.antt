@@ -1,4 +1,4 @@
-use Rattle.std.proofs.Common.{rules, arith, ◌≡◌, ◌∷◌, ℕ, ◌+◌, ◌-◌, ◌<◌, ◌≤◌, length, Bool, true, false, refl, sym, ap, ◌∙◌, subst}
+use Rattle.std.proofs.Common.{rules, arith, ◌≡◌, ◌-◌, true, false, sym, ap, ◌∙◌}
 use Rattle.object_header.proofs.LoopLemmas.{over-code, past-code, firm-code, here-code, head-code, mark-none, so_far}
 use Rattle.object_header.proofs.heads.Head.mark.Goals as goal
 

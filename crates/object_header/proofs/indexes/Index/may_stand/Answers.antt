@@ -1,5 +1,5 @@
-use Rattle.std.proofs.Common.{rules, arith, ◌≡◌, true, false, refl, sym, ap, ◌∙◌, subst}
-use Rattle.object_header.proofs.PlanLemmas.{no-origin, no-shown, no-dead}
+use Rattle.std.proofs.Common.{sym, ◌∙◌}
+use Rattle.object_header.proofs.PlanLemmas.{no-origin, no-shown}
 use Rattle.object_header.proofs.indexes.Index.may_stand.Goals as goal
 
 pub returns-in-Origin : goal.returns-in-Origin

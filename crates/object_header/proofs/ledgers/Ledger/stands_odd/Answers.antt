@@ -1,6 +1,6 @@
-use Rattle.object_header.proofs.Names.{read_step, write_step, stands_written, kept_of, is_odd, content, rules, arith, ◌≡◌, ◌++◌, ◌∷◌, [], reverse, true, false, refl, sym, ap, ◌∙◌, subst}
+use Rattle.object_header.proofs.Names.{stands_written, kept_of, is_odd, content, ◌≡◌, refl, ap, ◌∙◌}
 use Rattle.object_header.proofs.KeepLemmas.{some_of}
-use Rattle.object_header.proofs.OddLemmas.{kept-read, kept-write, kept-stands}
+use Rattle.object_header.proofs.OddLemmas.{kept-stands}
 use Rattle.object_header.proofs.ledgers.Ledger.stands_odd.Goals as goal
 
 pub returns-in-Ok : goal.returns-in-Ok

@@ -1,4 +1,4 @@
-use Rattle.object_header.proofs.Names.{odd_in, kept_of, marks, rules, arith, ◌≡◌, ◌++◌, ◌∷◌, [], reverse, true, false, refl, sym, ap, ◌∙◌, subst}
+use Rattle.object_header.proofs.Names.{odd_in, kept_of, marks, reverse, sym, ap, ◌∙◌}
 use Rattle.object_header.proofs.LedgerLemmas.{late-whole}
 use Rattle.object_header.proofs.ledgers.Ledger.with_whole.Goals as goal
 

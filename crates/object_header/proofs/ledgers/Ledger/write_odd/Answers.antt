@@ -1,6 +1,6 @@
-use Rattle.object_header.proofs.Names.{read_step, write_step, stands_written, kept_of, is_odd, content, rules, arith, ◌≡◌, ◌++◌, ◌∷◌, [], reverse, true, false, refl, sym, ap, ◌∙◌, subst}
+use Rattle.object_header.proofs.Names.{write_step, kept_of, is_odd, content, ◌≡◌, refl, ap, ◌∙◌}
 use Rattle.object_header.proofs.KeepLemmas.{some_of}
-use Rattle.object_header.proofs.OddLemmas.{kept-read, kept-write, kept-stands}
+use Rattle.object_header.proofs.OddLemmas.{kept-write}
 use Rattle.object_header.proofs.ledgers.Ledger.write_odd.Goals as goal
 
 pub returns-in-Ok : goal.returns-in-Ok
