@@ -11,7 +11,7 @@ use Rattle.run_volumes.specs.Kept.{kept_under}
 use Rattle.run_volumes.proofs.StandLemmas.{given-back, stand-all}
 use Rattle.archive_command.specs.declared.questions.Question.{Question}
 use Rattle.archive_command.specs.declared.outcomes.Outcome.{Outcome}
-use Rattle.archive_command.specs.declared.outcomes.Outcome.TheVariants.{Told, Refused, Fallen, NoMemory}
+use Rattle.archive_command.specs.declared.outcomes.Outcome.TheVariants.{Refused, NoMemory}
 use Rattle.report_writer.specs.Lines.{undecided_line}
 
 module _ (repository : ℕ) (at : TimeParts) (m : List Mark) where

@@ -1,10 +1,10 @@
 -- Versions that are put in rising order of start.
-use Rattle.archive_command.proofs.Names.{◌≡◌, ℕ, suc, Bool, true, false, List, [], ◌∷◌, ◌++◌, map, take, drop, refl, sym, ◌∙◌, ap, subst, if◌then◌else◌, ◌&&◌, not, ◌==◌, Result, Ok, Err, OnOk, TimeParts, Mark, count_until, versions_of, with_version}
+use Rattle.archive_command.proofs.Names.{◌≡◌, ℕ, suc, Bool, true, false, List, [], ◌∷◌, ◌++◌, map, take, drop, refl, sym, ◌∙◌, ap, if◌then◌else◌, ◌&&◌, not, ◌==◌, Result, Ok, Err, OnOk, TimeParts, Mark, count_until, versions_of, with_version}
 use Rattle.std.proofs.lemmas.Bool.{true≢false, false≢true}
 use Rattle.pseudo_time.specs.Order.{lt}
 use Rattle.value_form.specs.declared.objects.ObjectId.{ObjectId}
 use Rattle.value_form.specs.declared.values.Value.{Value}
-use Rattle.object_history.specs.declared.marks.Mark.TheVariants.{Put, Stretch, Settle, Floor}
+use Rattle.object_history.specs.declared.marks.Mark.TheVariants.{Put}
 use Rattle.object_history.specs.Objects.{same_object}
 use Rattle.object_history.specs.History.{Seen, version_count}
 use Rattle.object_history.specs.Settled.{insert, listed}

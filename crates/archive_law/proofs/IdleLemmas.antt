@@ -9,7 +9,7 @@ use Rattle.serial_law.proofs.RunFacts.{said-of}
 use Rattle.serial_law.proofs.WholeLemmas.{marks-whole, other-whole, put-once, settle-whole, whole-has}
 use Rattle.archive_law.proofs.MapLemmas.{Archives, tells-map}
 use Rattle.archive_law.proofs.PastReadings.{Facts, facts-of, no_base}
-use Rattle.archive_law.proofs.VolumeLemmas.{all-here, archive-from, archive-has, archive-settles, put-home, put-marked, put-step, unturned}
+use Rattle.archive_law.proofs.VolumeLemmas.{all-here, archive-from, archive-has, archive-settles, put-home, put-step, unturned}
 use Rattle.archive_law.proofs.VolumeLemmas as volumes
 
 -- ---- the writes and commits among messages

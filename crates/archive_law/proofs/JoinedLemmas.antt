@@ -1,6 +1,6 @@
 -- The joined marks of volumes: which versions they have, each once, and how they settle attempts.
 use Rattle.std.proofs.lemmas.List.Elements.{filter-append}
-use Rattle.archive_law.proofs.Names.{Every, Has, same_stamp, same_time, StampParts, TimeParts, has-either, has-left, has-reverse, has-right, ObjectId, Value, Mark, Put, Stretch, Settle, Floor, same_object, floor_of, settle_of, Distinct, Starts, and-both, and-left, and-right, same_object-is, same_object-of, starts-has, is_under, all_firsts, firsts, has_start, joined, last_log, met_after, ◌≡◌, ◌≢◌, Bool, true, false, List, [], ◌∷◌, ◌++◌, filter, reverse, refl, sym, ◌∙◌, ap, subst, Option, None, ◌&&◌, not, if◌then◌else◌, ◌⊎◌, inl, inr, append_assoc, true≢false, false≢true, or_left, or_right, or_cases, reverse-append, reverse-reverse, every-reverse, same_time-is, same_time-of, or_else, given_up, is_floor, is_new}
+use Rattle.archive_law.proofs.Names.{Every, Has, same_stamp, same_time, StampParts, TimeParts, has-either, has-left, has-reverse, has-right, ObjectId, Value, Mark, Put, Settle, Floor, same_object, floor_of, settle_of, Distinct, Starts, and-both, and-left, and-right, same_object-is, same_object-of, starts-has, is_under, all_firsts, firsts, has_start, joined, last_log, met_after, ◌≡◌, ◌≢◌, Bool, true, false, List, [], ◌∷◌, ◌++◌, filter, reverse, refl, sym, ◌∙◌, ap, subst, Option, None, ◌&&◌, not, if◌then◌else◌, ◌⊎◌, inl, inr, append_assoc, true≢false, false≢true, or_left, or_right, or_cases, reverse-append, reverse-reverse, every-reverse, same_time-is, same_time-of, or_else, given_up, is_floor, is_new}
 
 -- ---- versions apart
 

@@ -1,5 +1,5 @@
 -- Listings of versions, by what stands in them.
-use Rattle.archive_law.proofs.Names.{Every, Has, lt, TimeParts, lt-irreflexive, ObjectId, Value, Mark, Put, Stretch, Settle, Floor, same_object, Seen, version_count, some_put, insert, listed, Distinct, Starts, and-both, and-left, and-right, same_object-is, same_object-of, WatchFault, Moved, Version, moved_over, version_of, Rises, ◌≡◌, ◌≢◌, Bool, true, false, List, [], ◌∷◌, ◌++◌, map, filter, refl, sym, ◌∙◌, ap, subst, Option, Some, None, ◌&&◌, ◌||◌, not, if◌then◌else◌, ◌⊎◌, inl, inr, Result, Ok, Err, true≢false, false≢true, every-has, every-map, lt-asymmetric, lt-total, lt-trans, not-true, and_then, moved_to, total_of}
+use Rattle.archive_law.proofs.Names.{Every, Has, lt, TimeParts, lt-irreflexive, ObjectId, Value, Mark, Put, same_object, Seen, version_count, some_put, insert, listed, Distinct, Starts, and-both, and-left, and-right, same_object-is, same_object-of, WatchFault, Moved, Version, moved_over, version_of, Rises, ◌≡◌, ◌≢◌, Bool, true, false, List, [], ◌∷◌, ◌++◌, map, filter, refl, sym, ◌∙◌, ap, subst, Option, Some, None, ◌&&◌, ◌||◌, not, if◌then◌else◌, ◌⊎◌, inl, inr, Result, Ok, Err, true≢false, false≢true, every-has, every-map, lt-asymmetric, lt-total, lt-trans, not-true, and_then, moved_to, total_of}
 use Rattle.object_history.proofs.SettledLemmas.{listed-passes}
 
 -- ---- what is listed

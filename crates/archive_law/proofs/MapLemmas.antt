@@ -3,7 +3,6 @@ use Rattle.std.proofs.lemmas.Bool.Decides.{nat_tests}
 use Rattle.archive_law.proofs.Names.{Has, lt, StampParts, TimeParts, ObjectId, Value, Nothing, Post, Mark, Seen, is_committed, is_settled, scan, settle_of, value_of, marks, last_below, first_open, RunLogs, before, in_run, log_of, RunFacts, TellsMap, ◌≡◌, ◌==◌, ◌≤◌, ℕ, nat_lt, Bool, true, false, List, if◌then◌else◌, refl, sym, ◌∙◌, ap, subst, Option, Some, None, ◌&&◌, not, arith, true≢false, false≢true, stamp_lt, lt-own, lt-stamps, lt-steps, eq-from, Standing, same-scan, standing, stands-has, same-found, same-values, committed, marks_at, marks-in, first_of, value_in}
 use Rattle.value_form.specs.Objects.{value_at}
 use Rattle.object_history.specs.declared.marks.Mark.TheVariants as mark
-use Rattle.object_retirement.specs.Retired.{Same}
 use Rattle.archive_store.proofs.ArchiveLemmas.{closed-by}
 use Rattle.serial_law.proofs.Before.{before-holds}
 use Rattle.serial_law.proofs.Settled.{sure-no, sure-yes}

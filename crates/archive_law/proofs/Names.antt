@@ -26,7 +26,7 @@ pub use Rattle.object_history.specs.Settled.{is_blocked, settled_versions}
 unfoldable pub use Rattle.object_history.specs.Settled.{insert, listed}
 pub use Rattle.object_history.specs.Views.{Distinct, Fits, Starts, value_of}
 pub use Rattle.object_history.specs.declared.marks.Mark.{Mark}
-pub use Rattle.object_history.specs.declared.marks.Mark.TheVariants.{Floor, Put, Settle, Stretch}
+pub use Rattle.object_history.specs.declared.marks.Mark.TheVariants.{Floor, Put, Settle}
 pub use Rattle.object_retirement.proofs.ChainLemmas.{chain-distinct, chain-given, put-on-floor, some-given}
 pub use Rattle.object_retirement.proofs.ForwardLemmas.{decide-forwarded, forwarded-has, known-carried}
 pub use Rattle.object_retirement.proofs.RetiredLemmas.{one-value, same-found, same-values, starts-has}

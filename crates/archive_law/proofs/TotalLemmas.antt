@@ -1,7 +1,6 @@
 -- Each total that a watch left is of all committed versions that ever stood up to its cursor, whatever calls come after it.
 use Rattle.archive_law.proofs.Names.{Has, repository, lt, TimeParts, lt-irreflexive, lt-split, ObjectId, Value, Mark, Seen, floor_of, is_committed, is_settled, settle_of, listed, and-both, and-left, and-right, known, WatchFault, Moved, Version, advanced, moved_over, version_of, Earlier, has-map, map-has, EverStood, IsArchive, IsPast, WasDecided, archive, log_after, volumes_left, Rises, ◌≡◌, ◌⊎◌, inl, inr, ℕ, Bool, true, false, List, [], ◌∷◌, map, filter, reverse, refl, sym, ◌∙◌, ap, subst, Option, Some, None, ◌&&◌, not, if◌then◌else◌, Result, Ok, Err, true≢false, false≢true, map-append, is_blocked, settled_versions, not-false, fresh, is_retired, unless_retired, cursor_of}
 use Rattle.effect_form.specs.declared.effects.Effect.TheVariants as effect
-use Rattle.object_history.specs.declared.marks.Mark.TheVariants as mark
 use Rattle.object_history.proofs.AnswerLemmas.{committed}
 use Rattle.commit_watch.specs.Totals.{IsTotal, folded_so_far}
 use Rattle.commit_watch.proofs.StandingLemmas.{filter-listed}

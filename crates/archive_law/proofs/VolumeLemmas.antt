@@ -1,5 +1,5 @@
 -- The archive of a repository's volumes has each version of its logs, older and last, once; and it settles attempts as the last log does.
-use Rattle.archive_law.proofs.Names.{Has, repository, StampParts, TimeParts, Decision, NodeId, has-either, has-left, has-reverse, has-right, ObjectId, Value, Effect, Post, Mark, floor_of, settle_of, Distinct, Gone, is_commit, known, marks, RestsOn, decide-home, decided-once, put-logged, is_under, joined, put-asked, Tree, Base, node_facts, OlderFacts, each-has, has-map, map-has, marks-append, archive, ◌≡◌, ◌⊎◌, ◌≤◌, inl, inr, ℕ, Bool, true, List, [], ◌∷◌, ◌++◌, map, reverse, refl, sym, ◌∙◌, ap, subst, Some, map-append, reverse-append, reverse-reverse, chain-distinct, chain-given, some-given, one-value, SettledBy, put-marks, settle-marks, its-all, its-chain, some-history}
+use Rattle.archive_law.proofs.Names.{Has, repository, StampParts, TimeParts, Decision, NodeId, has-either, has-left, has-reverse, has-right, ObjectId, Value, Effect, Post, Mark, floor_of, settle_of, Distinct, Gone, is_commit, known, marks, decide-home, decided-once, put-logged, is_under, joined, put-asked, Tree, Base, node_facts, OlderFacts, each-has, has-map, map-has, marks-append, archive, ◌≡◌, ◌⊎◌, ◌≤◌, inl, inr, ℕ, Bool, true, List, [], ◌∷◌, ◌++◌, map, reverse, refl, sym, ◌∙◌, ap, subst, Some, map-append, reverse-append, reverse-reverse, chain-distinct, chain-given, some-given, one-value, SettledBy, put-marks, settle-marks, its-all, its-chain, some-history}
 use Rattle.effect_form.specs.declared.effects.Effect.TheVariants as effect
 use Rattle.object_history.specs.declared.marks.Mark.TheVariants as mark
 use Rattle.object_retirement.specs.Chains as chains

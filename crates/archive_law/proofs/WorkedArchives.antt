@@ -1,5 +1,5 @@
 -- A past worked by hand: a run of three acts, a retirement at 3.1.1/1, and a run of one act more. The definitions compute what they come to.
-use Rattle.archive_law.proofs.Names.{repository, lt, same_stamp, same_time, StampParts, TimeParts, ObjectId, Value, Nothing, Effect, Mark, some_put, floor_of, scan, settle_of, version_count, same_object, insert, listed, value_of, forwarded, Moved, advanced, moved_over, all_firsts, firsts, has_start, last_log, met_after, last_below, first_open, in_plan, Call, log_left, own_reading, replaced, Running, Retiring, archive, log_after, volumes_left, ◌≡◌, ℕ, true, List, [], ◌∷◌, ◌++◌, reverse, if◌then◌else◌, refl, ◌∙◌, ap, Some, None, ℤ, pos, Ok, Number, pick, first_among}
+use Rattle.archive_law.proofs.Names.{repository, lt, same_stamp, same_time, StampParts, TimeParts, ObjectId, Value, Nothing, Effect, Mark, some_put, floor_of, scan, settle_of, version_count, same_object, insert, listed, value_of, forwarded, Moved, advanced, moved_over, all_firsts, firsts, has_start, last_log, met_after, last_below, first_open, in_plan, Call, log_left, own_reading, Running, Retiring, archive, log_after, volumes_left, ◌≡◌, ℕ, true, List, [], ◌∷◌, ◌++◌, reverse, if◌then◌else◌, refl, ◌∙◌, ap, Some, None, ℤ, pos, Ok, Number, pick, first_among}
 use Rattle.pseudo_time.specs.declared.decisions.Decision.TheVariants.{Committed}
 use Rattle.effect_form.specs.declared.effects.Effect.TheVariants as effect
 use Rattle.object_history.specs.declared.marks.Mark.TheVariants as mark

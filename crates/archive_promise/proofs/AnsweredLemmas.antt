@@ -1,24 +1,21 @@
 -- What is told over the volumes that a past left.
-use Rattle.std.proofs.Common.{◌≡◌, ◌≤◌, ℕ, zero, suc, Bool, List, [], ◌∷◌, map, reverse, slice_get, refl, sym, ◌∙◌, ap, subst, Option, Some, None, inl, inr}
+use Rattle.std.proofs.Common.{◌≡◌, ◌≤◌, ℕ, zero, suc, List, [], ◌∷◌, map, reverse, slice_get, refl, sym, ◌∙◌, ap, subst, Option, Some, None, inl, inr}
 use Rattle.pseudo_time.specs.Lists.{Has}
 use Rattle.pseudo_time.specs.StampParts.{StampParts}
 use Rattle.value_form.specs.declared.objects.ObjectId.{ObjectId}
 use Rattle.effect_form.specs.declared.effects.Effect.{Effect}
 use Rattle.effect_form.specs.declared.effects.Effect.TheVariants as effect
-use Rattle.object_history.specs.declared.marks.Mark.{Mark}
 use Rattle.object_history.specs.History.{Seen, settle_of}
 use Rattle.object_history.specs.Views.{value_of}
 use Rattle.repository_log.specs.Logs.{marks}
 use Rattle.commit_watch.specs.declared.versions.Version.{Version}
-use Rattle.commit_watch.specs.Lists.{moved_at}
 use Rattle.archive_store.specs.Joined.{holder_of, joined}
 use Rattle.archive_store.specs.Latest.{entry_of, last_below}
-use Rattle.archive_store.specs.Opens.{first_open}
 use Rattle.world_core.specs.Deeds.{before}
 use Rattle.archive_law.specs.Earlier.{Earlier}
 use Rattle.archive_law.specs.Archives.{EverStood, archive, volumes_left}
 use Rattle.archive_law.specs.AsOf.{TellsMap, first_of, idle_run, value_in}
-use Rattle.archive_law.specs.Audits.{HasHolder, HoldsLast, ListsAll, versions_in}
+use Rattle.archive_law.specs.Audits.{HasHolder, ListsAll, versions_in}
 use Rattle.archive_law.proofs.ArchiveLemmas.{archive-is}
 use Rattle.archive_law.proofs.AuditLemmas.{all-listed, version-held}
 use Rattle.archive_law.proofs.IdleLemmas.{idle-tells}
@@ -29,7 +26,7 @@ use Rattle.watch_command.specs.Question.TheVariants.{AsOf, Audit}
 use Rattle.watch_command.specs.Answers.{Gives, IsAsOf}
 use Rattle.watch_command.specs.Archives.{Complete, archive_of, complete, holding_volume, newest_first, volume_at, volumes_of}
 use Rattle.watch_command.specs.Versions.{audit_text}
-use Rattle.archive_promise.specs.Answered.{IsHolder, IsLawful, IsOfStamp, IsPlainMap, IsWholeAudit, TellsPlainMap, TellsWholeAudit, WereLeft, listed_value}
+use Rattle.archive_promise.specs.Answered.{IsHolder, IsLawful, IsOfStamp, TellsPlainMap, TellsWholeAudit, WereLeft, listed_value}
 
 -- ---- complete volumes
 

@@ -5,7 +5,7 @@ use Rattle.std.specs.Ordering.{is_eq, is_lt}
 use Rattle.std.specs.declared.cmp.Ordering.{Ordering}
 use Rattle.std.specs.declared.cmp.Ordering.TheVariants.{Less, Equal, Greater}
 use Rattle.std.proofs.lemmas.Bool.{false≢true}
-use Rattle.pseudo_time.specs.Lists.{Every, Has}
+use Rattle.pseudo_time.specs.Lists.{Has}
 use Rattle.pseudo_time.proofs.ListLemmas.{every-has}
 use Rattle.value_form.specs.declared.objects.ObjectId.{ObjectId}
 use Rattle.value_form.specs.Objects.{object_cmp}
@@ -17,16 +17,14 @@ use Rattle.commit_watch.specs.declared.moved.Moved.{Moved}
 use Rattle.commit_watch.specs.Folds.{advanced}
 use Rattle.commit_watch.specs.Lists.{AreRising, cursor_of, moved_at, object_lt, or_before}
 use Rattle.archive_law.proofs.Growths.{filter-has}
-use Rattle.archive_law.specs.Archives.{archive, volumes_left}
-use Rattle.archive_law.specs.Totals.{AreWatches, CountsAll, Event, archive_then, calls_of, totals_of}
+use Rattle.archive_law.specs.Totals.{archive_then, calls_of, totals_of}
 use Rattle.archive_law.specs.Totals.Event.{Watching}
 use Rattle.archive_law.proofs.TotalLemmas.{some-counted, whole-counted}
 use Rattle.watch_command.specs.Archives.{if_of, last_total, newest_first, total_put}
 use Rattle.command_words.specs.declared.rules.Rule.{Rule}
 use Rattle.watch_command.specs.Totals.{AreTotals, new_puts, next_of, outcome_of, total_effect, went_on}
 use Rattle.watch_command.specs.Watches.{IsReady}
-use Rattle.archive_promise.specs.Answered.{WereLeft}
-use Rattle.archive_promise.specs.Watched.{CountsOn, LeavesTotals, TellsTotals, TotalsWereLeft}
+use Rattle.archive_promise.specs.Watched.{CountsOn}
 use Rattle.archive_promise.proofs.AnsweredLemmas.{archive-left}
 
 -- ---- the last total of a log

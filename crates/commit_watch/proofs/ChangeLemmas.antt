@@ -1,5 +1,5 @@
 -- What becomes of all objects, one after another in rising order.
-use Rattle.commit_watch.proofs.Names.{◌≡◌, ◌<◌, length, arith, Bool, true, false, List, [], ◌∷◌, ◌++◌, refl, sym, ◌∙◌, ap, subst, Option, Some, None, if◌then◌else◌, cond, inl, inr, Result, Ok, Err, IsSome, is_some, is_ok, unwrap_or, IfSome, IfOk, IfErr, ◌⊎◌, is_eq, is_gt, true≢false, false≢true, ObjectId, object_cmp, same_object, same_object-is, found_at, Moved, WatchFault, object_lt, moved_at, with_moved, with_all, or_before, with_change, StandingParts, empty_standing}
+use Rattle.commit_watch.proofs.Names.{◌≡◌, ◌<◌, length, arith, Bool, true, false, List, [], ◌∷◌, ◌++◌, refl, sym, ◌∙◌, ap, subst, Option, Some, None, if◌then◌else◌, cond, inl, inr, Result, Ok, Err, IsSome, is_some, is_ok, unwrap_or, IfSome, IfOk, IfErr, ◌⊎◌, is_eq, is_gt, true≢false, false≢true, ObjectId, object_cmp, same_object, same_object-is, found_at, Moved, WatchFault, object_lt, moved_at, with_all, or_before, with_change, StandingParts, empty_standing}
 use Rattle.commit_watch.specs.declared.faults.WatchFault.TheVariants as fault
 use Rattle.commit_watch.specs.Refusals.{IsRefusal}
 use Rattle.commit_watch.proofs.ListLemmas.{behind, all-more, moved-with}

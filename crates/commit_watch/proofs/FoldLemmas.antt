@@ -1,5 +1,5 @@
 -- The steps of a fold over an object's versions.
-use Rattle.commit_watch.proofs.Names.{◌≡◌, ℕ, zero, suc, ◌+◌, ◌<◌, ◌≤◌, slice_index_or, arith, Bool, true, false, List, [], ◌∷◌, filter, drop, length, refl, sym, ◌∙◌, ap, subst, Option, Some, None, if◌then◌else◌, Result, Ok, Err, ObjectId, Version, Moved, WatchFault, total_of, and_then, moved_to, moved_over}
+use Rattle.commit_watch.proofs.Names.{◌≡◌, ℕ, zero, suc, ◌+◌, ◌<◌, ◌≤◌, slice_index_or, arith, Bool, true, false, List, [], ◌∷◌, filter, drop, length, refl, sym, ◌∙◌, ap, Option, Some, None, if◌then◌else◌, Result, Ok, Err, ObjectId, Version, Moved, WatchFault, total_of, and_then, moved_to, moved_over}
 use Rattle.commit_watch.specs.declared.faults.WatchFault.TheVariants as fault
 
 module _ {T : Type 0} (first : T) (next : T → Version → Option T) (o : ObjectId) (p : Version → Bool) where

@@ -1,5 +1,5 @@
 -- Rising lists of objects that moved: what they have of an object, and how one more is put into them.
-use Rattle.commit_watch.proofs.Names.{◌≡◌, ℕ, zero, suc, ◌+◌, ◌<◌, ◌≤◌, Bool, true, false, List, [], ◌∷◌, ◌++◌, length, take, drop, refl, sym, ◌∙◌, ap, subst, Option, Some, None, if◌then◌else◌, slice_set, slice_index_or, arith, AllWithin, Result, Ok, Err, IsOk, is_ok, ◌==◌, ◌&&◌, is_lt, is_eq, ordering_reverse, ordering_then, nat_cmp, true≢false, false≢true, Every, is_less, ObjectId, object_cmp, same_object, same_object-is, same_object-of, Moved, object_lt, moved_at, AreRising, by_order, with_moved, with_all}
+use Rattle.commit_watch.proofs.Names.{◌≡◌, ℕ, zero, suc, ◌+◌, ◌<◌, ◌≤◌, Bool, true, false, List, [], ◌∷◌, ◌++◌, length, take, drop, refl, sym, ◌∙◌, ap, subst, Some, None, if◌then◌else◌, slice_set, slice_index_or, arith, AllWithin, Result, Ok, Err, IsOk, is_ok, ◌==◌, ◌&&◌, is_lt, is_eq, ordering_reverse, ordering_then, nat_cmp, true≢false, false≢true, Every, is_less, ObjectId, object_cmp, same_object, same_object-is, Moved, object_lt, moved_at, AreRising, by_order, with_moved, with_all}
 use Rattle.std.specs.List.Sorted.{IsPartitionedBy}
 use Rattle.std.proofs.lemmas.Grind.{common_steps}
 use Rattle.std.specs.declared.cmp.Ordering.{Ordering}

@@ -1,5 +1,5 @@
 -- The names that the proofs of this crate cite, passed on from one place. Declares nothing.
-pub use Rattle.commit_watch.specs.Folds.{advanced, and_then, fresh, is_retired, is_under, moved_to, unless_retired, version_of}
+pub use Rattle.commit_watch.specs.Folds.{advanced, and_then, fresh, is_retired, moved_to, unless_retired, version_of}
 unfoldable pub use Rattle.commit_watch.specs.Folds.{moved_over}
 pub use Rattle.commit_watch.specs.Lists.{AreRising, by_order, cursor_of, object_lt, or_before, total_of, with_change}
 unfoldable pub use Rattle.commit_watch.specs.Lists.{moved_at, with_all, with_moved}
@@ -11,7 +11,7 @@ pub use Rattle.commit_watch.specs.declared.scans.Scan.{Scan}
 pub use Rattle.commit_watch.specs.declared.versions.Version.{Version}
 pub use Rattle.object_history.proofs.BoolLemmas.{and-left, not-false, not-true}
 pub use Rattle.object_history.proofs.MapLemmas.{Puts, found_at}
-pub use Rattle.object_history.proofs.ObjectLemmas.{same_object-is, same_object-of}
+pub use Rattle.object_history.proofs.ObjectLemmas.{same_object-is}
 pub use Rattle.object_history.proofs.TrackLemmas.{on_ok}
 pub use Rattle.object_history.specs.History.{Seen, floor_of, is_committed, is_settled, or_else, version_count}
 unfoldable pub use Rattle.object_history.specs.History.{settle_of}

@@ -1,9 +1,9 @@
 -- How the versions of an object stand, as the code keeps it, says what is folded and what is refused.
-use Rattle.commit_watch.proofs.Names.{◌≡◌, ℕ, zero, suc, ◌+◌, ◌<◌, ◌≤◌, Bool, true, false, List, [], ◌∷◌, ◌++◌, map, filter, length, take, drop, refl, sym, ◌∙◌, ap, subst, Option, Some, None, ◌&&◌, ◌||◌, not, if◌then◌else◌, cond, slice_index_or, arith, Result, Ok, Err, unwrap_or, is_some, AllWithin, is_eq, get-insert, get-empty, true≢false, false≢true, Every, StampParts, stamp_cmp, TimeParts, lt, same_stamp, lt-trans, lt-asymmetric, lt-split, stamp_cmp-total, same_stamp-is, ObjectId, Value, object_cmp, Mark, Put, Stretch, Settle, Floor, same_object, Seen, or_else, settle_of, is_settled, is_committed, version_count, floor_of, insert, listed, is_blocked, settled_versions, not-false, same_object-is, found_at, Puts, Version, Moved, WatchFault, Scan, moved_at, cursor_of, version_of, fresh, is_under, is_retired, unless_retired, moved_over, advanced, StandingParts, empty_standing, all_above, version_in, earlier, Terms, is_wanted, is_lost, put_of, with_version, standing_of, is_stopped, settled_in, stood, terms_in}
+use Rattle.commit_watch.proofs.Names.{◌≡◌, ℕ, zero, suc, ◌+◌, ◌<◌, ◌≤◌, Bool, true, false, List, [], ◌∷◌, ◌++◌, map, filter, length, take, drop, refl, sym, ◌∙◌, ap, subst, Option, Some, None, ◌&&◌, ◌||◌, not, if◌then◌else◌, cond, slice_index_or, arith, Ok, unwrap_or, is_some, AllWithin, is_eq, get-insert, true≢false, false≢true, Every, StampParts, stamp_cmp, TimeParts, lt, same_stamp, lt-trans, lt-asymmetric, lt-split, stamp_cmp-total, same_stamp-is, ObjectId, Value, object_cmp, Mark, Put, Stretch, Settle, Floor, same_object, Seen, or_else, settle_of, is_settled, is_committed, version_count, floor_of, insert, listed, is_blocked, not-false, same_object-is, found_at, Puts, Version, Moved, Scan, moved_at, cursor_of, version_of, fresh, is_retired, unless_retired, moved_over, advanced, StandingParts, empty_standing, all_above, version_in, earlier, Terms, is_wanted, is_lost, put_of, with_version, standing_of, is_stopped, settled_in, stood, terms_in}
 use Rattle.std.specs.FinMap as finite
 use Rattle.std.proofs.lemmas.Cmp.{eq_by_cmp_equiv}
 use Rattle.object_history.specs.Answers.{some_put}
-use Rattle.object_history.specs.Kept.{Settled, is_past, is_below}
+use Rattle.object_history.specs.Kept.{Settled}
 use Rattle.commit_watch.specs.declared.puts.Put as puts
 
 -- ---- a version goes to its place

@@ -2,8 +2,7 @@
 use Rattle.commit_watch.proofs.Names.{◌≡◌, ◌≢◌, Bool, true, false, List, [], ◌∷◌, ◌++◌, map, filter, refl, sym, ◌∙◌, ap, subst, Option, Some, None, ◌&&◌, not, if◌then◌else◌, ◌⊎◌, Result, Ok, Err, inl, inr, true≢false, false≢true, Every, Has, TimeParts, lt, lt-irreflexive, lt-trans, lt-total, lt-split, ObjectId, Mark, Put, Stretch, Settle, Floor, same_object, Seen, version_count, floor_of, settle_of, is_committed, insert, listed, settled_versions, is_blocked, Adds, same_object-is, and-left, not-false, not-true, Version, Moved, WatchFault, cursor_of, total_of, version_of, fresh, is_retired, unless_retired, and_then, moved_to, moved_over, advanced}
 use Rattle.object_history.specs.Views.{Starts, Distinct}
 use Rattle.object_history.proofs.SettledLemmas.{listed-passes, settled-prefix}
-use Rattle.commit_watch.specs.declared.faults.WatchFault.TheVariants as fault
-use Rattle.commit_watch.specs.Totals.{folded_so_far, IsTotal}
+use Rattle.commit_watch.specs.Totals.{IsTotal}
 use Rattle.commit_watch.proofs.StandingLemmas.{Sorted, sorted-listed, every-in}
 
 -- ---- a rising list cut at a time

@@ -1,5 +1,5 @@
 -- A decision that is read is the one that was written.
-use Rattle.field_form.proofs.Names.{◌≡◌, ℕ, ◌^◌, ◌<◌, Bool, true, false, cond, List, [], ◌∷◌, ◌++◌, Option, Some, None, refl, sym, ap, subst, ◌∙◌, append_assoc, arith, inl, inr, ◌==◌, ◌⊎◌, w64, to_be_bytes, nat_tests, IsBytes, Begins, IsForm, ◌>>=◌, byte_at, number_at}
+use Rattle.field_form.proofs.Names.{◌≡◌, ℕ, ◌^◌, ◌<◌, Bool, true, false, cond, List, [], ◌∷◌, ◌++◌, Some, None, refl, sym, ap, subst, ◌∙◌, append_assoc, arith, inl, inr, ◌==◌, ◌⊎◌, w64, to_be_bytes, nat_tests, IsBytes, Begins, IsForm, ◌>>=◌, byte_at, number_at}
 use Rattle.pseudo_time.specs.declared.decisions.Decision.{Decision}
 use Rattle.pseudo_time.specs.declared.decisions.Decision.TheVariants.{Committed, Withdrawn, Expired}
 use Rattle.field_form.specs.Decisions.{decision_text, IsDecision, decision_at, expiry_at}

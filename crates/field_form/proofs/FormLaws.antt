@@ -1,5 +1,5 @@
 -- Tools for the laws of forms.
-use Rattle.field_form.proofs.Names.{◌≡◌, ℕ, ◌+◌, ◌<◌, ◌≤◌, Bool, true, false, cond, List, [], ◌∷◌, ◌++◌, length, get_or, take, drop, Option, Some, None, refl, sym, ap, ◌∙◌, append_assoc, arith, inl, inr, cases_lt, length-take, get_or-drop, get_or-take, get_or_past, IsBytes, Begins, ◌>>=◌}
+use Rattle.field_form.proofs.Names.{◌≡◌, ℕ, ◌+◌, Bool, true, false, cond, List, ◌++◌, take, drop, Option, Some, None, refl, sym, ap, ◌∙◌, append_assoc, arith, inl, inr, cases_lt, length-take, get_or-drop, get_or-take, get_or_past, IsBytes, Begins, ◌>>=◌}
 
 pub IsBytes-drop : (n : ℕ) (bytes : List ℕ) → IsBytes bytes → IsBytes (drop n bytes)
 IsBytes-drop n bytes h i = rw get_or-drop (h (n + i))

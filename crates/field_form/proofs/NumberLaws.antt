@@ -1,5 +1,5 @@
 -- A number that is read is the number that was written.
-use Rattle.field_form.proofs.Names.{◌≡◌, ℕ, suc, ◌^◌, ◌<◌, ◌≤◌, ◌||◌, Bool, true, false, cond, nat_lt, ltb, None, Option, List, [], ◌∷◌, ◌++◌, length, take, drop, Some, refl, sym, ap, subst, ◌∙◌, arith, Width, w16, w32, w64, byte_len, from_be_bytes, to_be_bytes, cast_signed, cast_unsigned, ℤ, FitsSigned, ltb-false, le-ltb, take_at, drop_at, take-append-drop, length-append, length-take, nat_tests, IsBytes, Begins, IsForm, ◌>>=◌, byte_at, number_at, signed_at, front_at, between}
+use Rattle.field_form.proofs.Names.{◌≡◌, ℕ, suc, ◌^◌, ◌<◌, ◌≤◌, ◌||◌, Bool, true, false, cond, nat_lt, ltb, None, Option, List, [], ◌∷◌, ◌++◌, length, take, drop, Some, refl, sym, ap, subst, arith, Width, w16, w32, w64, byte_len, from_be_bytes, to_be_bytes, cast_signed, cast_unsigned, ℤ, FitsSigned, ltb-false, le-ltb, take_at, drop_at, take-append-drop, length-append, length-take, nat_tests, IsBytes, Begins, IsForm, byte_at, number_at, signed_at, front_at, between}
 use Rattle.std.proofs.lemmas.Int.{of_z-to_z, to_z-of_z}
 use Rattle.std.proofs.Math.Facts.{sfits_to_z, Fits-of_lt, Fits-of_z}
 use Rattle.std.proofs.lemmas.Nat.{be_bytes_2, be_bytes_4, be_bytes_8, from_be_bytes-to_be_bytes_2, from_be_bytes-to_be_bytes_4, from_be_bytes-to_be_bytes_8}

@@ -1,5 +1,5 @@
 -- A stamp or pseudotime that is read is the one that was written.
-use Rattle.field_form.proofs.Names.{◌≡◌, ℕ, ◌^◌, ◌<◌, ◌≤◌, ◌&&◌, Bool, true, false, cond, nat_lt, nat_le, List, [], ◌∷◌, ◌++◌, Option, Some, None, refl, ap, subst, ◌∙◌, append_assoc, arith, w32, w64, to_be_bytes, nat_tests, IsBytes, Begins, IsForm, ◌>>=◌, byte_at, number_at}
+use Rattle.field_form.proofs.Names.{◌≡◌, ℕ, ◌^◌, ◌&&◌, Bool, true, false, cond, nat_lt, nat_le, List, [], ◌∷◌, ◌++◌, Option, Some, None, refl, ap, subst, ◌∙◌, append_assoc, arith, w32, w64, to_be_bytes, nat_tests, IsBytes, Begins, IsForm, ◌>>=◌, byte_at, number_at}
 use Rattle.pseudo_time.specs.StampParts.{StampParts, IsInRange, IsStamp, stamp_bytes}
 use Rattle.pseudo_time.specs.TimeParts.{TimeParts, IsTime, time_bytes}
 use Rattle.field_form.specs.Times.{stamp_in_range, stamp_at, time_at}

@@ -1,13 +1,12 @@
 -- What a parse of the laboratory's command has found: each option has a value that passes.
-use Rattle.laboratory.proofs.Names.{◌≡◌, ◌≤◌, ◌<◌, ◌&&◌, ◌∙◌, ℕ, zero, suc, Bool, true, false, List, [], ◌∷◌, map, length, Option, Some, None, is_some, refl, sym, ap, subst, inl, inr, arith, codes, not, ◌==◌, if◌then◌else◌, pos, All, slice_index_or, App, app_of, has_plain_fields, Rule, Text, is_empty, is_free_arg, is_simple_arg, rule_of, first_value, found_of, one_text, Command, ValueParser, ArgMatches, required_reads, IsGiven, command, needed, numbers}
+use Rattle.laboratory.proofs.Names.{◌≡◌, ◌≤◌, ◌<◌, ◌&&◌, ◌∙◌, ℕ, zero, suc, Bool, true, false, List, [], ◌∷◌, map, length, Option, Some, None, is_some, refl, sym, ap, subst, inl, inr, arith, codes, not, ◌==◌, if◌then◌else◌, All, slice_index_or, App, app_of, has_plain_fields, Rule, Text, is_empty, is_free_arg, is_simple_arg, rule_of, first_value, found_of, one_text, Command, ValueParser, ArgMatches, required_reads, IsGiven, command, needed, numbers}
 use Rattle.std.specs.Str.{bytes_eq}
 use Rattle.std.proofs.Math.Dec.{eqb-suc-zero}
 use Rattle.std.proofs.lemmas.Slice.Eq.{bytes_eq-Decides}
 use Rattle.std.proofs.lemmas.List.Elements.{All-cons, All-nil}
-use Rattle.clap.specs.Facts.{args_of, groups_of, least_values, unwrap_or_range}
+use Rattle.clap.specs.Facts.{args_of, least_values, unwrap_or_range}
 use Rattle.clap.specs.Built.{IsAuto, IsParsedFrom, IsPlain, IsPlainArg}
 use Rattle.clap.specs.Values.{Accepts, read_as, reading_of}
-use Rattle.clap.specs.declared.builder.action.ArgAction.TheVariants.{Set}
 use Rattle.clap.specs.declared.builder.arg.Arg.{Arg}
 use Rattle.clap.specs.declared.builder.command.Command.TheViews.{out-Command}
 use Rattle.clap.specs.declared.builder.value_parser.ValueParser.TheVariants as value

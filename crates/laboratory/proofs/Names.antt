@@ -13,8 +13,8 @@ pub use Rattle.laboratory.specs.Given.{HasText, IsGiven}
 pub use Rattle.laboratory.specs.Options.{AreFor, AreRead, HasNumber, Says, command, needed, numbers}
 pub use Rattle.laboratory.specs.Shelves.{IsLabShelf, first_name, voting_name}
 pub use Rattle.laboratory.specs.declared.options.Lab.{Lab}
-pub use Rattle.std.proofs.Common.{Bool, Err, List, None, Ok, Option, Result, Some, [], ap, ap₂, arith, codes, false, inl, inr, is_some, length, map, refl, rules, subst, suc, sym, take, true, zero, ℕ, ◌&&◌, ◌-◌, ◌<◌, ◌^◌, ◌∙◌, ◌∷◌, ◌≡◌, ◌≢◌, ◌≤◌}
+pub use Rattle.std.proofs.Common.{Bool, Err, List, None, Ok, Option, Result, Some, [], ap, ap₂, arith, codes, false, inl, inr, is_some, length, map, refl, subst, suc, sym, take, true, zero, ℕ, ◌&&◌, ◌-◌, ◌<◌, ◌^◌, ◌∙◌, ◌∷◌, ◌≡◌, ◌≢◌, ◌≤◌}
 pub use Rattle.std.specs.Io.KnownBytes.{Appends}
 pub use Rattle.std.specs.List.{All, slice_index_or}
-pub use Rattle.std.specs.Prelude.{if◌then◌else◌, not, pos, replicate, ◌==◌, ◌⊎◌}
+pub use Rattle.std.specs.Prelude.{if◌then◌else◌, not, replicate, ◌==◌, ◌⊎◌}
 pub use Rattle.std.specs.Str.Parse.{ExplainsUnsignedError, HasUnsignedDigitsIfOk, ParsesUnsigned}

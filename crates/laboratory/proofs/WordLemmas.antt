@@ -1,5 +1,5 @@
 -- What the laboratory's words say, as the matches of its command have it.
-use Rattle.laboratory.proofs.Names.{◌≡◌, ◌≢◌, ◌∙◌, ◌<◌, ◌≤◌, ◌^◌, ℕ, Bool, true, false, List, [], Option, Some, None, Result, Ok, Err, refl, sym, ap, subst, inl, inr, arith, ParsesUnsigned, ReadsOne, found_of, App, HasMatchesOf, app_of, Command, ArgMatches, signed_reads, one_text-rows, HasText, AreFor, AreRead, HasNumber, Says, command, Lab}
+use Rattle.laboratory.proofs.Names.{◌≡◌, ◌≢◌, ◌∙◌, ◌<◌, ◌≤◌, ◌^◌, ℕ, Bool, true, false, List, [], Some, Result, Ok, Err, refl, sym, subst, inl, inr, ParsesUnsigned, ReadsOne, found_of, App, HasMatchesOf, app_of, Command, ArgMatches, signed_reads, one_text-rows, HasText, AreFor, AreRead, HasNumber, Says, command, Lab}
 use Rattle.clap.specs.Kinds.{HasKind}
 use Rattle.clap.specs.Words.{Text, fault_of, is_simple_and_free, kind_of, rows_of, takes, without_minus}
 use Rattle.clap.specs.declared.error.Error.{Error}

@@ -1,6 +1,6 @@
 -- The names that the proofs of this crate cite, passed on from one place. Declares nothing.
 pub use Rattle.effect_form.specs.declared.effects.Effect.{Effect}
-pub use Rattle.medium_port.specs.Image.{Image, IsImage, NoMore, Only, page_of}
+pub use Rattle.medium_port.specs.Image.{Image, IsImage, NoMore, page_of}
 pub use Rattle.medium_port.specs.Moment.{EitherSide, Goes, LeavesOnly, LeftNow, Stage, goes_nowhere, goes_on, goes_to, joins, widens}
 pub use Rattle.medium_port.specs.declared.media.Medium.{Ghosts as Media}
 pub use Rattle.message_core.proofs.NodeLemmas.{same_node-refl}
@@ -27,12 +27,12 @@ pub use Rattle.repository_log.specs.Logs.{decided_by, is_for, knows as is_known}
 pub use Rattle.seat_lock.specs.Words.{CarriesOn}
 unfoldable pub use Rattle.seat_lock.specs.Words.{knows}
 pub use Rattle.serial_model.specs.Questions.{Tree}
-pub use Rattle.std.proofs.Common.{Bool, Err, IfErr, IfOk, IsErrOf, IsTrue, List, None, Ok, OnErr, OnOk, Option, Result, Some, [], ap, append_assoc, arith, cond, drop, false, get_or, if◌then◌else◌, inl, inr, is_none, is_some, length, length-append, map, not, refl, reverse, subst, suc, sym, take, true, zero, ℕ, ⊎_elim, ◌&&◌, ◌++◌, ◌+◌, ◌-◌, ◌<◌, ◌==◌, ◌^◌, ◌||◌, ◌∙◌, ◌∷◌, ◌≡◌, ◌≢◌, ◌≤◌, ◌⊎◌}
+pub use Rattle.std.proofs.Common.{Bool, Err, IfErr, IfOk, IsErrOf, IsTrue, List, None, Ok, OnErr, OnOk, Option, Result, Some, [], ap, append_assoc, arith, cond, drop, false, get_or, if◌then◌else◌, inl, inr, is_none, is_some, length, length-append, not, refl, reverse, subst, suc, sym, take, true, zero, ℕ, ⊎_elim, ◌&&◌, ◌++◌, ◌+◌, ◌-◌, ◌<◌, ◌==◌, ◌^◌, ◌||◌, ◌∙◌, ◌∷◌, ◌≡◌, ◌≢◌, ◌≤◌, ◌⊎◌}
 pub use Rattle.std.proofs.lemmas.Bool.{cases_lt, eqb-true}
 pub use Rattle.std.proofs.lemmas.List.{append-nil, length-take-le, reverse-append, reverse-reverse, take-append-le, take_all, take_more}
 pub use Rattle.std.proofs.lemmas.List.Elements.{filter-append}
 pub use Rattle.std.specs.List.{filter}
-pub use Rattle.std.specs.Prelude.{IfSome, MatchBool, count_by, slice_index, slice_index_or}
+pub use Rattle.std.specs.Prelude.{IfSome, MatchBool, count_by, slice_index}
 pub use Rattle.stream_port.specs.Causes.{Rose}
 pub use Rattle.value_form.specs.declared.acts.ActSpec.{ActSpec}
 pub use Rattle.version_store.specs.Filling.{HasPrefix, KeepsPages, StaysClean, filling}
@@ -46,10 +46,10 @@ pub use Rattle.wire_lock.proofs.SightLemmas.{looked-of, own-same, up-known}
 pub use Rattle.wire_lock.specs.Decisions.{Decided, answer_of}
 pub use Rattle.wire_lock.specs.Sights.{Added, Crashes, Falls, Gated, HadNothing, IsAsBefore, IsOf, IsWirePass, Looked, Owns, Sight, TakesOne, Tested, Visited, base_at, closed, crashed, flags_at, given, life_at, origin_at, origin_in, world_at}
 pub use Rattle.world_core.proofs.Lives.{gated-grows, same-life, walk-append}
-pub use Rattle.world_core.specs.Nodes.{Given, Input, Mind, acts_of, broker_ready, kind_gives, kind_ready, leaves}
+pub use Rattle.world_core.specs.Nodes.{Input, Mind, acts_of, broker_ready, kind_gives, kind_ready, leaves}
 unfoldable pub use Rattle.world_core.specs.Nodes.{gives, is_ready}
 pub use Rattle.world_core.specs.Nodes.Input.{Going, Hearing, Learning, Taking}
-pub use Rattle.world_core.specs.Walks.{Base, Flags, Life, World, after_input, all_effects, crashed_life, flagged, gated_life, learned, names, opened_flags, opened_life, opened_log, own, start_world, step, walk, went, with_due, with_given}
+pub use Rattle.world_core.specs.Walks.{Base, Flags, Life, World, after_input, all_effects, crashed_life, flagged, gated_life, learned, names, opened_flags, opened_life, opened_log, own, start_world, step, walk, went, with_due}
 unfoldable pub use Rattle.world_core.specs.Walks.{walk_from}
 pub use Rattle.world_core.specs.declared.entries.Entry.{Entry}
 pub use Rattle.world_core.specs.declared.entries.Entry.TheVariants.{Crash, Down, Gate, Go, Hear, Learn, Take, Tick}

@@ -1,5 +1,5 @@
 -- What a visit and a meeting are for the windows of a node: a step over its own entry, and entries of others.
-use Rattle.node_turn.proofs.Names.{NodeId, Image, Entry, names, own, walk, CarriesOn, owner_of, Sight, IsOf, Owns, IsAsBefore, Looked, Added, base_at, life_at, own-same, Stage, LeftNow, Goes, IsKept, Passes, ◌≡◌, true, List, [], ◌∷◌, ◌++◌, sym, ap, subst, ◌∙◌, append_assoc, filter-append}
+use Rattle.node_turn.proofs.Names.{NodeId, Image, Entry, names, own, walk, CarriesOn, owner_of, Sight, IsOf, Owns, IsAsBefore, Looked, base_at, life_at, own-same, Stage, LeftNow, Goes, IsKept, Passes, ◌≡◌, true, List, [], ◌∷◌, ◌++◌, sym, ap, subst, ◌∙◌, append_assoc, filter-append}
 use Rattle.node_turn.proofs.StepLemmas.{passes-between, passes-visit}
 
 nothing-added : {X : Type 0} (xs ys : List X) → xs ++ ys ≡ xs → ys ≡ []

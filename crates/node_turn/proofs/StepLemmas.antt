@@ -1,5 +1,5 @@
 -- What node_turn needs at each of its visits and calls.
-use Rattle.node_turn.proofs.Names.{NodeId, Effect, Image, Stage, LeftNow, Goes, goes_nowhere, HasPrefix, storage, Entry, Base, Life, all_effects, gated_life, names, own, walk, IsKept, IsNext, KeptAlong, Mark, Passes, ◌≡◌, ℕ, ◌≤◌, true, List, [], ◌∷◌, ◌++◌, length, take, refl, sym, ap, subst, ◌∙◌, arith, length-append, Ok, append-nil, take_all, take-append-le, Given, crashed_life, with_given}
+use Rattle.node_turn.proofs.Names.{NodeId, Effect, Image, Stage, LeftNow, Goes, goes_nowhere, HasPrefix, storage, Entry, Base, Life, all_effects, gated_life, names, own, walk, IsKept, Mark, Passes, ◌≡◌, ℕ, ◌≤◌, true, List, [], ◌∷◌, ◌++◌, length, take, refl, sym, ap, ◌∙◌, arith, Ok, append-nil, take_all, crashed_life}
 
 -- ---- images
 

@@ -1,12 +1,12 @@
 -- A text of a log, or a number, leaves a reader of elements where it is.
-use Rattle.std.proofs.Common.{◌≡◌, ℕ, ◌/◌, ◌%◌, Bool, true, false, List, [], ◌∷◌, ◌++◌, refl, sym, ◌∙◌, ap, ◌==◌, if◌then◌else◌, arith}
+use Rattle.std.proofs.Common.{◌≡◌, ℕ, ◌/◌, ◌%◌, Bool, true, false, List, [], ◌∷◌, ◌++◌, refl, ◌∙◌, ap, ◌==◌, if◌then◌else◌, arith}
 use Prim.Native.Nat.{zero, suc}
 use Rattle.std.specs.Fmt.{decimal, digits, digits_onto, digit_glyph}
 use Rattle.std.specs.Int.{is_in_range}
 use Rattle.std.specs.List.{flat_map}
 use Rattle.std.proofs.lemmas.Bool.Decides.{nat_tests}
-use Rattle.page_text.specs.Escapes.{hex_digit, other_byte, page_text, text_byte}
-use Rattle.page_text.specs.Tags.{Spot, InText, InTag, Astray, HasTagsOf, is_numeric, spot_after, spot_behind}
+use Rattle.page_text.specs.Escapes.{hex_digit, page_text, text_byte}
+use Rattle.page_text.specs.Tags.{Spot, InText, InTag, HasTagsOf, is_numeric, spot_after, spot_behind}
 
 -- ---- one text behind another
 

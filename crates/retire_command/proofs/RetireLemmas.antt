@@ -1,19 +1,17 @@
 -- What is left of volumes, and what comes of a retirement over them.
-use Rattle.std.proofs.Common.{◌≡◌, ◌⊎◌, ◌+◌, ◌<◌, ℕ, zero, suc, Bool, true, false, IsTrue, List, [], ◌∷◌, ◌++◌, length, length-append, map, reverse, take, drop, slice_index_or, refl, ap, sym, subst, ◌∙◌, arith, Option, Some, None, inl, inr}
+use Rattle.std.proofs.Common.{◌≡◌, ◌+◌, ◌<◌, ℕ, true, false, IsTrue, List, [], ◌∷◌, ◌++◌, length, length-append, map, reverse, refl, ap, sym, subst, ◌∙◌, arith, Option, Some, None, inl, inr}
 use Rattle.std.specs.Prelude.{Ok, Vec}
 use Rattle.std.specs.declared.alloc.Global.{Global}
 use Rattle.std.specs.List.{AllZip}
-use Rattle.std.proofs.lemmas.Bool.{true≢false, false≢true}
+use Rattle.std.proofs.lemmas.Bool.{false≢true}
 use Rattle.pseudo_time.specs.Lists.{Every}
 use Rattle.pseudo_time.specs.TimeParts.{TimeParts}
-use Rattle.pseudo_time.specs.declared.down_causes.DownCause.{DownCause}
 use Rattle.pseudo_time.specs.declared.down_causes.DownCause.TheVariants as down
 use Rattle.pseudo_time.specs.declared.nodes.NodeId.{NodeId}
 use Rattle.pseudo_time.specs.declared.nodes.NodeKind.TheVariants.{Repository}
 use Rattle.stream_port.specs.Causes.{Rose}
 use Rattle.value_form.specs.declared.objects.ObjectId.{ObjectId}
 use Rattle.effect_form.specs.declared.effects.Effect.{Effect}
-use Rattle.effect_form.specs.Effects.{AreEffects}
 use Rattle.medium_port.specs.Image.{Image}
 use Rattle.version_store.specs.declared.stores.Store.{Store}
 use Rattle.version_store.specs.declared.faults.StoreFault.{StoreFault}
@@ -23,8 +21,8 @@ use Rattle.version_store.specs.Filling.{filling}
 use Rattle.version_store.specs.Storage.{storage}
 use Rattle.version_store.specs.StoreWords.{left_in, medium_of}
 use Rattle.run_volumes.specs.Opening.{Opening}
-use Rattle.run_volumes.specs.Opening.TheVariants.{Open, Shut, Wanting}
-use Rattle.run_volumes.specs.Media.{AreBack, IsBack, Media}
+use Rattle.run_volumes.specs.Opening.TheVariants.{Open}
+use Rattle.run_volumes.specs.Media.{AreBack, Media}
 use Rattle.run_volumes.specs.Openings.{HasOpened, IsOpen, log_in, medium_in}
 use Rattle.forward_copy.specs.Carried.{LeavesFront}
 use Rattle.forward_copy.specs.Refusals.{IsFirstUndecided, IsOldMark}

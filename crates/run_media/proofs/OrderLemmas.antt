@@ -1,5 +1,5 @@
 -- The nodes of a plan in their order.
-use Rattle.run_media.proofs.Names.{◌≡◌, ◌≢◌, ◌≤◌, ◌<◌, ◌+◌, ◌-◌, ◌&&◌, ◌==◌, nat_lt, nat_le, ℕ, zero, suc, Bool, true, false, List, [], ◌∷◌, ◌++◌, length, Option, Some, None, is_some, slice_get, slice_index_or, take, refl, ap, sym, subst, ◌∙◌, arith, if◌then◌else◌, cond, nat_tests, take_more, length-take-le, sum_by-cons, count_by, NodeId, NodeKind, Repository, Broker, Effect, Plan, JustNodes, in_plan, is_within, most_of, Opening, log_in, opened_from, node_count, node_at, kind_place, place_of}
+use Rattle.run_media.proofs.Names.{◌≡◌, ◌≢◌, ◌≤◌, ◌<◌, ◌+◌, ◌-◌, ◌&&◌, nat_lt, nat_le, ℕ, zero, suc, Bool, true, false, List, [], ◌∷◌, ◌++◌, length, Some, None, is_some, slice_get, slice_index_or, take, refl, ap, sym, subst, ◌∙◌, arith, if◌then◌else◌, cond, nat_tests, take_more, length-take-le, sum_by-cons, count_by, NodeId, NodeKind, Repository, Broker, Effect, Plan, JustNodes, in_plan, is_within, most_of, Opening, log_in, opened_from, node_count, node_at, kind_place, place_of}
 use Rattle.pseudo_time.specs.Nodes.{repository, broker, same_node}
 use Rattle.message_core.proofs.NodeLemmas.{same_is, same_node-refl}
 use Rattle.world_core.specs.declared.traces.Opened.{Opened}

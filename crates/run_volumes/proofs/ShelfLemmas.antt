@@ -1,7 +1,7 @@
 -- Volumes that are taken one after another, and handed back under their names.
-use Rattle.run_volumes.proofs.Names.{◌≡◌, ◌≢◌, ◌↔◌, ◌⊎◌, ◌≤◌, ◌<◌, ◌+◌, ◌==◌, inl, inr, ℕ, zero, suc, Bool, true, false, cond, IsTrue, List, [], ◌∷◌, ◌++◌, length, length-append, append-nil, append_assoc, Option, Some, None, slice_get, refl, ap, sym, subst, ◌∙◌, arith, AllZip, count_by, Has, nat_tests, NodeId, NodeKind, Repository, Broker, AreBack, IsBack, IsUsable, Media, ShelfSight, IsLeft, IsGiven, IsTaken, TakesOne, WereTaken, first_names, is_missing, volume_name}
+use Rattle.run_volumes.proofs.Names.{◌≡◌, ◌≢◌, ◌⊎◌, ◌<◌, ◌+◌, ◌==◌, inl, inr, ℕ, zero, suc, Bool, true, false, cond, List, [], ◌∷◌, ◌++◌, length, length-append, append-nil, append_assoc, Option, Some, None, slice_get, refl, ap, sym, subst, ◌∙◌, arith, AllZip, count_by, Has, nat_tests, NodeId, NodeKind, Repository, Broker, AreBack, IsBack, IsUsable, Media, ShelfSight, IsLeft, IsGiven, IsTaken, TakesOne, WereTaken, first_names, is_missing, volume_name}
 use Rattle.std.proofs.lemmas.List.Sums.{sum_by-append}
-use Rattle.stream_port.specs.Causes.{Rose, RoseBy, rises_add, rose_by_none}
+use Rattle.stream_port.specs.Causes.{RoseBy, rises_add, rose_by_none}
 use Rattle.medium_port.specs.Image.{Image}
 use Rattle.medium_port.specs.Names.{IsJustSo}
 use Rattle.medium_port.specs.declared.shelves.MediumName.{MediumName}

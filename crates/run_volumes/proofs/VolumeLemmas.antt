@@ -1,7 +1,6 @@
 -- Volumes that are opened one after another.
-use Rattle.run_volumes.proofs.Names.{◌≡◌, ◌≤◌, ◌<◌, ◌+◌, ℕ, zero, suc, Bool, true, false, ◌==◌, ◌&&◌, ◌||◌, not, nat_lt, if◌then◌else◌, List, [], ◌∷◌, ◌++◌, length, length-append, refl, ap, sym, subst, ◌∙◌, arith, slice_index_or, Option, Some, None, ◌⊎◌, inl, inr, AllZip, nat_tests, NodeId, NodeKind, Repository, Broker, Opening, Open, Shut, Wanting, Media, HasOpened, log_in, ShelfSight, TakesOne, WereTaken, first_names, volume_name, log_at, AreVolumes, EndRightly, GoOn, fresh_from, goes_on, is_empty_log, logs_of}
-use Rattle.std.proofs.lemmas.Bool.{true≢false, false≢true}
-use Rattle.effect_form.specs.declared.effects.Effect.{Effect}
+use Rattle.run_volumes.proofs.Names.{◌≡◌, ◌≤◌, ◌<◌, ◌+◌, ℕ, zero, suc, Bool, true, false, ◌==◌, ◌&&◌, ◌||◌, not, nat_lt, if◌then◌else◌, List, [], ◌∷◌, ◌++◌, length, length-append, refl, ap, sym, subst, ◌∙◌, arith, slice_index_or, Option, Some, None, AllZip, nat_tests, NodeId, NodeKind, Repository, Broker, Opening, Open, Shut, Wanting, Media, HasOpened, log_in, ShelfSight, TakesOne, WereTaken, first_names, volume_name, log_at, AreVolumes, GoOn, fresh_from, goes_on, is_empty_log, logs_of}
+use Rattle.std.proofs.lemmas.Bool.{false≢true}
 use Rattle.run_volumes.proofs.ShelfLemmas.{taken-more, taken-none}
 
 -- ---- no volume follows behind volume 999

@@ -1,5 +1,5 @@
 -- What was read of an input says what the input is.
-use Rattle.std.proofs.Common.{ℕ, ◌≤◌, ◌<◌, ◌≡◌, ◌⊎◌, inl, inr, List, ◌++◌, length, None, Some, Ok, Err, sym, ap, ◌∙◌, subst, arith, append-nil}
+use Rattle.std.proofs.Common.{ℕ, ◌≤◌, ◌<◌, ◌≡◌, inl, inr, List, ◌++◌, length, None, Some, Ok, Err, sym, ap, ◌∙◌, subst, arith, append-nil}
 use Rattle.swallow_top.proofs.Names.{Option, Result, Vec, Consumes, IsAtEnd, length-append, IsPlanFault, Plan, IsPlan, Stop, OfInput, IsReadAs, ReadsPlan, AreReadAs, ReadsPolls, IsInputFault, IsInput, PollLine, Global}
 use Rattle.plan_form.specs.declared.plan_faults.PlanKind.{PlanKind}
 use Rattle.plan_form.specs.declared.plan_faults.PlanKind.TheVariants as kind

@@ -6,10 +6,10 @@ unfoldable pub use Rattle.broker_core.specs.Book.{book}
 pub use Rattle.broker_core.specs.Fits.{plan_fault}
 unfoldable pub use Rattle.broker_core.specs.Fits.{keep, other_plan}
 pub use Rattle.broker_core.specs.Readings.{reading}
-pub use Rattle.command_words.specs.Words.{AreGiven, AreNone, AreOptions, AreWords, IsWith, said}
+pub use Rattle.command_words.specs.Words.{AreGiven, AreOptions, AreWords, IsWith, said}
 pub use Rattle.command_words.specs.declared.commands.Options.{Options}
 pub use Rattle.command_words.specs.declared.rules.Rule.{Rule}
-pub use Rattle.complete_law.specs.Calm.{AllDone, CalmPlace, CalmRun, HasOutcome, IsOver, IsUnstopped, MayStop, book_at, filled_by, is_done_at, log_at, most_filled, most_pages}
+pub use Rattle.complete_law.specs.Calm.{AllDone, CalmPlace, CalmRun, HasOutcome, IsOver, IsUnstopped, MayStop, book_at, filled_by, log_at, most_filled, most_pages}
 pub use Rattle.effect_form.specs.declared.effects.Effect.{Effect}
 pub use Rattle.effect_form.specs.declared.outcomes.Outcome.{Outcome}
 pub use Rattle.forward_copy.specs.Currents.{node_log}
@@ -42,7 +42,7 @@ pub use Rattle.report_writer.specs.Histories.{history_text}
 pub use Rattle.report_writer.specs.Reports.{down_text}
 pub use Rattle.retire_command.specs.declared.outcomes.Retired.{Retired}
 pub use Rattle.run_rounds.proofs.FlagLemmas.{fell, named-opened, one-down, stays-down, stays-known, told-of, up-named}
-pub use Rattle.run_rounds.specs.Acts.{act_begun, act_shown, act_with, acts_in, acts_shown, begun_acts, counted_by, shown_end, tasks_of, tries_shown, try_shown}
+pub use Rattle.run_rounds.specs.Acts.{act_begun, act_shown, act_with, acts_shown, begun_acts, counted_by, shown_end, tasks_of, tries_shown, try_shown}
 pub use Rattle.run_rounds.specs.Ends.{HasEnded, IsUnopened, some_down}
 pub use Rattle.run_rounds.specs.Finishes.{EndsAs, HasItsLog, IsKeptWhole, Tellers, account_of, tellers}
 pub use Rattle.run_rounds.specs.Media.{Became, inner, medium_at}
@@ -69,7 +69,7 @@ pub use Rattle.swallow_top.specs.Outcomes.{TellsAnswer, TellsOutcome, TellsWatch
 pub use Rattle.swallow_top.specs.Plans.{IsReadAs, ReadsPlan}
 pub use Rattle.swallow_top.specs.Retirements.{TellsRetired, TellsRetirement, mark_at}
 pub use Rattle.swallow_top.specs.Smooth.{IsFinal, IsFinished, IsSmoothRun, WasRefused, WentSmoothly, pages_for, volumes_of_blank}
-pub use Rattle.swallow_top.specs.Tellings.{OfRun, TellsEnd, status_of, status_with}
+pub use Rattle.swallow_top.specs.Tellings.{OfRun, TellsEnd, status_of}
 pub use Rattle.swallow_top.specs.Votes.{AreFew, AreNoPolls, AreReadAs, HavePolled, ReadsPolls, TellsVotes, limits_of, tellers_of, votes_status}
 pub use Rattle.swallow_top.specs.Written.{AppendsFront, Ends, EndsIfAny, GotLine, Sinking, sinking}
 pub use Rattle.swallow_top.specs.declared.reports.Wanted.{Wanted}

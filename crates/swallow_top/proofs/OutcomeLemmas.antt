@@ -1,5 +1,5 @@
 -- How it is told what came of a question to an archive or of a watch, and what is handed back of it.
-use Rattle.swallow_top.proofs.Names.{AllZip-long, Opening, Media, HasOpened, medium_in, Kept, AllKept, kept_under, ShelfSight, first_names, logs_of, all-kept, back-all, Rule, AskedNothing, IsOfStamp, TellsAnswer, TellsWatch, Sinking, Ends, ◌≡◌, ◌⊎◌, ◌≤◌, inl, inr, ℕ, List, length, map, ap, sym, subst, ◌∙◌, arith, IsLawful, TellsOutcome}
+use Rattle.swallow_top.proofs.Names.{AllZip-long, Opening, Media, HasOpened, medium_in, Kept, AllKept, kept_under, ShelfSight, first_names, logs_of, all-kept, back-all, Rule, AskedNothing, IsOfStamp, TellsAnswer, TellsWatch, Sinking, Ends, ◌⊎◌, ◌≤◌, inl, inr, ℕ, List, length, map, ap, sym, subst, ◌∙◌, arith, IsLawful, TellsOutcome}
 use Rattle.archive_promise.specs.Outcome.{Outcome}
 use Rattle.archive_promise.specs.Outcome.TheVariants.{Told, Refused, Fallen, NoMemory}
 use Rattle.archive_promise.specs.Question.{Question}

@@ -1,5 +1,5 @@
 -- What the parts of a call say, said in the words of its promise.
-use Rattle.swallow_top.proofs.Names.{IsAtEnd, Every, Has, Plan, IsPlanFault, IsPlan, IsOfLanguage, Trace, open_acts, ObjectId, no_trace, Options, AreWords, Media, some_down, Account, AllKept, Kept, Wanted, Stop, CameOf, HasNoRun, RefusedAs, RunsPlan, AskedNothing, TellsHistory, TellsVolumes, OfInput, ReadsPlan, ShelfSight, Retired, Rule, TellsAnswer, TellsWatch, TellsRetired, TellsRetirement, mark_at, status_of, Sinking, Ends, EndsIfAny, VoteEnd, Told, IsInputFault, IsInput, IsPoll, PollLine, HavePolled, ReadsPolls, TellsVotes, limits_of, tellers_of, votes_status, Vec, Global, ◌≡◌, ◌⊎◌, ◌≤◌, ◌==◌, inl, inr, ℕ, Bool, true, false, IsTrue, List, [], ◌∷◌, length, Option, Result, Some, None, Ok, Err, refl, ap, sym, subst, ◌∙◌, arith, if◌then◌else◌, AreGiven, AreNone, AreOptions, IsWith, IsNoPlan, status_with, AreNoPolls}
+use Rattle.swallow_top.proofs.Names.{Every, Plan, IsPlanFault, IsPlan, IsOfLanguage, Trace, open_acts, ObjectId, no_trace, Options, AreWords, Media, some_down, Account, AllKept, Kept, Wanted, Stop, CameOf, HasNoRun, RefusedAs, RunsPlan, AskedNothing, TellsHistory, TellsVolumes, ReadsPlan, ShelfSight, Retired, Rule, TellsAnswer, TellsWatch, TellsRetired, TellsRetirement, mark_at, status_of, Sinking, Ends, EndsIfAny, VoteEnd, Told, IsInputFault, IsInput, IsPoll, PollLine, HavePolled, ReadsPolls, TellsVotes, limits_of, tellers_of, votes_status, Vec, Global, ◌≡◌, ◌⊎◌, ◌≤◌, ◌==◌, inl, inr, ℕ, Bool, true, false, List, [], ◌∷◌, length, Option, Ok, Err, refl, sym, subst, arith, if◌then◌else◌, AreGiven, AreOptions, IsWith, IsNoPlan, AreNoPolls}
 use Rattle.std.specs.Option.{unwrap_or}
 use Rattle.plan_form.specs.Making.{made_plan}
 use Rattle.plan_form.proofs.PlanTextLemmas.{plan_is_whole}
@@ -11,7 +11,6 @@ use Rattle.swallow_top.specs.declared.stops.Stop.TheVariants as stop
 use Rattle.swallow_top.specs.Promise.{Call, HasNoWords, TouchedNothing, IsUnread, Promise, WasDone}
 use Rattle.retire_command.specs.declared.outcomes.Retired.TheVariants.{Done, Refused, Fallen, NoMemory}
 use Rattle.archive_promise.specs.Question.TheVariants as question
-use Rattle.votes_command.specs.Tellings.{some_down as voters_down}
 use Rattle.votes_command.specs.VoteEnd.TheVariants as voted
 use Rattle.votes_command.specs.Statuses.{all_held}
 use Rattle.swallow_top.proofs.VoteLemmas.{votes-kept}

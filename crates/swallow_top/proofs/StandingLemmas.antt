@@ -1,10 +1,10 @@
 -- Where its broker has begun all acts, and each has an outcome, an act is shown with its outcome.
-use Rattle.swallow_top.proofs.Names.{eqb-true, nat_tests, length-append, length-map, reverse-append, Every, Has, broker, NodeId, Effect, Outcome, Plan, InRange, IsOfLanguage, Act, Book, Try, reading, counted_by, shown_end, tasks_of, HasOutcome, AllBegun, every-has, ◌≡◌, ◌+◌, ◌-◌, ◌≤◌, ◌<◌, ◌∙◌, ◌++◌, ◌==◌, nat_lt, ℕ, zero, suc, Bool, true, false, List, [], ◌∷◌, Option, Some, None, length, map, reverse, slice_get, inl, inr, refl, ap, sym, subst, arith, if◌then◌else◌, ◌&&◌, nat_le, cond, filter, eq-eqb, length-reverse, map-append, reverse-reverse, slice_get_within, same_Some, EachAct, act_begun, act_shown, act_with, acts_in, acts_shown, begun_acts, tries_shown, try_shown, IsOver, has-reverse, sound-kept, IsFinal, IsFinished}
+use Rattle.swallow_top.proofs.Names.{eqb-true, nat_tests, length-append, length-map, reverse-append, Every, Has, broker, NodeId, Effect, Outcome, Plan, InRange, IsOfLanguage, Act, Book, Try, reading, counted_by, shown_end, tasks_of, HasOutcome, AllBegun, every-has, ◌≡◌, ◌+◌, ◌-◌, ◌≤◌, ◌<◌, ◌∙◌, ◌++◌, ◌==◌, nat_lt, ℕ, zero, suc, Bool, true, false, List, [], ◌∷◌, Option, Some, None, length, map, reverse, slice_get, inl, inr, refl, ap, sym, subst, arith, if◌then◌else◌, cond, filter, eq-eqb, length-reverse, map-append, reverse-reverse, slice_get_within, same_Some, EachAct, act_begun, act_shown, act_with, acts_shown, begun_acts, tries_shown, try_shown, IsOver, has-reverse, sound-kept, IsFinal, IsFinished}
 use Rattle.value_form.specs.declared.acts.ActSpec.{ActSpec}
 use Rattle.effect_form.specs.declared.outcomes.Outcome.TheVariants as ended
 use Rattle.serial_model.specs.Questions.{Tree}
 use Rattle.broker_core.specs.Sound.{Started}
-use Rattle.broker_core.specs.Tasks.{Task, task_of, tasks}
+use Rattle.broker_core.specs.Tasks.{Task, task_of}
 use Rattle.world_core.specs.Nodes.{acts_of}
 use Rattle.report_writer.specs.declared.records.ActReport.{ActReport}
 use Rattle.report_writer.specs.declared.records.TryReport.{TryReport}

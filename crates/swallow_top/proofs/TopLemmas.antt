@@ -1,5 +1,5 @@
 -- Texts that are written, and what writing them asks.
-use Rattle.swallow_top.proofs.Names.{Option, Result, IfOk, Appends, Every, Rose, Entry, Take, Crash, Down, Tick, Stop, AppendsFront, Ends, EndsIfAny, GotLine, Sinking, sinking, ◌≡◌, ◌<◌, ◌≤◌, ◌^◌, ℕ, List, [], ◌∷◌, inl, inr, Ok, Err, subst, arith, OnOk, OnErr, Go, Learn, Hear, Gate, TellsText}
+use Rattle.swallow_top.proofs.Names.{Option, Result, IfOk, Appends, Every, Rose, Entry, Take, Crash, Down, Tick, Stop, AppendsFront, Ends, EndsIfAny, GotLine, Sinking, sinking, ◌≡◌, ◌<◌, ◌^◌, ℕ, List, [], ◌∷◌, inl, inr, Ok, Err, subst, arith, OnOk, OnErr, Go, Learn, Hear, Gate, TellsText}
 use Rattle.run_rounds.specs.Clocked.{tick_moments}
 use Rattle.run_rounds.specs.Replays.{IsMoment}
 

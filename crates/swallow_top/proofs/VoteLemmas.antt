@@ -1,5 +1,5 @@
 -- What votes over the shelf's media come to is what is promised of them.
-use Rattle.swallow_top.proofs.Names.{length-map, Rose, Trace, AreBack, Media, Account, no_trace, AllKept, ShelfSight, Kept, all-kept, Options, VoteEnd, Told, PollLine, HasNoRun, AskedNothing, HavePolled, TellsVotes, limits_of, tellers_of, votes_status, EndsIfAny, Sinking, ◌≡◌, ◌⊎◌, ◌≤◌, inl, inr, ℕ, IsTrue, List, [], length, map, refl, sym, ap, subst, ◌∙◌, arith, AreFew, tick_count}
+use Rattle.swallow_top.proofs.Names.{length-map, Rose, Trace, AreBack, Media, Account, no_trace, AllKept, ShelfSight, Kept, all-kept, Options, VoteEnd, Told, PollLine, HasNoRun, AskedNothing, HavePolled, TellsVotes, limits_of, tellers_of, votes_status, EndsIfAny, Sinking, ◌≡◌, ◌⊎◌, ◌≤◌, inl, inr, ℕ, IsTrue, List, length, sym, ap, subst, ◌∙◌, arith, AreFew, tick_count}
 use Rattle.votes_command.specs.VoteEnd.TheVariants.{NoMemory}
 use Rattle.votes_command.specs.Ends.{EndsAs}
 use Rattle.votes_command.specs.MemberMedia.{MemberMedia}

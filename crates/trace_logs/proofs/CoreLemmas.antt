@@ -4,7 +4,6 @@ use Rattle.std.specs.declared.alloc.AllocError.{AllocError}
 use Rattle.message_form.specs.declared.turns.Turn.{Turn}
 use Rattle.object_history.specs.declared.marks.Mark.{Mark}
 use Rattle.object_history.specs.declared.steps.HistoryFault.{HistoryFault}
-use Rattle.object_history.specs.declared.steps.HistoryFault.TheVariants as fault
 use Rattle.repository_core.specs.Cores.{Core, given}
 use Rattle.repository_core.specs.Turns as turns
 use Rattle.broker_core.specs.Brokers.{Gives, turn_of}

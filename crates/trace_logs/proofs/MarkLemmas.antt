@@ -1,5 +1,5 @@
 -- What a log adds to histories, in either direction.
-use Rattle.trace_logs.proofs.Names.{is_some, get_or, take_more, StampParts, same_stamp, Effect, ◌≡◌, ◌≢◌, ◌⊎◌, ◌<◌, ◌+◌, ℕ, zero, suc, Bool, true, false, ◌||◌, List, [], ◌∷◌, ◌++◌, take, length, reverse, refl, sym, ap, ◌∙◌, inl, inr, Option, Some, None, arith, if◌then◌else◌, reverse-append, append_assoc}
+use Rattle.trace_logs.proofs.Names.{get_or, take_more, StampParts, same_stamp, Effect, ◌≡◌, ◌≢◌, ◌⊎◌, ◌<◌, ◌+◌, ℕ, zero, suc, Bool, true, false, ◌||◌, List, [], ◌∷◌, ◌++◌, take, length, reverse, refl, sym, ap, ◌∙◌, inl, inr, arith, reverse-append}
 use Rattle.pseudo_time.specs.declared.decisions.Decision.{Decision}
 use Rattle.effect_form.specs.declared.effects.Effect.TheVariants.{Put, Stretch, Begin, Decide, Learn, Run, Act, Try, Got, Acked, End, Mark, Whole}
 use Rattle.repository_log.specs.Logs.{knows}

@@ -26,7 +26,7 @@ pub use Rattle.script_form.specs.RowTexts.{script_text}
 pub use Rattle.serial_model.specs.Questions.{Tree, denote}
 pub use Rattle.std.proofs.Common.{Bool, Err, List, None, Ok, Option, Result, Some, [], ap, arith, cond, drop, false, if◌then◌else◌, inl, inr, length, map, not, refl, reverse, rules, slice_get, subst, suc, sym, take, true, zero, ℕ, ◌&&◌, ◌++◌, ◌+◌, ◌<◌, ◌==◌, ◌^◌, ◌||◌, ◌∙◌, ◌∷◌, ◌≡◌, ◌≢◌, ◌≤◌, ◌⊎◌}
 pub use Rattle.std.proofs.Math.ListN.{get_or, set}
-pub use Rattle.std.proofs.lemmas.List.{append-nil, append_assoc, length-append, map-append, reverse-append, take-append-drop, take_all, take_more}
+pub use Rattle.std.proofs.lemmas.List.{append-nil, length-append, map-append, reverse-append, take-append-drop, take_all, take_more}
 pub use Rattle.std.proofs.lemmas.List.Sums.{sum_by-append, sum_by-cons}
 pub use Rattle.std.specs.List.{count_by, filter}
 pub use Rattle.std.specs.Option.{option_map, unwrap_or}

@@ -1,5 +1,5 @@
 -- Lists of which the last element is changed.
-use Rattle.trace_report.proofs.Names.{reverse-append, map-append, Answered, BegunAct, BegunTry, ActParts, kept, kept_act, kept_try, answer_of, answers_of, ◌≡◌, List, [], ◌∷◌, ◌++◌, map, sym, ◌∙◌, ap, TryParts, kept_tries}
+use Rattle.trace_report.proofs.Names.{reverse-append, BegunAct, ActParts, kept, kept_act, ◌≡◌, List, [], ◌∷◌, ◌++◌, map, sym, ◌∙◌, ap}
 
 pub kept-more : (old new : List BegunAct) (a : BegunAct) → new ≡ old ++ a ∷ [] → kept new ≡ kept_act a ∷ kept old
 kept-more old new a is = ap kept is ∙ ap (map kept_act) (reverse-append old (a ∷ []))

@@ -1,5 +1,5 @@
 -- Which attempts are committed, by what the log of each repository says first.
-use Rattle.trace_report.proofs.Names.{slice_get, cond-true, cond-false, NodeId, repository, StampParts, Effect, RunLogs, committed, has_commit, has_learned, Opened, AreDecided, AreEach, learned_in_some, said_at, Said, AreFirsts, is_decided, is_learned, logs_by, ◌≡◌, ℕ, zero, suc, ◌+◌, ◌≤◌, ◌<◌, Bool, true, false, List, [], ◌∷◌, ◌++◌, length, reverse, refl, sym, ◌∙◌, ap, subst, Option, Some, None, ◌&&◌, ◌||◌, if◌then◌else◌, arith, nat_le, common_steps, length-append, in_run, log_of, some_of}
+use Rattle.trace_report.proofs.Names.{slice_get, cond-true, cond-false, NodeId, repository, StampParts, Effect, RunLogs, committed, has_commit, has_learned, Opened, AreDecided, AreEach, learned_in_some, said_at, Said, AreFirsts, is_decided, is_learned, logs_by, ◌≡◌, ℕ, zero, suc, ◌+◌, ◌≤◌, ◌<◌, Bool, true, false, List, [], ◌∷◌, ◌++◌, length, reverse, refl, sym, ◌∙◌, ap, subst, Option, Some, None, ◌&&◌, ◌||◌, arith, nat_le, common_steps, length-append, in_run, log_of, some_of}
 use Rattle.std.specs.FinMap as finite
 use Rattle.trace_report.proofs.FirstLemmas.{commit-is, learned-is}
 

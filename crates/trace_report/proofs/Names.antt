@@ -48,7 +48,7 @@ pub use Rattle.std.specs.Ordering.{is_eq, nat_cmp}
 pub use Rattle.std.specs.Prelude.{IfOk, codes, nat_le, pos, ◌-◌}
 pub use Rattle.trace_logs.specs.Replays.{base_for, logs_in}
 pub use Rattle.trace_report.specs.Acts.{act_begun, act_shown, acts_in, acts_shown, begun_acts, counted_by, shown_end, spent_at, tasks_of, tries_shown, try_shown}
-pub use Rattle.trace_report.specs.Begun.{ActParts, TryParts, act_parts, closed, ended, entered, gained, kept, kept_act, kept_tries, kept_try, on_first, on_last, spent_by, tried, try_parts}
+pub use Rattle.trace_report.specs.Begun.{ActParts, act_parts, closed, ended, entered, gained, kept, kept_act, kept_try, on_first, on_last, spent_by, tried, try_parts}
 pub use Rattle.trace_report.specs.Books.{begun_last, begun_to, entered_if, read_off}
 pub use Rattle.trace_report.specs.Decided.{AreDecided, AreEach, learned_in_some, said_at}
 pub use Rattle.trace_report.specs.Downs.{cause_of, fallen, nodes_of_kind, shown}

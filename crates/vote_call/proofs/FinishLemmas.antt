@@ -1,5 +1,5 @@
 -- What a run of votes comes to, once it is over.
-use Rattle.vote_call.proofs.Names.{Option, Some, None, Ok, Err, Result, ◌⊎◌, cond, OnOk, slice_get, IsTrue, unwrap_or, append-nil, same_Some, slice_get_within, DownCause, NodeId, RoseBy, Asked, StaysClean, storage, PollState, member, Line, MemberNumber, First, Second, Third, Entry, Down, own, tick_moments, Media, HasOpened, IsAsItWas, Opening, down_cause, costs, PollLine, Base, Hall, log_at, start_hall, walk_from, WasNotOpened, base_of, CourierParts, Tells, hall_of, trace_of, never-false, Fares, ShutAs, KeepsWhole, Lasts, Sits, SitsUp, Members, Seat, Up, Fallen, Wanting, out-stays, Grows, clean-same, grows-same, AreKept, HaveOpened, medium_of, lines_of, polls_from, BeginsOver, BegunFor, HasBegun, LastFor, Openings, MemberMedia, ◌≡◌, ℕ, zero, suc, ◌+◌, ◌<◌, ◌≤◌, ◌^◌, Bool, true, false, List, [], ◌∷◌, ◌++◌, length, map, take, inl, inr, refl, sym, ap, subst, ◌∙◌, arith, IsOk, is_err, is_some, max, Rose, filling, held, Member, Take, Go, Learn, Hear, Gate, Crash, Tick, fates_of, IsUntouched, IsShutFor, is_tick, tick_count, step, Legal, Meets, AllFare, FareOn, FellLater, AllLast, HasLonger, LosesNothing, medium_in, PollsAre, ShowsCause, SitsDown, SitsFallen, out-down, was-opened, given_back, handed_back, IsKeptBack, standing_from, standings_of}
+use Rattle.vote_call.proofs.Names.{Option, Some, None, Ok, Err, Result, ◌⊎◌, cond, OnOk, slice_get, IsTrue, unwrap_or, append-nil, same_Some, slice_get_within, DownCause, NodeId, RoseBy, Asked, StaysClean, storage, PollState, member, Line, MemberNumber, First, Second, Third, Entry, Down, own, tick_moments, Media, HasOpened, IsAsItWas, Opening, down_cause, costs, PollLine, Base, Hall, log_at, start_hall, walk_from, WasNotOpened, base_of, CourierParts, Tells, hall_of, trace_of, never-false, Fares, ShutAs, KeepsWhole, Lasts, Sits, SitsUp, Members, Seat, Up, Fallen, Wanting, out-stays, Grows, clean-same, grows-same, AreKept, HaveOpened, medium_of, lines_of, polls_from, BeginsOver, BegunFor, HasBegun, LastFor, Openings, MemberMedia, ◌≡◌, ℕ, zero, suc, ◌+◌, ◌<◌, ◌≤◌, ◌^◌, Bool, true, false, List, [], ◌∷◌, ◌++◌, length, map, take, inl, inr, refl, sym, ap, subst, ◌∙◌, arith, IsOk, is_some, max, Rose, filling, held, Member, Take, Go, Learn, Hear, Gate, Crash, Tick, fates_of, IsUntouched, IsShutFor, is_tick, tick_count, step, Legal, Meets, AllFare, FareOn, FellLater, AllLast, HasLonger, LosesNothing, medium_in, PollsAre, ShowsCause, SitsDown, SitsFallen, out-down, was-opened, given_back, handed_back, IsKeptBack, standing_from, standings_of}
 use Rattle.std.specs.List.{count_by, list_all}
 use Rattle.std.proofs.lemmas.Bool.{and_parts}
 use Rattle.std.proofs.lemmas.List.Sums.{sum_by-cons}

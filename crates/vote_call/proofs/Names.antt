@@ -11,7 +11,7 @@ pub use Rattle.std.proofs.lemmas.Bool.Decides.{nat_tests}
 pub use Rattle.std.proofs.lemmas.List.{append-nil}
 pub use Rattle.std.proofs.lemmas.Option.{same_Some, slice_get_within}
 pub use Rattle.std.specs.Option.{unwrap_or}
-pub use Rattle.std.specs.Prelude.{Err, IsOk, IsTrue, None, Ok, OnOk, Option, Result, Some, cond, if◌then◌else◌, is_err, is_some, max, nat_lt, not, slice_get, ◌⊎◌}
+pub use Rattle.std.specs.Prelude.{Err, IsOk, IsTrue, None, Ok, OnOk, Option, Result, Some, cond, if◌then◌else◌, is_some, max, nat_lt, not, slice_get, ◌⊎◌}
 pub use Rattle.stream_port.specs.Causes.{Rose, RoseBy}
 pub use Rattle.stream_port.specs.declared.fates.Asked.{Asked}
 pub use Rattle.version_store.specs.Filling.{KeepsPages, StaysClean, filling}

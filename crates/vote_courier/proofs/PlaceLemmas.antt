@@ -1,5 +1,5 @@
 -- What an entry of a node changes, and that turns of polls keep the trace legal.
-use Rattle.vote_courier.proofs.Names.{◌≡◌, ℕ, suc, ◌+◌, Bool, true, false, List, [], ◌∷◌, ◌++◌, map, inl, inr, refl, sym, ap, subst, ◌∙◌, append_assoc, Option, Some, None, ◌&&◌, ◌⊎◌, not, cond, is_some, if◌then◌else◌, append-nil, map-append, broker, is_broker, same_node, DownCause, NodeId, Out, Post, Asked, Arrival, state_of, numbered, Line, Member, Entry, Take, Go, Learn, Hear, Gate, Crash, Down, Tick, Opened, Sent, HasGone, asked_of, is_behind, post_of, Flags, Sending, flagged, has_heard, heard_after, last_after, names, own, ticks_after, with_due, is-copy, numbered-from, Base, Hall, member_on, owed_on, poll_heard, poll_on, poll_took, step, walk, world_of, base_of, hall_after, walk-more, CourierParts, HasSent, Takes, with_entry, MayAct, Stands, hall_of, trace_of}
+use Rattle.vote_courier.proofs.Names.{◌≡◌, ℕ, ◌+◌, Bool, true, false, List, [], ◌∷◌, ◌++◌, map, inl, inr, refl, sym, ap, subst, ◌∙◌, append_assoc, Option, Some, None, ◌&&◌, not, cond, is_some, if◌then◌else◌, append-nil, map-append, broker, same_node, DownCause, NodeId, Out, Post, Asked, Arrival, state_of, numbered, Line, Entry, Take, Go, Learn, Hear, Gate, Crash, Down, Tick, Sent, asked_of, is_behind, Flags, Sending, flagged, has_heard, heard_after, last_after, names, own, ticks_after, with_due, is-copy, numbered-from, Base, Hall, member_on, owed_on, poll_heard, poll_on, poll_took, step, walk, world_of, base_of, walk-more, CourierParts, HasSent, Takes, with_entry, Stands, hall_of, trace_of}
 use Rattle.std.proofs.lemmas.List.Elements.{filter-append}
 use Rattle.message_core.proofs.NodeLemmas.{same_node-refl}
 use Rattle.record_votes.specs.declared.member_numbers.MemberNumber.{MemberNumber}
@@ -7,7 +7,7 @@ use Rattle.record_votes.specs.Polls.{PollState, PollGiven, member, poll_goes, po
 use Rattle.vote_wire.specs.Clocked.{IsClocked, tick_moments}
 use Rattle.vote_wire.proofs.MomentLemmas.{clocked-still}
 use Rattle.vote_wire.proofs.QuietLemmas.{behind-parts}
-use Rattle.vote_courier.specs.Places.{IsReady, PollIsAt, PollIsNew, PollOwes, OnlyChanges, Tells, Adds, Keeps}
+use Rattle.vote_courier.specs.Places.{PollIsAt, PollIsNew, PollOwes, OnlyChanges, Tells, Adds, Keeps}
 use Rattle.vote_courier.specs.Turns.{Goes, HearsTick, TookCopy, FoundNone, PollTurns}
 use Rattle.vote_courier.proofs.StationLemmas.{takes-legal, notes-legal, gates-legal}
 

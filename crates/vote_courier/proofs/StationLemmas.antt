@@ -1,5 +1,5 @@
 -- Each call of a courier keeps its trace a legal vote trace.
-use Rattle.vote_courier.proofs.Names.{◌≡◌, ℕ, suc, ◌+◌, ◌<◌, ◌≤◌, ◌^◌, Bool, true, false, List, [], ◌∷◌, ◌++◌, map, length, refl, sym, ap, subst, ◌∙◌, arith, Option, Some, None, ◌&&◌, ◌||◌, is_some, max, min, if◌then◌else◌, append-nil, map-append, same_node, DownCause, NodeId, Out, Post, posts, Asked, Arrival, AllEmpty, passed, taken, was_shut, state_of, blank_tally, Line, Entry, Take, Go, Learn, Hear, Gate, Crash, Down, Tick, Opened, Sent, MayTick, Numbered, fates_of, post_of, asked_of, Flags, Sending, flagged, names, opened_log, sent_by, last_after, front-cons, Base, Hall, leaving, start_hall, step, walk_from, walk, world_of, JustVoters, Legal, Rule, base_of, hall_after, walk-more, begins-legal, goes-on, CourierParts, HasSent, IsNew, Takes, tick_moment, with_entry, MayAct, Stands, hall_of, owes, trace_of}
+use Rattle.vote_courier.proofs.Names.{◌≡◌, ℕ, ◌+◌, ◌<◌, ◌≤◌, ◌^◌, Bool, true, false, List, [], ◌∷◌, ◌++◌, map, length, refl, sym, ap, subst, ◌∙◌, arith, Option, Some, None, ◌&&◌, ◌||◌, is_some, max, min, if◌then◌else◌, append-nil, map-append, same_node, DownCause, NodeId, Out, Post, posts, Asked, Arrival, AllEmpty, passed, taken, was_shut, state_of, blank_tally, Line, Entry, Take, Go, Learn, Hear, Gate, Crash, Down, Tick, Opened, Sent, Numbered, fates_of, post_of, asked_of, Flags, Sending, flagged, names, opened_log, sent_by, last_after, front-cons, Base, Hall, leaving, start_hall, step, walk_from, walk, world_of, JustVoters, Legal, Rule, base_of, hall_after, walk-more, begins-legal, goes-on, CourierParts, HasSent, IsNew, Takes, tick_moment, with_entry, MayAct, Stands, hall_of, owes, trace_of}
 use Rattle.std.specs.List.{list_any}
 use Rattle.std.specs.Option.{unwrap_or}
 use Rattle.pseudo_time.specs.declared.nodes.NodeKind.{NodeKind}

@@ -4,7 +4,6 @@ use Rattle.std.specs.Option.{unwrap_or}
 use Rattle.pseudo_time.proofs.ListLemmas.{has-left}
 use Rattle.pseudo_time.specs.StampParts.{StampParts}
 use Rattle.effect_form.specs.declared.effects.Effect.TheVariants as effect
-use Rattle.medium_port.specs.Image.{Image}
 use Rattle.message_core.specs.Tallies.{numbered}
 use Rattle.vote_law.specs.Causes.{HaveCauses}
 use Rattle.vote_law.specs.Replays.{TwoDecided}

@@ -1,7 +1,7 @@
 -- Votes over sound media come to their decisions without a Tick.
-use Rattle.vote_promise.proofs.Names.{◌≡◌, ◌≢◌, ℕ, zero, suc, ◌+◌, ◌*◌, ◌≤◌, ◌<◌, Bool, true, false, List, [], ◌∷◌, ◌++◌, Ok, Err, map, length, inl, inr, refl, sym, ap, subst, ◌∙◌, arith, ◌⊎◌, ◌==◌, ◌&&◌, Option, Some, None, Result, is_some, not, nat_le, cond, IsTrue, if◌then◌else◌, append-nil, append_assoc, length-append, length-map, Every, repository, is_broker, same_node, DownCause, NodeId, Effect, Asked, Fate, same_is, same_node-refl, MemberNumber, member, voter_at, Line, Member, all_effects, Media, Entry, Take, Go, Learn, Hear, Gate, Crash, Down, Tick, Trace, Idle, fates_of, is_within, post_of, Flags, Sending, flagged, is_down, names, own, Base, Hall, log_at, member_on, start_hall, step, walk, walk_from, world_of, IsOfDowns, Legal, Meets, Rule, WasNotOpened, base_of, hall_after, is_node, at-if, flagged-up, meets-parts, walk-append, AllHold, AreCounted, AreDownFor, AreSound, Became, Completes, HasEnded, HasRunOut, IsSmooth, IsSound, KeepsLog, RestoresLogs, gated_log, open_effects}
+use Rattle.vote_promise.proofs.Names.{◌≡◌, ◌≢◌, ℕ, zero, suc, ◌+◌, ◌*◌, ◌≤◌, ◌<◌, Bool, true, false, List, [], ◌∷◌, ◌++◌, Ok, Err, map, length, inl, inr, refl, sym, ap, subst, ◌∙◌, arith, ◌⊎◌, ◌&&◌, Option, Some, None, Result, not, nat_le, cond, IsTrue, if◌then◌else◌, append-nil, length-map, Every, repository, is_broker, same_node, DownCause, NodeId, Effect, Asked, Fate, same_is, same_node-refl, MemberNumber, member, Line, Member, all_effects, Media, Entry, Take, Go, Learn, Hear, Gate, Crash, Down, Tick, Trace, fates_of, is_within, post_of, Flags, Sending, flagged, is_down, names, own, Base, Hall, log_at, member_on, start_hall, step, walk, walk_from, IsOfDowns, Legal, Meets, Rule, WasNotOpened, base_of, hall_after, is_node, at-if, flagged-up, meets-parts, walk-append, AllHold, AreCounted, AreDownFor, AreSound, HasEnded, HasRunOut, IsSmooth, IsSound, KeepsLog, RestoresLogs, gated_log, open_effects}
 use Rattle.std.specs.List.{count_by}
-use Rattle.std.proofs.lemmas.Bool.{and_parts, cond-true, le-leb}
+use Rattle.std.proofs.lemmas.Bool.{and_parts, cond-true}
 use Rattle.std.proofs.lemmas.Bool.Decides.{nat_tests}
 use Rattle.std.proofs.lemmas.List.Sums.{sum_by-cons}
 use Rattle.pseudo_time.specs.declared.decisions.Decision.TheVariants as decision
@@ -10,18 +10,16 @@ use Rattle.pseudo_time.specs.declared.nodes.NodeKind.{NodeKind}
 use Rattle.pseudo_time.specs.declared.nodes.NodeKind.TheVariants as kind
 use Rattle.effect_form.specs.declared.effects.Effect.TheVariants as effect
 use Rattle.effect_form.specs.Effects.{size_of}
-use Rattle.stream_port.specs.Causes.{Rose, RoseBy, rise_of_fewer}
-use Rattle.version_store.specs.Filling.{filling, full_pages, own_pages, pages_apart}
+use Rattle.stream_port.specs.Causes.{RoseBy, rise_of_fewer}
+use Rattle.version_store.specs.Filling.{full_pages, own_pages, pages_apart}
 use Rattle.version_store.specs.Storage.{storage}
 use Rattle.version_store.proofs.FillingLemmas.{filling-apart}
 use Rattle.page_gate.specs.States.{is_blank}
 use Rattle.record_votes.specs.declared.member_numbers.MemberNumber.TheVariants.{First, Second, Third}
-use Rattle.record_votes.proofs.PollLemmas.{voter-member}
-use Rattle.world_core.specs.declared.traces.Sent.{Sent}
 use Rattle.world_core.specs.Counts.{down_cause, is_crash, is_tick, tick_count}
-use Rattle.vote_members.specs.Closings.{Grows, HasGrown}
+use Rattle.vote_members.specs.Closings.{HasGrown}
 use Rattle.vote_members.specs.Costs.{cost_of, costs}
-use Rattle.vote_law.specs.Smooth.{AreVotes, HasQuorum, HoldAll, IsCalm, IsFit, IsPlain, TicksForPolls, WishAlike, is_vote_effect}
+use Rattle.vote_law.specs.Smooth.{AreVotes, HasQuorum, IsCalm, IsFit, IsPlain, is_vote_effect}
 use Rattle.vote_law.proofs.LawLemmas.{all-quiet, all-still, few-letters, idle-holds, short-logs, votes-alone}
 use Rattle.run_media.proofs.BlankImageLemmas.{blank-count, blank-none}
 use Rattle.vote_promise.proofs.ClauseLemmas.{clash, some-one, unopened-from}

@@ -1,5 +1,5 @@
 -- Rounds, Ticks and idle places.
-use Rattle.vote_run.proofs.Names.{broker, repository, NodeId, NodeKind, Repository, Broker, state_of, MemberNumber, First, Second, Third, PollState, member, Line, Entry, Take, Go, Learn, Hear, Gate, Crash, Down, Tick, is_behind, is_within, Flags, names, opened_log, Media, Base, Hall, world_of, down_cause, WasNotOpened, base_of, most_of, CourierParts, tick_moment, hall_of, trace_of, Adds, IsReady, PollIsAt, and-false, never-false, Between, Follows, HasCome, HasGoneRound, HaveSat, MayAllTurn, all_late, is_member, late, PollsAre, PollsTurned, is_poll, Sits, Limits, Next, Over, Round, Ticked, Members, Seat, Up, Fallen, Wanting, ◌≡◌, ℕ, zero, suc, ◌+◌, ◌<◌, ◌≤◌, Bool, true, false, List, [], ◌∷◌, ◌++◌, map, length, inl, inr, refl, sym, ap, subst, ◌∙◌, arith, Option, Some, None, ◌⊎◌, ◌&&◌, not, is_some, nat_le, nat_lt, slice_get, is_err, IfOk, OnOk, Result, Ok, Err, unwrap_or, and_parts, append-nil, nat_tests, slice_get_within, AllEmpty, held, Idle, asked_of, fates_of, flagged, not-behind, start_hall, step, walk, walk_from, Tells, ticks-legal, adds-join, adds-still, there, HasEnded, HasTicked, IsOver, TicksAreWanted, all_held, any_node, MayTurn, is_late, some_late}
+use Rattle.vote_run.proofs.Names.{broker, repository, NodeId, NodeKind, Repository, Broker, state_of, MemberNumber, First, Second, Third, PollState, member, Line, Entry, Take, Go, Learn, Hear, Gate, Crash, Down, Tick, is_behind, is_within, Flags, names, opened_log, Media, Base, Hall, world_of, down_cause, WasNotOpened, base_of, most_of, CourierParts, tick_moment, hall_of, trace_of, Adds, IsReady, PollIsAt, and-false, never-false, Between, Follows, HasCome, HasGoneRound, HaveSat, all_late, is_member, late, PollsAre, PollsTurned, is_poll, Sits, Limits, Next, Over, Round, Ticked, Members, Seat, Up, Fallen, Wanting, ◌≡◌, ℕ, zero, suc, ◌+◌, ◌<◌, ◌≤◌, Bool, true, false, List, [], ◌∷◌, ◌++◌, map, length, inl, inr, refl, sym, ap, subst, ◌∙◌, arith, Option, Some, None, ◌⊎◌, ◌&&◌, not, is_some, nat_le, nat_lt, slice_get, is_err, IfOk, OnOk, Result, Ok, Err, unwrap_or, and_parts, append-nil, nat_tests, slice_get_within, AllEmpty, held, Idle, asked_of, fates_of, flagged, not-behind, start_hall, step, walk, walk_from, Tells, ticks-legal, adds-join, adds-still, there, HasEnded, HasTicked, IsOver, TicksAreWanted, all_held, any_node, MayTurn, is_late, some_late}
 use Rattle.stream_port.specs.declared.fates.Asked.{Asked}
 use Rattle.vote_courier.specs.Clocked.{IsClocked, tick_moments}
 use Rattle.vote_courier.proofs.MomentLemmas.{clocked-tick, latest}

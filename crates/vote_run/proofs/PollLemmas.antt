@@ -1,6 +1,6 @@
 -- Turns of polls, one after the other.
 use Rattle.std.proofs.Math.ListN.{get_or, set}
-use Rattle.vote_run.proofs.Names.{broker, is_broker, same_node, NodeId, NodeKind, Repository, Broker, Out, PollState, Line, Entry, Gate, Go, Hear, Take, Flags, names, Hall, CourierParts, HasSent, with_entry, Stands, hall_of, IsReady, OnlyChanges, PollIsAt, keeps-join, keeps-still, keeps-wider, never-false, Lengthens, PollsAre, PollsGo, PollsTurned, PollsWent, is_poll, ◌≡◌, ◌≢◌, ℕ, zero, suc, ◌+◌, ◌<◌, Bool, true, false, List, [], ◌∷◌, ◌++◌, length, inl, inr, refl, sym, ap, subst, ◌∙◌, arith, Some, ◌&&◌, ◌⊎◌, not, is_some, nat_lt, slice_get, OnOk, Result, Ok, Err, slice_get-get_or, nat_tests, poll_goes, poll_hears, poll_takes, PollIsNew, goes-kept, turns-kept}
+use Rattle.vote_run.proofs.Names.{broker, is_broker, same_node, NodeId, NodeKind, Repository, Broker, Out, PollState, Line, Entry, Gate, Go, Hear, Take, Flags, names, Hall, CourierParts, HasSent, with_entry, Stands, hall_of, IsReady, OnlyChanges, PollIsAt, keeps-join, keeps-still, keeps-wider, never-false, Lengthens, PollsGo, PollsTurned, PollsWent, is_poll, ◌≡◌, ◌≢◌, ℕ, zero, suc, ◌+◌, ◌<◌, Bool, true, false, List, [], ◌∷◌, ◌++◌, length, inl, inr, refl, sym, ap, subst, ◌∙◌, arith, Some, ◌&&◌, ◌⊎◌, not, is_some, nat_lt, slice_get, OnOk, Result, Ok, Err, slice_get-get_or, nat_tests, poll_goes, poll_hears, poll_takes, PollIsNew, goes-kept, turns-kept}
 use Rattle.vote_courier.specs.Turns.{Goes, PollTurns}
 use Rattle.vote_run.proofs.EntryLemmas.{lengthens-join, lengthens-one, lengthens-still}
 

@@ -2,7 +2,7 @@
 use Rattle.std.specs.List.{filter}
 use Rattle.std.specs.Option.{unwrap_or}
 use Rattle.std.proofs.lemmas.Bool.Decides.{nat_tests}
-use Rattle.vote_traces.proofs.Names.{Has, has-left, has-right, repository, broker, is_broker, same_stamp, NodeId, NodeKind, Message, Out, Post, posts, numbered, Asked, Fate, first_begin, decision_of, MemberNumber, First, Second, Third, on_message, member, voter_at, voter_of, PollState, held, poll_goes, poll_hears, poll_takes, Member, Line, took, heard, shut, crashed, Entry, Take, Go, Learn, Hear, Gate, Crash, Down, Tick, Trace, fates_of, Sending, names, Base, Hall, line_at, log_at, start_hall, world_of, member_took, member_heard, poll_took, poll_heard, voter_life, step, walk_from, Rule, Meets, Legal, base_of, hall_after, ◌≡◌, ℕ, zero, suc, ◌+◌, ◌≤◌, Bool, true, false, List, [], ◌∷◌, ◌++◌, map, take, drop, length, inl, inr, refl, sym, ap, subst, ◌∙◌, arith, Option, Some, None, ◌==◌, ◌&&◌, ◌⊎◌, is_some, nat_le, reverse, cond, if◌then◌else◌, and_parts, le-leb, append-nil, append_assoc, reverse-append, take-append-drop, Every, every-append, same_node, first_said, begun_by, record_from, record_of, begun, own, book, quiet, owed, begin_by, close_by, row, on_moment, decides, Given, PollGiven, ballot, with_ballot, to_member, wish_for, outstanding, asked, asked_again, unless_held, begin_to, begun_heard, vote_heard, heard_from, heard_by, ignored, all_effects, is_within, Flags, opened_log, flagged, last_after, no_line, member_on, poll_on, owed_on, life_of, leaving, is_node}
+use Rattle.vote_traces.proofs.Names.{Has, has-left, has-right, broker, is_broker, same_stamp, NodeId, NodeKind, Message, Out, Post, posts, numbered, Asked, Fate, first_begin, decision_of, MemberNumber, First, Second, Third, on_message, member, voter_at, voter_of, PollState, held, poll_goes, poll_hears, poll_takes, Member, Line, shut, crashed, Entry, Take, Go, Learn, Hear, Gate, Crash, Down, Tick, Trace, fates_of, Sending, names, Base, Hall, line_at, log_at, start_hall, member_took, member_heard, poll_took, poll_heard, voter_life, step, walk_from, Rule, Meets, Legal, base_of, hall_after, ◌≡◌, ℕ, zero, suc, ◌+◌, ◌≤◌, Bool, true, false, List, [], ◌∷◌, ◌++◌, map, take, drop, length, inl, refl, sym, ap, subst, ◌∙◌, arith, Option, Some, None, ◌&&◌, is_some, nat_le, reverse, cond, if◌then◌else◌, and_parts, le-leb, append-nil, append_assoc, reverse-append, take-append-drop, Every, every-append, same_node, first_said, begun_by, record_from, record_of, begun, own, book, quiet, owed, begin_by, close_by, row, on_moment, decides, Given, PollGiven, ballot, with_ballot, wish_for, outstanding, asked, asked_again, unless_held, begin_to, begun_heard, vote_heard, heard_from, heard_by, ignored, all_effects, is_within, Flags, opened_log, flagged, last_after, no_line, member_on, poll_on, owed_on, life_of, leaving}
 use Rattle.pseudo_time.specs.StampParts.{StampParts}
 use Rattle.pseudo_time.specs.declared.decisions.Decision.{Decision}
 use Rattle.pseudo_time.specs.declared.decisions.Decision.TheVariants as decision

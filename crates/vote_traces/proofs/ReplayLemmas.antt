@@ -1,6 +1,6 @@
 -- A legal vote trace is a run of the world of votes, in which a poll's messages are sent when it owes them.
 use Rattle.std.proofs.Math.Path.{fun_ext}
-use Rattle.vote_traces.proofs.Names.{Has, has-left, has-right, repository, broker, is_broker, NodeId, NodeKind, Message, Out, Post, posts, numbered, Fate, MemberNumber, First, Second, Third, member, voter_at, voter_of, PollState, poll_goes, poll_hears, poll_takes, held, Member, took, heard, shut, crashed, Line, Entry, Take, Go, Learn, Hear, Gate, Crash, Down, Tick, Sending, names, Base, Hall, line_at, log_at, start_hall, member_took, member_heard, poll_took, poll_heard, voter_life, world_of, step, walk_from, Trace, fates_of, Rule, Meets, Legal, base_of, hall_after, Asked, ◌≡◌, ℕ, zero, suc, Bool, true, false, List, [], ◌∷◌, ◌++◌, map, take, inl, inr, refl, sym, ap, subst, ◌∙◌, Option, Some, None, ◌==◌, if◌then◌else◌, eqb-true, append-nil, has-either, post, number_of, is_same_voter, with_member, with_poll, with_sent, post_at, to_poll, to_voter, delivered_to, delivered, Event, Goes, Delivered, Gates, Crashes, Hears, Polled, Logs, entered, run, ended, left, no_logs, IsDecided}
+use Rattle.vote_traces.proofs.Names.{Has, has-left, has-right, repository, broker, is_broker, NodeId, NodeKind, Out, Post, posts, numbered, Fate, MemberNumber, First, Second, Third, member, voter_at, PollState, poll_goes, poll_hears, poll_takes, held, Member, took, heard, shut, crashed, Line, Entry, Take, Go, Learn, Hear, Gate, Crash, Down, Tick, Sending, Base, Hall, line_at, log_at, start_hall, member_took, member_heard, poll_took, poll_heard, voter_life, step, walk_from, Trace, fates_of, Rule, Meets, Legal, base_of, hall_after, Asked, ◌≡◌, ℕ, zero, suc, Bool, true, false, List, [], ◌∷◌, ◌++◌, map, take, inl, inr, refl, sym, ap, subst, ◌∙◌, Option, Some, None, ◌==◌, if◌then◌else◌, eqb-true, append-nil, has-either, post, number_of, is_same_voter, with_member, with_poll, with_sent, post_at, to_poll, to_voter, delivered, Event, Goes, Delivered, Gates, Crashes, Hears, Polled, Logs, entered, run, ended, left, no_logs, IsDecided}
 use Rattle.pseudo_time.specs.declared.nodes.NodeKind.TheVariants as kind
 use Rattle.record_votes.specs.Voting as voting
 use Rattle.record_votes.proofs.PollLemmas.{voter-member}

@@ -1,6 +1,6 @@
 -- A walk that goes on, and the rules of one entry more.
-use Rattle.std.proofs.Common.{◌≡◌, ℕ, suc, ◌+◌, List, [], ◌∷◌, ◌++◌, map, length, refl, sym, ap, subst, ◌∙◌, append_assoc}
-use Rattle.vote_traces.proofs.Names.{Asked, Fate, Line, Entry, Take, Go, Learn, Hear, Gate, Crash, Down, Tick, Trace, fates_of, Base, Hall, world_of, start_hall, step, walk_from, walk, Rule, Meets, Legal, base_of, append-nil, map-append, sent_by, MayTake, MayTick, Numbered, post_of, asked_of, JustVoters}
+use Rattle.std.proofs.Common.{◌≡◌, ◌+◌, List, [], ◌∷◌, ◌++◌, map, length, refl, sym, ap, subst, ◌∙◌, append_assoc}
+use Rattle.vote_traces.proofs.Names.{Asked, Fate, Line, Entry, Take, Go, Learn, Hear, Gate, Crash, Down, Tick, Trace, fates_of, Base, Hall, world_of, start_hall, step, walk_from, walk, Rule, Meets, Legal, base_of, append-nil, map-append, sent_by, Numbered, post_of, asked_of, JustVoters}
 use Rattle.world_core.specs.declared.traces.Sent.{Sent}
 use Rattle.world_core.proofs.Lists.{numbered-append}
 use Rattle.world_core.proofs.Legality.{numbered-join}

@@ -1,6 +1,6 @@
 -- The copies of a vote trace, entry by entry: what holds of a run's wire holds of it.
-use Rattle.std.proofs.Common.{◌≡◌, ℕ, ◌+◌, Bool, true, false, List, [], ◌∷◌, ◌++◌, map, refl, sym, ap, subst, ◌∙◌}
-use Rattle.std.specs.Prelude.{Some, None, ◌&&◌, is_some, if◌then◌else◌}
+use Rattle.std.proofs.Common.{◌≡◌, ℕ, ◌+◌, Bool, true, false, List, [], ◌∷◌, ◌++◌, map, refl, sym, ap, ◌∙◌}
+use Rattle.std.specs.Prelude.{None, ◌&&◌, is_some, if◌then◌else◌}
 use Rattle.std.proofs.lemmas.List.{map-append}
 use Rattle.pseudo_time.specs.Nodes.{same_node}
 use Rattle.pseudo_time.specs.declared.down_causes.DownCause.{DownCause}
@@ -17,7 +17,7 @@ use Rattle.world_core.specs.Walks as walks
 use Rattle.world_core.specs.Walks.{Sending, World, Flags, flagged, names, opened_flags}
 use Rattle.wire_core.specs.Copies.{IsTied, Marked, posted, all_marked}
 use Rattle.wire_core.specs.Wires.{base_from}
-use Rattle.wire_core.proofs.CopyLemmas.{LeavesCopies, tied-left, tied-take, tied-tick, tied-down}
+use Rattle.wire_core.proofs.CopyLemmas.{tied-left, tied-take, tied-tick, tied-down}
 use Rattle.wire_core.proofs.DueLemmas.{due-front, fate-of, numbered-to, took-all, took-empty}
 use Rattle.wire_core.proofs.QuietLemmas.{not-behind}
 use Rattle.vote_traces.specs.Walks.{Base, Hall, life_of, leaving, start_hall, step, walk_from, walk, world_of}

@@ -1,12 +1,10 @@
 -- The members' media are taken one after another, and handed back.
-use Rattle.std.proofs.Common.{◌≡◌, ◌⊎◌, ◌++◌, inl, inr, ℕ, List, [], ◌∷◌, Option, Some, None, refl, ap, sym, ◌∙◌, arith, append-nil, append_assoc}
+use Rattle.std.proofs.Common.{◌≡◌, inl, inr, ℕ, [], ◌∷◌, Option, Some, None, ap, sym, ◌∙◌, arith}
 use Rattle.pseudo_time.specs.Lists.{Has}
 use Rattle.pseudo_time.specs.Nodes.{repository}
 use Rattle.medium_port.specs.declared.shelves.MediumName.{MediumName}
 use Rattle.run_volumes.specs.Media.{IsUsable, Media}
-use Rattle.run_volumes.specs.Kept.{kept_as, kept_under}
 use Rattle.run_volumes.specs.Shelves.{IsGiven, ShelfSight, TakesOne, WereTaken, volume_name}
-use Rattle.run_volumes.specs.declared.kept.Kept.{Kept}
 use Rattle.run_volumes.proofs.ShelfLemmas.{taken-both, taken-one}
 use Rattle.vote_call.specs.Media.{AreUsable}
 use Rattle.vote_call.specs.declared.member_media.MemberMedia.{MemberMedia}

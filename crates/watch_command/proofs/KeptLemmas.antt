@@ -1,5 +1,5 @@
 -- Each medium that a watch took is handed back.
-use Rattle.watch_command.proofs.Names.{append_assoc, length-map, AllZip-long, Mark, MediumName, Opening, Open, Shut, Wanting, Media, HasOpened, medium_in, Kept, kept_as, kept_under, ShelfSight, first_names, volume_name, Outcome, Rule, totals_volume, ComesTo, StopsBefore, WatchesOver, ◌≡◌, ◌⊎◌, ◌≤◌, ◌<◌, ℕ, zero, suc, List, [], ◌∷◌, ◌++◌, length, length-append, map, refl, sym, ◌∙◌, ap, subst, arith, Option, Some, None, inl, inr, named, AreBack, IsBack, AllKept, all-kept, names-long, back-all}
+use Rattle.watch_command.proofs.Names.{append_assoc, length-map, AllZip-long, Mark, MediumName, Opening, Open, Shut, Wanting, Media, HasOpened, medium_in, Kept, kept_as, kept_under, ShelfSight, first_names, volume_name, Outcome, Rule, totals_volume, ComesTo, StopsBefore, WatchesOver, ◌≡◌, ◌⊎◌, ℕ, List, [], ◌∷◌, ◌++◌, length, map, refl, sym, ◌∙◌, ap, subst, arith, Option, Some, None, inl, inr, named, AreBack, IsBack, AllKept, all-kept, names-long, back-all}
 
 -- ---- one more behind others
 

@@ -1,5 +1,5 @@
 -- The joined marks of logs whose effects are in range are in range.
-use Rattle.watch_command.proofs.Names.{Every, TimeParts, Effect, AreEffects, Mark, floor_of, AreMarks, Opening, Open, Shut, Wanting, Media, Stands, logs_of, ◌≡◌, ℕ, zero, suc, Bool, true, false, List, [], ◌∷◌, ◌++◌, map, filter, reverse, refl, sym, ap, subst, Option, Some, None, if◌then◌else◌, not, reverse-append, IsMark, Complete, archive_of, complete_from, is_complete}
+use Rattle.watch_command.proofs.Names.{Every, TimeParts, Effect, AreEffects, Mark, floor_of, AreMarks, Opening, Open, Shut, Wanting, Media, Stands, logs_of, ◌≡◌, ℕ, suc, Bool, true, false, List, [], ◌∷◌, ◌++◌, map, filter, reverse, sym, subst, Option, None, if◌then◌else◌, not, reverse-append, IsMark, Complete, archive_of, complete_from, is_complete}
 use Rattle.repository_log.specs.Logs.{marks}
 use Rattle.repository_log.proofs.MarkLemmas.{marks-in-range}
 use Rattle.archive_store.specs.Joined.{all_firsts, firsts, is_floor, is_new, joined, last_log, met_after}

@@ -33,7 +33,7 @@ pub use Rattle.run_volumes.specs.Shelves.{ShelfSight, TakesOne, WereTaken, first
 pub use Rattle.run_volumes.specs.Standings.{Stands}
 pub use Rattle.run_volumes.specs.Volumes.{AreOpen, AreVolumes, logs_of}
 pub use Rattle.run_volumes.specs.declared.kept.Kept.{Kept}
-pub use Rattle.std.proofs.Common.{Bool, IsTrue, List, None, Option, Some, [], ap, arith, cond, drop, false, filter, if◌then◌else◌, inl, inr, length, length-append, map, not, pos, refl, reverse, rules, subst, suc, sym, take, true, w64, zero, ℕ, ℤ, ◌&&◌, ◌++◌, ◌<◌, ◌∙◌, ◌∷◌, ◌≡◌, ◌≢◌, ◌≤◌, ◌⊎◌}
+pub use Rattle.std.proofs.Common.{Bool, IsTrue, List, None, Option, Some, [], ap, arith, cond, drop, false, filter, if◌then◌else◌, inl, inr, length, length-append, map, not, pos, refl, reverse, rules, subst, suc, sym, take, true, w64, ℕ, ℤ, ◌&&◌, ◌++◌, ◌<◌, ◌∙◌, ◌∷◌, ◌≡◌, ◌≤◌, ◌⊎◌}
 pub use Rattle.std.proofs.lemmas.Bool.{false≢true, true≢false}
 pub use Rattle.std.proofs.lemmas.List.{append_assoc, length-map, reverse-append}
 pub use Rattle.std.proofs.lemmas.Slice.Zip.{AllZip-long}
@@ -41,6 +41,6 @@ pub use Rattle.std.specs.Prelude.{Err, IfOk, Ok, Result, Vec, codes, is_some}
 pub use Rattle.value_form.specs.ObjectBytes.{IsObject}
 pub use Rattle.value_form.specs.declared.objects.ObjectId.{ObjectId}
 pub use Rattle.version_store.specs.Filling.{HasPrefix, filling}
-pub use Rattle.watch_command.specs.Lines.{down_watch_line, overflow_line, rule_text, total_line, watch_text}
-pub use Rattle.watch_command.specs.Totals.{AreCursors, AreRestored, AreTotals, Cursors, new_puts, next_of, outcome_of, totals_volume}
+pub use Rattle.watch_command.specs.Lines.{down_watch_line, rule_text, total_line, watch_text}
+pub use Rattle.watch_command.specs.Totals.{AreCursors, AreRestored, AreTotals, new_puts, next_of, outcome_of, totals_volume}
 pub use Rattle.watch_command.specs.Watches.{Adds, ComesOf, ComesTo, CutsOff, HasFront, Holds, IsPlain, IsReady, Keeps, RefusesFor, Stops, StopsBefore, TotalsOver, WatchesOver}

@@ -1,6 +1,5 @@
 -- Over marks without a floor no object is refused as retired, and each object that has a total is in range.
 use Rattle.watch_command.proofs.Names.{Result, Ok, Err, is_some, true≢false, false≢true, Every, TimeParts, ObjectId, IsObject, Effect, AreEffects, Mark, same_object, floor_of, AreMarks, same_object-is, WatchFault, Moved, Version, advanced, cursor_of, moved_at, or_before, IsRefusal, if_of, last_total, total_put, Rule, AreTotals, outcome_of, ◌≡◌, ◌⊎◌, ℤ, pos, Bool, true, false, List, [], ◌∷◌, map, filter, refl, sym, ◌∙◌, ap, subst, Option, Some, None, if◌then◌else◌, ◌&&◌, inl, inr, IsEffect, Seen, version_count, same_object-of, and_then, fresh, is_retired, moved_over, moved_to, unless_retired, version_of, total_of, next_of, IsPlain}
-use Rattle.value_form.specs.declared.values.Value.{Value}
 use Rattle.value_form.specs.declared.values.Value.TheVariants.{Nothing, Number, Text}
 use Rattle.effect_form.specs.declared.effects.Effect.TheVariants as effect
 use Rattle.object_history.specs.declared.marks.Mark.TheVariants.{Put, Stretch, Settle, Floor}

@@ -1,10 +1,8 @@
 -- What a watch is given of the totals that a log has.
-use Rattle.watch_command.proofs.Names.{Ok, is_some, true≢false, false≢true, TimeParts, ObjectId, Effect, Mark, same_object, same_object-is, Moved, Version, WatchFault, advanced, IsRefusal, cursor_of, moved_at, or_before, with_moved, if_of, last_total, total_put, AreCursors, AreRestored, ◌≡◌, ℤ, Bool, true, false, cond, List, [], ◌∷◌, length, drop, refl, sym, ◌∙◌, ap, subst, Option, Some, None, if◌then◌else◌, ◌⊎◌, Cursors}
+use Rattle.watch_command.proofs.Names.{is_some, true≢false, false≢true, TimeParts, ObjectId, Effect, Mark, same_object, same_object-is, Moved, Version, advanced, cursor_of, moved_at, or_before, with_moved, if_of, last_total, total_put, AreRestored, ◌≡◌, ℤ, Bool, true, false, cond, List, [], ◌∷◌, length, drop, refl, sym, ◌∙◌, ap, subst, Option, Some, None, if◌then◌else◌}
 use Rattle.std.specs.Ordering.{is_eq}
 use Rattle.value_form.specs.Objects.{object_cmp}
 use Rattle.object_history.proofs.MapLemmas.{found_at, Puts}
-use Rattle.commit_watch.specs.declared.faults.WatchFault.TheVariants as fault
-use Rattle.commit_watch.proofs.ChangeLemmas.{refused-as}
 use Rattle.commit_watch.proofs.ListLemmas.{moved-with}
 
 -- ---- one effect more, at the front

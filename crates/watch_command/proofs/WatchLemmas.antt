@@ -1,16 +1,14 @@
 -- What is written into the volume of totals, and what comes of a watch.
-use Rattle.watch_command.proofs.Names.{Result, Ok, Err, length-map, AllZip-long, Effect, AreEffects, Mark, MediumName, HasPrefix, WatchFault, Moved, IsRefusal, Opening, Open, Shut, Wanting, Media, HasOpened, medium_in, Kept, kept_as, kept_under, ShelfSight, first_names, volume_name, Stands, AreOpen, logs_of, stand-all, joined_marks, Outcome, Rule, AreTotals, new_puts, outcome_of, totals_volume, Adds, ComesTo, Keeps, StopsBefore, WatchesOver, ◌≤◌, arith, length-append, ◌≡◌, ◌≢◌, ◌⊎◌, ◌<◌, ℕ, ℤ, IsTrue, List, [], ◌∷◌, ◌++◌, length, map, reverse, refl, sym, ◌∙◌, ap, subst, Option, Some, None, inl, inr, IfOk, Vec, Has, named, filling, TakesOne, WereTaken, AreVolumes, names-below, taken-both, taken-one, given-back, down_watch_line, overflow_line, watch_text, ComesOf, CutsOff, HasFront, Holds, IsReady, RefusesFor, Stops, TotalsOver}
+use Rattle.watch_command.proofs.Names.{Result, Ok, Err, AllZip-long, Effect, AreEffects, Mark, MediumName, WatchFault, Moved, IsRefusal, Opening, Open, Shut, Media, HasOpened, medium_in, Kept, kept_as, kept_under, ShelfSight, first_names, volume_name, Stands, AreOpen, logs_of, stand-all, joined_marks, Outcome, Rule, AreTotals, new_puts, outcome_of, totals_volume, Adds, ComesTo, Keeps, StopsBefore, WatchesOver, ◌≤◌, arith, length-append, ◌≡◌, ◌⊎◌, ◌<◌, ℕ, ℤ, IsTrue, List, [], ◌∷◌, ◌++◌, length, map, reverse, refl, sym, ◌∙◌, ap, subst, Option, Some, inl, inr, IfOk, Vec, Has, named, filling, TakesOne, WereTaken, AreVolumes, names-below, taken-both, taken-one, given-back, down_watch_line, watch_text, ComesOf, CutsOff, HasFront, Holds, IsReady, RefusesFor, Stops, TotalsOver}
 use Rattle.std.specs.declared.alloc.Global.{Global}
 use Rattle.pseudo_time.specs.declared.nodes.NodeId.{NodeId}
 use Rattle.pseudo_time.specs.declared.down_causes.DownCause.{DownCause}
 use Rattle.pseudo_time.specs.declared.down_causes.DownCause.TheVariants as down
 use Rattle.stream_port.specs.Causes.{Rose}
-use Rattle.medium_port.specs.Image.{Image}
 use Rattle.version_store.specs.declared.stores.Store.{Store}
 use Rattle.version_store.specs.declared.faults.StoreFault.{StoreFault}
 use Rattle.version_store.specs.declared.faults.StoreFault.TheVariants as adding
 use Rattle.version_store.specs.Causes.{down_of}
-use Rattle.version_store.specs.Storage.{storage}
 use Rattle.version_store.specs.StoreWords.{effects_in, left_in, medium_of}
 use Rattle.commit_watch.specs.declared.faults.WatchFault.TheVariants as fault
 use Rattle.run_volumes.proofs.VolumeLemmas.{go-few}

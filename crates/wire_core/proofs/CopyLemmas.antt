@@ -1,5 +1,5 @@
 -- The copies in flight, entry by entry.
-use Rattle.wire_core.proofs.Names.{DownCause, NodeId, NodeKind, Repository, Broker, same_node, Fate, State, waiting, sent, taken, passed, was_shut, count, Entry, Take, Go, Learn, Hear, Gate, Crash, Down, Tick, Sent, Base, World, Flags, names, flagged, flags_after, ticks_after, step, post_of, times_taken, Marked, sent_of, tallied, IsTied, all_marked, ◌≡◌, ℕ, ◌+◌, ◌==◌, Bool, true, false, ◌&&◌, cond, not, List, [], ◌∷◌, ◌++◌, map, take, if◌then◌else◌, refl, sym, ap, ◌∙◌, Option, Some, None, arith, map-append, sent_at_once, sent_later, going_to, letter_of, noted, kept-if, kept-map, kept-sent, gone, tallied_step, taken_after, is_down}
+use Rattle.wire_core.proofs.Names.{DownCause, NodeId, NodeKind, Repository, Broker, same_node, Fate, State, waiting, sent, taken, passed, was_shut, count, Entry, Take, Go, Learn, Hear, Gate, Crash, Down, Tick, Sent, Base, World, Flags, names, flagged, flags_after, ticks_after, step, post_of, times_taken, Marked, sent_of, tallied, IsTied, all_marked, ◌≡◌, ℕ, ◌+◌, ◌==◌, Bool, true, false, ◌&&◌, cond, not, List, [], ◌∷◌, ◌++◌, map, take, if◌then◌else◌, refl, sym, ap, ◌∙◌, Option, Some, None, arith, map-append, sent_at_once, sent_later, letter_of, noted, kept-if, kept-map, kept-sent, gone, tallied_step, taken_after, is_down}
 use Rattle.message_core.specs.declared.letters.Letter.{Letter}
 use Rattle.message_core.specs.Flights as flights
 use Rattle.message_core.proofs.Counting.{count-append}

@@ -3,7 +3,7 @@ pub use Rattle.message_core.proofs.NodeLemmas.{finds_same, found_same, same_is}
 pub use Rattle.message_core.proofs.StayLemmas.{gone, kept-if, kept-map, kept-sent, made}
 pub use Rattle.message_core.proofs.TallyLemmas.{empty-taken, front-due, tallied_start, tallied_step}
 pub use Rattle.message_core.specs.Arrivals.{IsFront}
-pub use Rattle.message_core.specs.Flights.{AllEmpty, State, going_to, passed, sent, sent_at_once, sent_later, start, taken, waiting, was_shut}
+pub use Rattle.message_core.specs.Flights.{AllEmpty, State, passed, sent, sent_at_once, sent_later, start, taken, waiting, was_shut}
 pub use Rattle.message_core.specs.Parts.{FlightParts, state_of}
 pub use Rattle.message_core.specs.Senders.{AllInRange, letter_of}
 pub use Rattle.message_core.specs.Tallies.{IsDue, blank_tally, count, noted}

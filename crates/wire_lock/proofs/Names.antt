@@ -13,7 +13,7 @@ pub use Rattle.std.specs.Prelude.{All, Bool, Err, IfOk, IsTrue, List, None, Ok, 
 pub use Rattle.wire_core.specs.Boards.{IsDecided, MayHold, number_of, owner_for, owner_of, place_of}
 pub use Rattle.wire_core.specs.Wires.{IsRunOf, Origin, WireParts, base_from, trace_of, world_of}
 pub use Rattle.wire_lock.specs.Decisions.{Decided, answer_of, decided_by, decision_in, posted}
-pub use Rattle.wire_lock.specs.Sights.{Added, Gated, HasNoneDue, HasNothingOpen, IsAsBefore, IsIdle, IsLeft, IsOf, IsWirePass, Looked, Owns, Sight, Tested, TicksOn, Visited, base_at, closed, flags_at, life_at, origin_at, origin_in, world_at}
+pub use Rattle.wire_lock.specs.Sights.{Gated, HasNoneDue, HasNothingOpen, IsAsBefore, IsIdle, IsLeft, IsOf, IsWirePass, Looked, Owns, Sight, Tested, TicksOn, Visited, base_at, closed, flags_at, life_at, origin_at, origin_in, world_at}
 pub use Rattle.wire_lock.specs.Stories.{IsUntold, end_of}
 pub use Rattle.world_core.proofs.Lives.{same-life, stands-stays, walk-append, walk-more}
 pub use Rattle.world_core.specs.Legal.{Idle, IsDecidedAs, asked_of, fates_of, is_behind, post_of}

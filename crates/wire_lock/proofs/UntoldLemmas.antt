@@ -1,6 +1,5 @@
 -- What is known of a trace that no one is told.
-use Rattle.wire_lock.proofs.Names.{◌≡◌, Bool, List, ◌++◌, map, IsTrue, Trace, sent_by, Origin, WireParts, trace_of, world_of, end_of, ap, sym, subst, ◌∙◌, post_of, asked_of, IsRunOf, IsUntold}
-use Rattle.stream_port.specs.declared.fates.Asked.{Asked}
+use Rattle.wire_lock.proofs.Names.{◌≡◌, Bool, ◌++◌, map, IsTrue, Trace, sent_by, Origin, WireParts, trace_of, world_of, end_of, ap, sym, subst, ◌∙◌, post_of, asked_of, IsRunOf, IsUntold}
 use Rattle.plan_form.specs.declared.plans.Plan.{Plan}
 use Rattle.world_core.specs.Readings.{IsLegal}
 

@@ -1,5 +1,5 @@
 -- What entries alone decide is the same over any two bases with the same nodes.
-use Rattle.world_core.proofs.Names.{NodeId, same_node, Entry, Take, Go, Learn, Hear, Gate, Crash, Down, Tick, Base, World, Flags, names, flagged, flags_after, heard_after, taken_after, ticks_after, last_after, is_down, step, start_world, walk_from, walk, ◌≡◌, ℕ, Bool, true, false, ◌&&◌, List, [], ◌∷◌, if◌then◌else◌, refl, sym, ap, ◌∙◌, Option, is_some, opened_flags}
+use Rattle.world_core.proofs.Names.{NodeId, same_node, Entry, Take, Go, Learn, Hear, Gate, Crash, Down, Tick, Base, World, Flags, names, flagged, flags_after, heard_after, taken_after, ticks_after, last_after, is_down, step, start_world, walk_from, walk, ◌≡◌, true, false, ◌&&◌, List, [], ◌∷◌, if◌then◌else◌, refl, ap, ◌∙◌, is_some, opened_flags}
 use Rattle.world_core.specs.Alike.{Alike, HaveSameNodes}
 
 heard-alike : (w v : World) (e : Entry) (n : NodeId) → w.heard n ≡ v.heard n → w.last ≡ v.last → heard_after w e n ≡ heard_after v e n

@@ -3,7 +3,6 @@ use Rattle.std.proofs.Common.{slice_get, suc, zero, inr, inl, ◌≡◌, ℕ, �
 use Rattle.world_core.proofs.Names.{Every, Has, every-append, has-left, TimeParts, NodeId, NodeKind, Repository, Broker, ObjectId, Value, ActSpec, Effect, Message, Out, Post, Fate, same_node, WriteStep, floor_of, read_step, write_step, IsOnFloor, Tree, marks, accepts, Hand, now, HeldRead, Entry, Take, Go, Learn, Hear, Gate, Crash, Down, Tick, Mind, Input, Given, gives, repository, Going, Taking, Learning, Hearing, Base, Life, World, Sending, numbered, all_effects, after_input, took, hears, lives_on, life_after, names, leaving, sendings_after, step, start_world, walk_from, walk, sent_by, Rule, Meets, eqb-true, ◌⊎◌, reverse, reverse-append, filter, every-map, every-has, posts, kind_number, is_broker, is_broker_of, broker, leaves}
 use Rattle.message_form.specs.declared.messages.Message.TheVariants as message
 use Rattle.object_history.specs.declared.steps.WriteStep.TheVariants as write
-use Rattle.object_history.specs.declared.steps.ReadStep.TheVariants as read
 use Rattle.repository_core.specs.Turns as turns
 use Rattle.world_core.specs.Answered.{WasAnswered, WasRefused}
 use Rattle.world_core.proofs.Lives.{sent-grows}

@@ -1,5 +1,5 @@
 -- Where nothing is due at a node, nothing is open.
-use Rattle.world_core.proofs.Names.{NodeId, NodeKind, Repository, Broker, StampParts, Entry, Take, Go, Learn, Hear, Gate, Crash, Down, Tick, Given, Mind, nothing_given, gives, kind_gives, Going, Learning, Base, Flags, Life, World, names, all_effects, after_input, with_given, lives_on, flagged, step, start_world, walk_from, walk, ◌≡◌, ℕ, Bool, true, false, ◌&&◌, List, [], ◌∷◌, ◌++◌, if◌then◌else◌, refl, sym, ap, subst, ◌∙◌, Option, Some, None, append-nil}
+use Rattle.world_core.proofs.Names.{NodeId, NodeKind, Repository, Broker, StampParts, Entry, Take, Go, Learn, Hear, Gate, Crash, Down, Tick, Given, nothing_given, gives, kind_gives, Going, Learning, Base, Flags, Life, World, names, all_effects, after_input, with_given, lives_on, flagged, step, start_world, walk_from, walk, ◌≡◌, ℕ, Bool, true, false, ◌&&◌, List, [], ◌∷◌, ◌++◌, if◌then◌else◌, refl, sym, ap, subst, ◌∙◌, Option, Some, None, append-nil}
 
 -- no effect and no message waits for a gate
 abbrev pub IsClosed : Life → Type 0

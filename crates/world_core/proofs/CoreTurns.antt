@@ -1,6 +1,6 @@
 -- The turns of cores are those of the rules, whatever histories a repository keeps.
 use Rattle.std.specs.declared.alloc.AllocError.{AllocError}
-use Rattle.world_core.proofs.Names.{NodeId, Repository, Broker, ActSpec, Effect, Tree, Scripted, tasks, Mind, Input, gives, kind_gives, broker_gives, with_desk, nothing_given, Base, ◌≡◌, ℕ, ◌++◌, List, [], reverse, refl, sym, ap, subst, ◌∙◌, Result, Ok, Err, IfOk, OnOk, append-nil, repository_gives, with_hands, desk_after}
+use Rattle.world_core.proofs.Names.{NodeId, Repository, Broker, ActSpec, Effect, Tree, Scripted, tasks, Mind, Input, gives, kind_gives, broker_gives, with_desk, nothing_given, Base, ◌≡◌, ℕ, ◌++◌, List, [], reverse, sym, ap, subst, ◌∙◌, Result, Ok, Err, IfOk, OnOk, append-nil, repository_gives, with_hands, desk_after}
 use Rattle.message_form.specs.declared.turns.Turn.{Turn}
 use Rattle.object_history.specs.declared.steps.HistoryFault.{HistoryFault}
 use Rattle.repository_core.specs.Cores.{Core, given}

@@ -1,5 +1,5 @@
 -- Legal traces, their fronts, and one entry more.
-use Rattle.world_core.proofs.Names.{NodeId, Effect, Post, Asked, Fate, Tree, Plan, Entry, Trace, Base, Sending, World, sent_by, start_world, step, walk_from, walk, Scripted, Rule, Meets, Legal, base_of, fates_of, in_plan, Call, AreCalls, HasPast, log_left, logs_after, ◌≡◌, ℕ, zero, suc, ◌+◌, ◌≤◌, Bool, true, false, List, [], ◌∷◌, ◌++◌, map, length, refl, sym, ap, subst, ◌∙◌, append_assoc, arith, if◌then◌else◌, append-nil, map-append, length-append, length-map, AllReady, JustNodes, Numbered, post_of, asked_of, IsCall}
+use Rattle.world_core.proofs.Names.{NodeId, Effect, Post, Asked, Tree, Plan, Entry, Trace, Base, Sending, World, sent_by, start_world, step, walk_from, walk, Scripted, Rule, Meets, Legal, base_of, fates_of, in_plan, Call, HasPast, log_left, logs_after, ◌≡◌, ℕ, suc, ◌+◌, ◌≤◌, Bool, true, false, List, [], ◌∷◌, ◌++◌, map, length, refl, sym, ap, subst, ◌∙◌, append_assoc, arith, if◌then◌else◌, append-nil, map-append, length-map, AllReady, JustNodes, Numbered, post_of, asked_of, IsCall}
 use Rattle.world_core.specs.declared.traces.Sent.{Sent}
 use Rattle.world_core.proofs.Lists.{map-front}
 use Rattle.world_core.proofs.Lives.{walk-append, walk-more, sent-walk}

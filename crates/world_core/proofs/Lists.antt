@@ -1,5 +1,5 @@
 -- What stands at a number of a list, and fronts of lists.
-use Rattle.world_core.proofs.Names.{◌≡◌, ℕ, zero, suc, ◌≤◌, List, [], ◌∷◌, ◌++◌, length, map, refl, sym, ap, ◌∙◌, Option, Some, None, slice_get, arith, numbered}
+use Rattle.world_core.proofs.Names.{◌≡◌, ℕ, zero, suc, ◌≤◌, List, [], ◌∷◌, ◌++◌, length, map, refl, ap, ◌∙◌, Some, slice_get, arith, numbered}
 
 module _ {X : Type 0} where
   slice-append : (xs ys : List X) (i : ℕ) (x : X) → slice_get xs i ≡ Some x → slice_get (xs ++ ys) i ≡ Some x

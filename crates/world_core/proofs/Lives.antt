@@ -1,5 +1,5 @@
 -- What entries leave of nodes and messages.
-use Rattle.world_core.proofs.Names.{Has, StampParts, NodeId, has-left, Effect, Post, Entry, Take, Go, Learn, Hear, Gate, Crash, Down, Tick, Input, repository, Going, Taking, Learning, Hearing, Base, Life, Sending, World, numbered, sent_by, names, own, after_input, took, hears, lives_on, leaving, step, start_world, walk_from, walk, ◌≡◌, ℕ, Bool, true, false, ◌&&◌, List, [], ◌∷◌, ◌++◌, map, take, cond, if◌then◌else◌, refl, sym, ap, subst, ◌∙◌, Option, Some, None, append_assoc, append-nil, map-append, filter-append, gated_life, crashed_life, IsDecidedAs}
+use Rattle.world_core.proofs.Names.{Has, StampParts, NodeId, has-left, Effect, Post, Entry, Take, Go, Learn, Hear, Gate, Crash, Down, Tick, repository, Going, Taking, Learning, Hearing, Base, Life, Sending, World, numbered, sent_by, names, own, after_input, took, hears, lives_on, leaving, step, start_world, walk_from, walk, ◌≡◌, ℕ, Bool, true, false, ◌&&◌, List, [], ◌∷◌, ◌++◌, map, take, cond, if◌then◌else◌, refl, sym, ap, subst, ◌∙◌, Option, Some, None, append_assoc, append-nil, map-append, filter-append, IsDecidedAs}
 use Rattle.effect_form.specs.declared.effects.Effect.TheVariants as effect
 
 module _ (b : Base) where

@@ -39,13 +39,13 @@ pub use Rattle.value_form.specs.Mirror.{block}
 pub use Rattle.value_form.specs.declared.acts.ActSpec.{ActSpec}
 pub use Rattle.value_form.specs.declared.objects.ObjectId.{ObjectId}
 pub use Rattle.value_form.specs.declared.values.Value.{Value}
-pub use Rattle.world_core.specs.Legal.{AllReady, Idle, IsDecidedAs, IsIdle, IsReleased, JustNodes, Legal, MayTake, MayTick, Numbered, Rule, asked_of, base_of, fates_of, in_plan, is_behind, post_of, times_taken}
+pub use Rattle.world_core.specs.Legal.{AllReady, IsDecidedAs, IsIdle, JustNodes, Legal, MayTake, Numbered, Rule, asked_of, base_of, fates_of, in_plan, is_behind, post_of}
 unfoldable pub use Rattle.world_core.specs.Legal.{Meets}
 pub use Rattle.world_core.specs.Nodes.{Given, Input, Mind, acts_of, broker, broker_gives, desk_after, kind_gives, kind_ready, leaves, nothing_given, repository, repository_gives, with_desk, with_hands}
 unfoldable pub use Rattle.world_core.specs.Nodes.{gives, is_ready}
 pub use Rattle.world_core.specs.Nodes.Input.{Going, Hearing, Learning, Taking}
 pub use Rattle.world_core.specs.Pasts.{AreCalls, Call, HasPast, IsCall, alike, log_left, logs_after, own_reading}
-pub use Rattle.world_core.specs.Walks.{Base, Flags, Life, Sending, World, after_input, all_effects, crashed_life, flagged, flags_after, gated_life, heard_after, hears, is_down, last_after, leaving, life_after, lives_on, names, numbered, opened_flags, own, sendings_after, sent_by, start_world, step, taken_after, ticks_after, took, walk, with_given}
+pub use Rattle.world_core.specs.Walks.{Base, Flags, Life, Sending, World, after_input, all_effects, flagged, flags_after, heard_after, hears, is_down, last_after, leaving, life_after, lives_on, names, numbered, opened_flags, own, sendings_after, sent_by, start_world, step, taken_after, ticks_after, took, walk, with_given}
 unfoldable pub use Rattle.world_core.specs.Walks.{walk_from}
 pub use Rattle.world_core.specs.declared.entries.Entry.{Entry}
 pub use Rattle.world_core.specs.declared.entries.Entry.TheVariants.{Crash, Down, Gate, Go, Hear, Learn, Take, Tick}

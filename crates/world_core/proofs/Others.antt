@@ -1,5 +1,5 @@
 -- What entries of others leave of a node: its flags, and that it is behind.
-use Rattle.world_core.proofs.Names.{NodeId, same_node, Entry, Take, Go, Learn, Hear, Gate, Crash, Down, Tick, Base, World, Flags, names, own, flagged, flags_after, heard_after, last_after, step, start_world, walk_from, walk, ◌≡◌, ℕ, Bool, true, false, ◌&&◌, not, List, [], ◌∷◌, ◌++◌, cond, if◌then◌else◌, refl, sym, ap, subst, ◌∙◌, Option, Some, None, is_some, filter-append, is_behind}
+use Rattle.world_core.proofs.Names.{NodeId, Entry, Take, Go, Learn, Hear, Gate, Crash, Down, Tick, Base, World, names, own, flagged, flags_after, step, start_world, walk_from, walk, ◌≡◌, Bool, true, false, ◌&&◌, not, List, [], ◌∷◌, ◌++◌, cond, if◌then◌else◌, refl, sym, ap, subst, ◌∙◌, is_some, filter-append, is_behind}
 use Rattle.world_core.proofs.Lives.{walk-append}
 
 -- lists with no own entry of the node, entry by entry

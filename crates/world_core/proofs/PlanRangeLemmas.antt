@@ -1,6 +1,6 @@
 -- The acts of a plan of the language are acts that a broker can have, and their scripts are in range.
 use Rattle.std.proofs.lemmas.List.Sums.{length-filter, count_by-le-length}
-use Rattle.world_core.proofs.Names.{Every, ActSpec, block, Plan, IsOfLanguage, IsBrokerAct, acts_of, ℕ, ◌+◌, ◌≤◌, Bool, true, false, cond, List, [], ◌∷◌, length, arith, ◌==◌, filter, of-whole, AreBrokerActs, printable-up}
+use Rattle.world_core.proofs.Names.{Every, ActSpec, block, Plan, IsOfLanguage, IsBrokerAct, acts_of, ℕ, ◌≤◌, Bool, true, false, cond, List, [], ◌∷◌, arith, ◌==◌, filter, of-whole, AreBrokerActs, printable-up}
 use Rattle.plan_form.specs.PlanTexts as plans
 use Rattle.serial_model.specs.Ranges.{BlockInRange}
 use Rattle.serial_model.proofs.ScriptRangeLemmas.{printable-InRange}

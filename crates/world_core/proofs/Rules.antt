@@ -1,6 +1,5 @@
 -- Rules and the fates that they ask for.
-use Rattle.world_core.proofs.Names.{NodeId, Fate, Entry, Take, Go, Learn, Hear, Gate, Crash, Down, Tick, Base, Sending, World, numbered, step, walk_from, Rule, Meets, ◌≡◌, ℕ, zero, suc, ◌+◌, ◌≤◌, Bool, true, false, List, [], ◌∷◌, ◌++◌, map, length, refl, sym, ap, subst, ◌∙◌, Option, Some, None, append_assoc, arith, append-nil, map-append, length-append, MayTake, IsIdle, Idle, MayTick, IsReleased, times_taken}
-use Rattle.stream_port.specs.Fates.{copies_of}
+use Rattle.world_core.proofs.Names.{NodeId, Fate, Entry, Take, Go, Learn, Hear, Gate, Crash, Down, Tick, Base, Sending, World, step, walk_from, Rule, Meets, ◌≡◌, ℕ, ◌+◌, ◌≤◌, List, [], ◌∷◌, ◌++◌, length, ap, ◌∙◌, arith, length-append, MayTake, IsIdle}
 use Rattle.world_core.proofs.Lists.{numbered-append, numbered-front}
 use Rattle.world_core.proofs.Lives.{sendings-walk}
 

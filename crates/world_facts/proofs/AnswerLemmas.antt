@@ -1,5 +1,5 @@
 -- Whatever a node sent, its log, or an older one, keeps.
-use Rattle.world_facts.proofs.Names.{Every, Has, lt, TimeParts, Decision, NodeId, NodeKind, Repository, Broker, every-has, ObjectId, Value, Effect, Message, Post, floor_of, Gone, is_commit, marks, Tree, book, tries, repository, Base, StandsOrGone, ViewedOrBelow, kind_post, node_facts, node_turns, OlderFacts, SomeOf, Lineage, OldOk, ◌≡◌, ℕ, ◌≤◌, ◌+◌, length, true, List, [], ◌∷◌, ◌++◌, map, reverse, sym, ◌∙◌, ap, subst, Some, ◌⊎◌, inl, inr, arith, true≢false, broker, WasSent, Firm, IsOnFloor, Viewed, value_of, WriteSent, put-logged, Keeps, SeesAbove, SeesOverAll, SeesStill}
+use Rattle.world_facts.proofs.Names.{Every, Has, lt, TimeParts, Decision, NodeId, NodeKind, Repository, Broker, every-has, ObjectId, Value, Effect, Message, Post, floor_of, Gone, is_commit, marks, Tree, book, tries, repository, Base, StandsOrGone, ViewedOrBelow, kind_post, node_facts, node_turns, OlderFacts, SomeOf, Lineage, OldOk, ◌≡◌, ℕ, ◌≤◌, ◌+◌, true, List, [], ◌∷◌, ◌++◌, map, reverse, sym, ◌∙◌, ap, subst, Some, ◌⊎◌, inl, inr, arith, true≢false, broker, WasSent, Firm, IsOnFloor, Viewed, value_of, WriteSent, put-logged, Keeps, SeesAbove, SeesOverAll, SeesStill}
 use Rattle.effect_form.specs.declared.effects.Effect.TheVariants as effect
 use Rattle.message_form.specs.declared.messages.Message.TheVariants as message
 use Rattle.object_history.specs.declared.marks.Mark as history

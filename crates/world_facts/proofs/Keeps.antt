@@ -1,5 +1,5 @@
 -- Each event keeps what always holds.
-use Rattle.world_facts.proofs.Names.{Every, Has, StampParts, Decision, NodeId, every-map, every-has, has-right, ActSpec, Effect, Out, Grew, Each, Post, posts, each_below, Tree, Input, Given, repository, Going, Taking, Learning, Hearing, Around, GrownFrom, Later, NodeFacts, SomeOf, Turns, MayInput, SenderOk, TurnGiven, TurnGives, NodeLaws, SoftNode, all_effects, gate, crash, opened_soft, Soft, put, around, SoftEvent, react, happened, Mays, Lineage, NodeOk, OldOk, SentOnce, Inv, Start, React, Gate, Crash, Retire, Tick, ◌≡◌, ℕ, ◌-◌, Bool, List, [], ◌∷◌, ◌++◌, length, refl, sym, ◌∙◌, ap, subst, append_assoc, inl, inr, filter, append-nil, every-append, post, grew_keeps, grew_on, grew_drop, each_grew, keep, happens, nothing, May}
+use Rattle.world_facts.proofs.Names.{Every, Has, StampParts, Decision, NodeId, every-map, every-has, has-right, ActSpec, Effect, Out, Grew, Each, Post, posts, each_below, Tree, Input, Given, repository, Taking, Around, GrownFrom, Later, NodeFacts, SomeOf, Turns, MayInput, SenderOk, TurnGiven, TurnGives, NodeLaws, SoftNode, all_effects, gate, crash, opened_soft, Soft, put, around, SoftEvent, react, happened, Mays, Lineage, NodeOk, OldOk, SentOnce, Inv, Start, React, Gate, Crash, Retire, Tick, ◌≡◌, ℕ, ◌-◌, Bool, List, [], ◌∷◌, ◌++◌, length, refl, sym, ◌∙◌, ap, subst, append_assoc, inl, inr, filter, append-nil, every-append, post, grew_keeps, grew_on, grew_drop, each_grew, keep, happens, nothing, May}
 use Rattle.effect_form.specs.declared.effects.Effect.TheVariants as effect
 use Rattle.world_facts.proofs.Growths.{each-map, each-drop, every-filter, every-of-map, or-left, put-all, put-both, put-here}
 

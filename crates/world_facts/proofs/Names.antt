@@ -48,7 +48,7 @@ pub use Rattle.world_core.specs.Nodes.{Given, Input, Mind, acts_of, kind_gives, 
 unfoldable pub use Rattle.world_core.specs.Nodes.{gives, is_ready}
 pub use Rattle.world_core.specs.Nodes.Input.{Going, Hearing, Learning, Taking}
 pub use Rattle.world_core.specs.Pasts.{AreCalls, Call, HasPast, IsCall, OpenedWith, alike, log_left, logs_after}
-pub use Rattle.world_core.specs.Walks.{Base, Flags, Life, Sending, World, after_input, crashed_life, flagged, gated_life, has_heard, hears, last_after, learned, leaving, lives_on, names, numbered, opened_life, opened_log, sendings_after, sent_by, start_world, step, took, walk, went, with_given}
+pub use Rattle.world_core.specs.Walks.{Base, Flags, Life, Sending, World, after_input, crashed_life, flagged, gated_life, has_heard, hears, last_after, learned, leaving, lives_on, names, numbered, opened_log, sent_by, start_world, step, took, walk, went, with_given}
 unfoldable pub use Rattle.world_core.specs.Walks.{walk_from}
 pub use Rattle.world_core.specs.declared.entries.Entry.{Entry}
 pub use Rattle.world_core.specs.declared.traces.Trace.{Trace}

@@ -12,7 +12,7 @@ use Rattle.broker_core.specs.Tasks.{tasks}
 use Rattle.broker_core.specs.Turns as desks
 use Rattle.broker_laws.specs.Fits as brokers
 use Rattle.broker_laws.specs.Posts as broker_posts
-use Rattle.broker_laws.specs.Works.{DeskHolds, TurnHolds, Added}
+use Rattle.broker_laws.specs.Works.{TurnHolds}
 use Rattle.broker_laws.specs.Works as works
 use Rattle.broker_laws.proofs.Desks.{desk-ok}
 use Rattle.broker_laws.proofs.Moves.{post-kept}

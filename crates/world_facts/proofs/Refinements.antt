@@ -1,6 +1,6 @@
 -- A legal trace over logs with a past is a run of a world without rules of turns.
 use Rattle.std.proofs.lemmas.Option.{same_Some}
-use Rattle.world_facts.proofs.Names.{Has, StampParts, NodeId, has-right, ActSpec, Effect, Out, Grew, Post, posts, Fate, same_node, Tree, Entry, Input, repository, Going, Taking, Learning, Hearing, Base, Life, Sending, World, opened_log, numbered, names, step, after_input, lives_on, gated_life, crashed_life, leaving, sent_by, start_world, walk_from, walk, Meets, NodeFacts, Turns, MayInput, TurnGives, NodeLaws, SoftNode, all_effects, put, gate, crash, Soft, around, SoftEvent, react, happened, Mays, Inv, React, Gate, Crash, Tick, soft_of, Refines, ◌≡◌, ℕ, zero, suc, ◌-◌, Bool, true, false, List, [], ◌∷◌, ◌++◌, drop, length, reverse, if◌then◌else◌, refl, sym, ◌∙◌, ap, subst, Option, Some, None, is_some, append_assoc, inl, inr, filter, append-nil, has-reverse, leaves, took, hears, opened_life, last_after, MayTake, MayHear, MayGate, MayCrash, IsDecidedAs, Rule, IsDecided, Models}
+use Rattle.world_facts.proofs.Names.{Has, StampParts, NodeId, has-right, ActSpec, Effect, Out, Grew, Post, posts, Fate, same_node, Tree, Entry, Input, repository, Going, Taking, Learning, Hearing, Base, Life, Sending, World, names, step, after_input, lives_on, leaving, sent_by, walk_from, Meets, NodeFacts, Turns, MayInput, TurnGives, NodeLaws, SoftNode, all_effects, put, gate, crash, Soft, around, SoftEvent, react, happened, Mays, Inv, React, Gate, Crash, Tick, soft_of, Refines, ◌≡◌, ℕ, zero, suc, ◌-◌, Bool, true, false, List, [], ◌∷◌, ◌++◌, drop, length, reverse, if◌then◌else◌, refl, sym, ◌∙◌, ap, subst, Option, Some, None, is_some, append_assoc, inl, inr, filter, append-nil, has-reverse, leaves, took, hears, last_after, MayTake, MayHear, MayGate, MayCrash, IsDecidedAs, Rule, IsDecided, Models}
 use Rattle.effect_form.specs.declared.effects.Effect.TheVariants as effect
 use Rattle.world_core.specs.declared.entries.Entry.TheVariants as entry
 use Rattle.world_core.specs.Walks as walks

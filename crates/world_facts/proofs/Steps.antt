@@ -1,5 +1,5 @@
 -- One entry of a trace, node by node.
-use Rattle.world_facts.proofs.Names.{NodeId, NodeKind, Repository, Broker, Post, same_node, same_is, Tree, Entry, Input, Given, gives, Base, Life, Sending, World, names, step, after_input, lives_on, gated_life, crashed_life, leaving, sent_by, walk_from, NodeFacts, Turns, NodeLaws, SoftNode, all_effects, put, gate, crash, react, opened_soft, soft_of, ◌≡◌, ℕ, Bool, true, false, ◌&&◌, List, [], ◌∷◌, ◌++◌, map, take, drop, reverse, if◌then◌else◌, refl, sym, ap, subst, ◌∙◌, Option, Some, None, ◌-◌, map-append, reverse-append, reverse-reverse, Flags, flagged, went, learned, has_heard, with_given, sendings_after, with_turn}
+use Rattle.world_facts.proofs.Names.{NodeId, NodeKind, Repository, Broker, Post, same_node, same_is, Tree, Entry, Input, Given, gives, Base, Life, Sending, World, names, step, after_input, lives_on, gated_life, crashed_life, leaving, sent_by, walk_from, NodeFacts, Turns, NodeLaws, SoftNode, all_effects, put, gate, crash, react, opened_soft, soft_of, ◌≡◌, ℕ, Bool, true, false, ◌&&◌, List, [], ◌∷◌, ◌++◌, map, take, drop, reverse, if◌then◌else◌, refl, sym, ap, subst, ◌∙◌, Option, Some, None, ◌-◌, map-append, reverse-append, reverse-reverse, Flags, flagged, went, learned, has_heard, with_given, with_turn}
 use Rattle.world_core.specs.declared.entries.Entry.TheVariants.{Go, Learn, Hear, Gate, Down}
 use Rattle.world_core.specs.Walks as walks
 use Rattle.world_facts.specs.Rules.{forward}

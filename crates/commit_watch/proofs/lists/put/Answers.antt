@@ -1,4 +1,4 @@
-use Rattle.std.proofs.Common.{ap, sym, ◌∙◌}
+use Rattle.std.proofs.Common.{◌∙◌}
 use Rattle.commit_watch.proofs.ListLemmas.{put-found, put-gap, when-ok}
 use Rattle.commit_watch.proofs.lists.put.Goals as goal
 

@@ -1,4 +1,4 @@
-use Rattle.commit_watch.proofs.Names.{◌≡◌, ◌∷◌, subst, sym, ap, ◌∙◌, ObjectId, Mark, on_ok, standing_at, standing_of, terms_in}
+use Rattle.commit_watch.proofs.Names.{◌≡◌, ◌∷◌, subst, sym, ObjectId, Mark, on_ok, standing_at, standing_of, terms_in}
 use Rattle.commit_watch.proofs.StandingLemmas.{standing-put, put-asked}
 use Rattle.commit_watch.proofs.scans.read_mark.Goals as goal
 

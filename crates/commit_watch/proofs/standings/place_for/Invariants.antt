@@ -1,4 +1,4 @@
-use Rattle.commit_watch.proofs.Names.{◌≡◌, ◌≤◌, ℕ, length, true, AllWithin, lt}
+use Rattle.commit_watch.proofs.Names.{◌≡◌, ◌≤◌, length, true, AllWithin, lt}
 use Rattle.commit_watch.proofs.standings.place_for.Given as goal
 
 -- those from the place on start above

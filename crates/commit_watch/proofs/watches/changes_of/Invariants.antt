@@ -1,4 +1,4 @@
-use Rattle.commit_watch.proofs.Names.{◌≡◌, length, get, object_cmp, moved_at, stood}
+use Rattle.commit_watch.proofs.Names.{length, get, object_cmp, moved_at, stood}
 use Rattle.commit_watch.proofs.ChangeLemmas.{Going}
 use Rattle.commit_watch.proofs.watches.changes_of.Given as goal
 

@@ -1,4 +1,4 @@
-use Rattle.laboratory.proofs.Names.{rules, ◌≡◌, ◌∙◌, ap, ap₂, true, codes, App, app_of, app_of_fields, on_top, with_rule, rule_of, ValueParser, needed, numbers}
+use Rattle.laboratory.proofs.Names.{◌≡◌, ◌∙◌, ap, ap₂, true, codes, app_of_fields, on_top, with_rule, needed, numbers}
 use Rattle.std.proofs.lemmas.Result.{IfOk-weaker}
 use Rattle.laboratory.proofs.options.command.Goals as goal
 

@@ -1,4 +1,4 @@
-use Rattle.std.proofs.Common.{List, subst, sym}
+use Rattle.std.proofs.Common.{subst, sym}
 use Rattle.effect_form.specs.Effects.{AreEffects}
 use Rattle.forward_copy.specs.Currents.{node_log}
 use Rattle.run_volumes.specs.Volumes.{logs_of}

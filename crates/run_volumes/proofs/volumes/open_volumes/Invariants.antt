@@ -1,5 +1,5 @@
 use Rattle.run_volumes.proofs.Names.{◌≡◌, length, shelf_sight}
-use Rattle.std.specs.Prelude.{vec_len, vec_capacity}
+use Rattle.std.specs.Prelude.{vec_capacity}
 use Rattle.run_volumes.proofs.VolumeLemmas.{Opened}
 use Rattle.run_volumes.proofs.volumes.open_volumes.Given as goal
 

@@ -1,4 +1,4 @@
-use Rattle.swallow_top.proofs.Names.{account_of, tellers, shelf_sight, limits_of, sinking, refl}
+use Rattle.swallow_top.proofs.Names.{shelf_sight, limits_of, sinking, refl}
 use Rattle.swallow_top.proofs.VoteLemmas.{few-end, polled}
 use Rattle.swallow_top.proofs.votes.tell_votes.Goals as goal
 

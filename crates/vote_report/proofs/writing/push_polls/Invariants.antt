@@ -1,4 +1,4 @@
-use Rattle.std.proofs.Common.{◌≡◌, ◌+◌, ◌++◌, take, drop}
+use Rattle.std.proofs.Common.{◌≡◌, ◌+◌, ◌++◌, drop}
 use Rattle.vote_report.specs.Texts.{poll_lines}
 use Rattle.vote_report.proofs.writing.push_polls.Given as goal
 

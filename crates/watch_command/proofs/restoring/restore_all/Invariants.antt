@@ -1,4 +1,4 @@
-use Rattle.watch_command.proofs.Names.{moved_at, AreCursors, AreRestored, ◌≡◌, ◌≤◌, length, drop}
+use Rattle.watch_command.proofs.Names.{moved_at, AreCursors, AreRestored, ◌≤◌, length, drop}
 use Rattle.watch_command.proofs.restoring.restore_all.Given as goal
 
 abbrev pub decreases-loop-at : goal.decreases-loop-at

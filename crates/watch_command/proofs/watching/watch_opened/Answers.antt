@@ -1,5 +1,5 @@
 use Rattle.watch_command.proofs.Names.{reverse, subst, sym, AreEffects}
-use Rattle.watch_command.proofs.WatchLemmas.{opened-stands, opened-stopped, opened-written, shut-comes}
+use Rattle.watch_command.proofs.WatchLemmas.{opened-stands, opened-written, shut-comes}
 use Rattle.watch_command.proofs.watching.watch_opened.Goals as goal
 
 pub prepare-requires-clause-log : goal.prepare-requires-clause-log

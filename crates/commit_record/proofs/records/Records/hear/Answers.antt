@@ -1,6 +1,6 @@
-use Rattle.std.proofs.Common.{ap, subst, ◌≡◌, ◌∙◌}
+use Rattle.std.proofs.Common.{ap, ◌∙◌}
 use Rattle.std.specs.FinMap as finite
-use Rattle.commit_record.specs.States.{expiry, listed_at}
+use Rattle.commit_record.specs.States.{listed_at}
 use Rattle.commit_record.proofs.DueLemmas.{all_settled, all_heard}
 use Rattle.commit_record.proofs.records.Records.hear.Goals as goal
 
