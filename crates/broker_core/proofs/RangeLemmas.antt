@@ -488,8 +488,6 @@ ranged-from l h (Some e) r f =
 pub ranged-after : (l0 l : LedgerParts) (h : Heard) (first : Option Effect) → Ranged l0 → FirstInRange first → l ≡ ledger_from l0 first h → Ranged l
 ranged-after l0 l h first r f e = subst Ranged (sym e) (ranged-from l0 h first r (gained l0 h first r f).1)
 
-}
-
 pub ranged-opened : (number run : ℕ) (acts : List ActSpec) (log : List Effect) (l0 l l' : LedgerParts) → AreBrokerActs acts → 1 ≤ number → number ≤ 16 → 1 ≤ run → run < 2 ^ 32 → AreEffects log →
     l0 ≡ fresh_ledger number run acts → l ≡ led l0 (reverse log) → l' ≡ l → AreNotes l.acts l.notes l.answers → Ranged l'
 ranged-opened number run acts log l0 l l' are low high run_low run_high es fresh e same notes =

@@ -1,8 +1,6 @@
 -- Pages that read 0 in every byte.
 use Rattle.medium_port.proofs.Names.{◌≡◌, ⊎_elim, ℕ, ◌<◌, List, [], length, get_or, refl, sym, ◌∙◌, ap, arith, zero, suc, replicate, cases_lt, get_or_past, ext_get_or, get_or-replicate, length-replicate, Image, IsImage, IsBlankImage, byte_of}
 
-}
-
 -- images with the same bytes are equal
 pub same_image : (n : ℕ) (a b : Image) → IsImage n a → IsImage n b → ((page at : ℕ) → byte_of a page at ≡ byte_of b page at) → a ≡ b
 same_image n a b is_a is_b same =

@@ -14,8 +14,6 @@ count-more es moment = sum_by-append (λ e. cond (is_tick e) 1 0) es (Tick momen
 pub sees-looked : (a b : Sight) → Looked a b → SeesMore 0 a b
 sees-looked a b p = record { owner = looked-owner p; begins = p.before.carries.begins; ticked = ap tick_count (looked-own p) ∙ omega arith }
 
-}
-
 pub sees-joins : (m n : ℕ) (a b c : Sight) → SeesMore m a b → SeesMore n b c → SeesMore (m + n) a c
 sees-joins m n a b c p q = record {
   owner = q.owner ∙ p.owner;

@@ -3,8 +3,6 @@ use Rattle.script_form.proofs.Names.{◌≡◌, ℕ, ◌+◌, ◌-◌, ◌<◌, 
 use Rattle.script_form.specs.declared.parse_faults.ParseKind.TheVariants as kind
 use Rattle.script_form.proofs.RowLemmas.{lines_with_row, lines_with_blank, shallow_with, next_line-with, text_with}
 
-}
-
 pub holds_begin : (greatest : ℕ) (lines : List (List ℕ)) (xs : List Numbered) (count next size : ℕ) → Holds greatest lines xs count next size → BeginScript greatest lines
 holds_begin greatest lines xs count next size h = (xs, h.rows, h.shallow, h.begins, (subst (λ z. z ≤ 200) h.count_is h.few, subst (λ z. z ≤ 3900) h.size_is h.small))
 

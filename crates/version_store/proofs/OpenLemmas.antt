@@ -3,8 +3,6 @@ use Rattle.std.proofs.lemmas.List.Folds.{list_all-append}
 use Rattle.version_store.proofs.Names.{Image, Only, is_blank, state_of, PageState, Blank, Spoiled, Gated, Effect, Content, content_of, Reading, log_going, Going, Ended, Damaged, begun, next, scan, going_or_damaged, with_sheet, sheet_of, IsAtRest, Heads, IsFound, HeldFit, Reached, reading_of, Held, ◌==◌, ◌≡◌, ℕ, ◌+◌, ◌<◌, List, [], ◌∷◌, length, get_or, take, drop, Bool, true, false, cond, Option, Some, None, refl, sym, ◌∙◌, ap, arith, inl, inr, length-take, list_all, cases_Bool, and_from, cond-true, cond-false, take_more, take_all, drop_all, drop-append-le}
 use Rattle.version_store.proofs.ScanLemmas.{scan_more}
 
-]
-
 blank_from_state : (p : List ℕ) → state_of p ≡ Blank → is_blank p ≡ true
 blank_from_state p is = elim (cases_Bool (is_blank p)) [
   | inl all_zero ↦ all_zero
