@@ -24,8 +24,7 @@ pub use Rattle.pseudo_time.specs.declared.nodes.NodeId.{NodeId}
 pub use Rattle.pseudo_time.specs.declared.nodes.NodeKind.{NodeKind}
 pub use Rattle.pseudo_time.specs.declared.nodes.NodeKind.TheVariants.{Broker, Repository}
 pub use Rattle.repository_log.specs.Logs.{decided_by, is_for, knows as is_known}
-pub use Rattle.seat_lock.specs.Words.{CarriesOn}
-unfoldable pub use Rattle.seat_lock.specs.Words.{knows}
+pub use Rattle.seat_lock.specs.Words.{CarriesOn, knows}
 pub use Rattle.serial_model.specs.Questions.{Tree}
 pub use Rattle.std.proofs.Common.{Bool, Err, IfErr, IfOk, IsErrOf, IsTrue, List, None, Ok, OnErr, OnOk, Option, Result, Some, [], ap, append_assoc, arith, cond, drop, false, get_or, if◌then◌else◌, inl, inr, is_none, is_some, length, length-append, not, refl, reverse, subst, suc, sym, take, true, zero, ℕ, ⊎_elim, ◌&&◌, ◌++◌, ◌+◌, ◌-◌, ◌<◌, ◌==◌, ◌^◌, ◌||◌, ◌∙◌, ◌∷◌, ◌≡◌, ◌≢◌, ◌≤◌, ◌⊎◌}
 pub use Rattle.std.proofs.lemmas.Bool.{cases_lt, eqb-true}

@@ -25,8 +25,7 @@ pub use Rattle.std.proofs.lemmas.Cmp.{eq_by_cmp_equiv}
 pub use Rattle.std.proofs.lemmas.Grind.{common_steps}
 pub use Rattle.std.proofs.lemmas.List.{length-reverse, reverse-append, reverse-reverse}
 pub use Rattle.std.specs.Cmp.{IsTotalOrder, signed_Decides, tied_itself}
-pub use Rattle.std.specs.FinMap.{find, from_entries, get, get-empty, get-from_entries, get-insert, same_map}
-unfoldable pub use Rattle.std.specs.FinMap.{insert}
+pub use Rattle.std.specs.FinMap.{find, from_entries, get, get-empty, get-from_entries, get-insert, insert, same_map}
 pub use Rattle.std.specs.List.{push}
 pub use Rattle.std.specs.Option.{is_some, option_copied, option_map}
 pub use Rattle.std.specs.Ordering.{is_eq, nat_cmp, ordering_then}
