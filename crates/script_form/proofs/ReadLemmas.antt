@@ -7,7 +7,8 @@ use Rattle.expression_form.specs.declared.read_faults.ReadFault.{ReadFault}
 use Rattle.expression_form.specs.declared.read_faults.ReadFault.TheVariants.{Syntax, Depth, NoMemory}
 use Rattle.expression_form.specs.Reads.{Reads}
 use Rattle.script_form.specs.Row as r
-use Rattle.script_form.specs.Pairs.{ReadsBoth}
+use Rattle.value_form.specs.declared.expressions.Expr.{Expr}
+use Rattle.script_form.specs.Pairs.{ReadsBoth, both}
 use Rattle.script_form.proofs.TargetLemmas.{Found, spot_found, spot_alone, fixed_spells, indexed_spells}
 
 -- a result that hands this fault on
@@ -160,3 +161,17 @@ pub no_write : (ts : List Token) → fixed_of ts ≡ None → indexed_of ts ≡ 
 no_write ts none none' c k = let o = written_in c ts k in none_found ts none none' o.place o.rest o.found
 
 -- ---- two expressions
+
+pub both_reads : (ts us : List Token) (left right : Result Expr ReadFault) → Reads term Spells depth ts left → Reads term Spells depth us right → ReadsBoth ts us (both left right)
+both_reads ts us (Ok x) (Ok y) h k = (h.0, k.0, h.1, k.1)
+both_reads ts us (Ok x) (Err Syntax) h k = λ a b spells_a spells_b. k b spells_b
+both_reads ts us (Ok x) (Err Depth) h k = (term x, k.0, h.0, k.1, let lt : 16 < depth k.0 = k.2 in omega arith)
+both_reads ts us (Ok x) (Err NoMemory) h k = tt
+both_reads ts us (Err Syntax) (Ok y) h k = λ a b spells_a spells_b. h a spells_a
+both_reads ts us (Err Depth) (Ok y) h k = (h.0, term y, h.1, k.0, let lt : 16 < depth h.0 = h.2 in omega arith)
+both_reads ts us (Err NoMemory) (Ok y) h k = tt
+both_reads ts us (Err Syntax) (Err e) h k = λ a b spells_a spells_b. h a spells_a
+both_reads ts us (Err NoMemory) (Err e) h k = tt
+both_reads ts us (Err Depth) (Err Syntax) h k = λ a b spells_a spells_b. k b spells_b
+both_reads ts us (Err Depth) (Err Depth) h k = (h.0, k.0, h.1, k.1, let lt : 16 < depth h.0 = h.2 in omega arith)
+both_reads ts us (Err Depth) (Err NoMemory) h k = tt
