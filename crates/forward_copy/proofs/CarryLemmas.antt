@@ -21,7 +21,10 @@ front-whole (suc n) (End i e ∷ l) none some = ap (λ z. End i e ∷ z) (front-
 front-whole (suc n) (Mark x ∷ l) none some = ap (λ z. Mark x ∷ z) (front-whole n l none some)
 
 pub prefix-front : (at : TimeParts) (kept : List Effect) (c : Image) → has_whole kept ≡ false → HasPrefix [] (between at kept) c → LeavesFront (between at kept) c
-prefix-front at kept c none has = record { front = has; all = λ log is some. ((cc (sym is ∙ has.is)) ∙ front-whole has.kept (Mark at ∷ kept) none (sym (ap has_whole (cc (sym is ∙ has.is))) ∙ some)) }
+prefix-front at kept c none has = record { front = has; all = λ log is some. all-there log (cc (sym is ∙ has.is)) some }
+  where
+    all-there : (log : List Effect) → log ≡ take has.kept (between at kept) → has_whole log ≡ true → log ≡ between at kept
+    all-there log e some = e ∙ front-whole has.kept (Mark at ∷ kept) none (sym (ap has_whole e) ∙ some)
 
 -- where the log was empty
 pub carried-front : (at : TimeParts) (kept log effects : List Effect) (c : Image) → log ≡ [] → effects ≡ between at kept → has_whole kept ≡ false → HasPrefix log effects c → LeavesFront (between at kept) c
