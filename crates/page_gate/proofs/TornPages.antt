@@ -14,10 +14,6 @@ blank_is (x ∷ xs) h =
 pub blank_state : (page : List ℕ) → is_blank page ≡ true → state_of page ≡ Blank
 blank_state page all_zero = cond-true (is_blank page) _ _ all_zero
 
-pub gated_state : (page body : List ℕ) → is_blank page ≡ false → get_or page 0 0 ≡ 165 → body ≡ drop 1 page → Gated body ≡ state_of page
-gated_state page body some_set open_gate is =
-    ap (λ (b : List ℕ). Gated b) is ∙ sym (cond-false (is_blank page) _ _ some_set ∙ cond-true _ _ _ (eq-eqb _ 165 open_gate))
-
 -- a page with another first byte
 pub not_gated : (b : ℕ) (rest : List ℕ) → b ≢ 165 → (state_of (b ∷ rest) ≡ Blank) ⊎ (state_of (b ∷ rest) ≡ Spoiled)
 not_gated b rest ne = elim (cases_Bool (is_blank (b ∷ rest))) [

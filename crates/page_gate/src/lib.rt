@@ -3,4 +3,4 @@
 
 mod pages;
 
-pub use pages::{PageState, all_zero, look, put};
+pub use pages::{Gate, PageState, all_zero, look, look_into, put};

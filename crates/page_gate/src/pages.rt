@@ -1,8 +1,8 @@
-ghost use Rattle.std.specs.Prelude.{◌≡◌, ◌+◌, ◌<◌, ◌≤◌, ◌⊎◌, List, ℕ, Some, IsTrue, is_err, false, length, slice_set, IfOk, OnOk, OnErr};
+ghost use Rattle.std.specs.Prelude.{◌≡◌, ◌+◌, ◌<◌, ◌≤◌, ◌⊎◌, List, ℕ, Some, IsTrue, is_err, false, length, drop, slice_set, IfOk, OnOk, OnErr};
 ghost use Rattle.stream_port.specs.Causes.{HasCause};
 ghost use Rattle.medium_port.specs.Image.{Image, page_of, Written, Torn, Only, NoMore};
 ghost use Rattle.medium_port.specs.Moment.{LeavesOnly};
-ghost use Rattle.page_gate.specs.States.{is_blank, state_of, gated_page};
+ghost use Rattle.page_gate.specs.States.{is_blank, state_of, state_with, gated_page};
 ghost use Rattle.page_gate.specs.Steps.{MayPut};
 
 use medium_port::{Medium, MediumFault};
@@ -21,7 +21,56 @@ pub enum PageState {
     Gated([u8; 4095]),
 }
 
-/// Reads a page and says its state. A fault is the medium's.
+/// What a page's bytes say, without its body.
+#[derive(Clone, Copy, Debug, PartialEq, Eq)]
+pub enum Gate {
+    /// All bytes are 0.
+    Blank,
+    /// Neither blank nor gated.
+    Spoiled,
+    /// Byte 0 is 0xA5, and the body stands behind it.
+    Open,
+}
+
+/// Reads a page into `bytes`, and says its gate. A fault is the medium's, and then the bytes are of no use.
+pub fn look_into<M: Medium>(
+    medium: &mut M,
+    page: u32,
+    bytes: &mut [u8; 4096],
+) -> Result<Gate, MediumFault>
+    requires page { page < M.page_count medium.old }
+    requires open { M.is_failed medium.old ≡ false }
+    // For every medium, it is the state of the page that the last read gave.
+    ensures state { IfOk result (λ g. (M.last_page medium.new ≡ Some (page, bytes.new)) ×
+        (state_with g (drop 1 bytes.new) ≡ state_of bytes.new)) }
+    ensures found { IsTrue M.tells →
+        IfOk result (λ g. state_with g (drop 1 bytes.new) ≡ state_of (page_of (M.reads medium.old) page)) }
+    ensures reads { IsTrue M.tells → M.reads medium.new ≡ M.reads medium.old }
+    ensures crash { IsTrue M.tells → NoMore (M.may_leave medium.old) (M.may_leave medium.new) }
+    // Nothing that crashes see is changed.
+    ensures stages { IsTrue M.tells → M.stages medium.new ≡ M.stages medium.old }
+    ensures last_err { OnErr result (M.last_page medium.new ≡ M.last_page medium.old) }
+    ensures size { M.page_count medium.new ≡ M.page_count medium.old }
+    ensures failed { M.is_failed medium.new ≡ is_err result }
+    ensures cause { HasCause (M.faults medium.old) (M.faults medium.new) result }
+{
+    medium.read(page, bytes)?;
+    Ok(gate_of(bytes))
+}
+
+fn gate_of(bytes: &[u8; 4096]) -> Gate
+    ensures { state_with result (drop 1 bytes.now) ≡ state_of bytes.now }
+{
+    if bytes[0] == GATE {
+        Gate::Open
+    } else if all_zero(bytes) {
+        Gate::Blank
+    } else {
+        Gate::Spoiled
+    }
+}
+
+/// Reads a page and says its state, with its body. A fault is the medium's.
 pub fn look<M: Medium>(medium: &mut M, page: u32) -> Result<PageState, MediumFault>
     requires page { page < M.page_count medium.old }
     requires open { M.is_failed medium.old ≡ false }
@@ -39,21 +88,21 @@ pub fn look<M: Medium>(medium: &mut M, page: u32) -> Result<PageState, MediumFau
     ensures cause { HasCause (M.faults medium.old) (M.faults medium.new) result }
 {
     let mut bytes = [0; 4096];
-    medium.read(page, &mut bytes)?;
-    Ok(state(&bytes))
+    let gate = look_into(medium, page, &mut bytes)?;
+    Ok(state(gate, &bytes))
 }
 
-fn state(bytes: &[u8; 4096]) -> PageState
-    ensures { result ≡ state_of bytes.now }
+fn state(gate: Gate, bytes: &[u8; 4096]) -> PageState
+    ensures { result ≡ state_with gate (drop 1 bytes.now) }
 {
-    if all_zero(bytes) {
-        PageState::Blank
-    } else if bytes[0] == GATE {
-        let mut body = [0; 4095];
-        body.copy_from_slice(&bytes[1..]);
-        PageState::Gated(body)
-    } else {
-        PageState::Spoiled
+    match gate {
+        Gate::Blank => PageState::Blank,
+        Gate::Spoiled => PageState::Spoiled,
+        Gate::Open => {
+            let mut body = [0; 4095];
+            body.copy_from_slice(&bytes[1..]);
+            PageState::Gated(body)
+        }
     }
 }
 

@@ -11,7 +11,7 @@ pub use Rattle.field_form.specs.Forms.{IsBytes, ◌>>=◌}
 pub use Rattle.field_form.specs.Numbers.{between, byte_at, front_at, number_at}
 pub use Rattle.medium_port.specs.Image.{Image, IsImage, NoMore, Only, page_of}
 pub use Rattle.medium_port.specs.Moment.{LeavesOnly, LeftNow, Stage, goes_to, joins, stays, widens}
-pub use Rattle.page_gate.specs.States.{gated_page, is_blank, state_of}
+pub use Rattle.page_gate.specs.States.{gated_page, is_blank, state_of, state_with}
 pub use Rattle.page_gate.specs.declared.pages.PageState.{PageState}
 pub use Rattle.page_gate.specs.declared.pages.PageState.TheVariants.{Blank, Gated, Spoiled}
 pub use Rattle.pseudo_time.specs.Lists.{Every}

@@ -1,7 +1,9 @@
 -- The effects of a page, as an opening reads them.
-use Rattle.version_store.proofs.Names.{IsBytes, ◌>>=◌, Effect, Place, Written, effect_bytes, effect_at, effect_takes, length-effect_bytes, size_most, without_back, Log, back_in, same_back, Heads, HeadsFit, IsFound, HeldBelow, HeldFit, Stand, reading_of, PageState, Blank, Spoiled, Gated, Held, Whole, First, Content, content_of, Sheet, Going, going_or_damaged, with_sheet, next, place_before, place_alone, admitted, alone, held_more, held_ends, log_at, entry_at, ◌≡◌, ℕ, zero, suc, ◌+◌, ◌-◌, ◌≤◌, ◌<◌, List, [], ◌∷◌, ◌++◌, length, take, drop, Bool, true, false, cond, Option, Some, None, Result, Ok, Err, ⊎_elim, inl, inr, refl, sym, ◌∙◌, ap, subst, arith, length-append, length-drop, ◌==◌, cases_Bool, cond-true, cond-false, and_parts, eqb-true, drop_at, take_all, nat_tests, MatchOption, MatchBool, Vec, Global, option_map}
+use Rattle.version_store.proofs.Names.{IsBytes, ◌>>=◌, Effect, Place, Written, effect_bytes, effect_at, effect_takes, length-effect_bytes, size_most, without_back, Log, back_in, same_back, Heads, HeadsFit, IsFound, HeldBelow, HeldFit, Stand, reading_of, state_with, PageState, Blank, Spoiled, Gated, Held, Whole, First, Content, content_of, Sheet, Going, going_or_damaged, with_sheet, next, place_before, place_alone, admitted, alone, held_more, held_ends, log_at, entry_at, ◌≡◌, ℕ, zero, suc, ◌+◌, ◌-◌, ◌≤◌, ◌<◌, List, [], ◌∷◌, ◌++◌, length, take, drop, Bool, true, false, cond, Option, Some, None, Result, Ok, Err, ⊎_elim, inl, inr, refl, sym, ◌∙◌, ap, subst, arith, length-append, length-drop, ◌==◌, cases_Bool, cond-true, cond-false, and_parts, eqb-true, drop_at, take_all, nat_tests, MatchOption, MatchBool, Vec, Global, option_map}
 use Rattle.std.specs.Borrow.{Bor}
 use Rattle.version_store.proofs.LogLemmas.{effects_of-append}
+use Rattle.page_gate.specs.declared.pages.Gate.{Gate}
+use Rattle.page_gate.specs.declared.pages.Gate.TheVariants as gates
 
 pub IsBytes-append : (s t : List ℕ) → IsBytes s → IsBytes t → IsBytes (s ++ t)
 IsBytes-append [] t h k i = k i
@@ -225,3 +227,14 @@ spoiled_goes c page false Spoiled heads effects off is found = (content_of c.log
 spoiled_goes c page false Blank heads effects off is found = absurd (cc is)
 spoiled_goes c page false (Gated body) heads effects off is found = absurd (cc is)
 spoiled_goes c page true state heads effects off is found = absurd (cc off)
+
+-- a page with an open gate is what stands behind it
+pub opened_page : (gate : Gate) (c : Content) (page : ℕ) (ended : Bool) (body : List ℕ) → ended ≡ false → gate ≡ gates.Open → next (reading_of ended c) page (state_with gate body) ≡ next (Going c) page (Gated body)
+opened_page gates.Open c page false body off is = refl
+opened_page gates.Blank c page false body off is = absurd (cc is)
+opened_page gates.Spoiled c page false body off is = absurd (cc is)
+opened_page gate c page true body off is = absurd (cc off)
+
+-- what stands behind a page's first byte, as a slice
+pub behind_gate : (bytes : List ℕ) → length bytes ≡ 4096 → take 4095 (drop 1 bytes) ≡ drop 1 bytes
+behind_gate bytes size = take_all 4095 (drop 1 bytes) (omega (arith, size, length-drop 1 bytes))

@@ -2,6 +2,7 @@ ghost use Rattle.std.specs.Prelude.{◌≡◌, ◌≢◌, ◌<◌, ◌≤◌, �
 ghost use Rattle.stream_port.specs.Causes.{Rose};
 ghost use Rattle.field_form.specs.Forms.{IsBytes};
 ghost use Rattle.medium_port.specs.Image.{NoMore};
+ghost use Rattle.page_gate.specs.States.{state_with};
 ghost use Rattle.effect_form.specs.Effects.{IsWritten, effect_at};
 ghost use Rattle.version_store.specs.Entries.{number_of};
 ghost use Rattle.version_store.specs.Faults.{fails_fetching};
@@ -14,7 +15,7 @@ use crate::page_reads::{add_piece, keep, sheet_in};
 use crate::pieces::Piece;
 use effect_form::{Effect, EffectFault, Place, read};
 use medium_port::Medium;
-use page_gate::{PageState, look};
+use page_gate::{Gate, look_into};
 use std::alloc::{AllocError, Global};
 
 /// What a page shows at a place.
@@ -92,11 +93,11 @@ fn effect_alone(
 }
 
 // What the place's page shows.
-fn look_first(alloc: Global, state: &PageState, place: Place) -> Result<Sight, AllocError>
-    ensures sees { IfOk result (λ s. Sees s (first_sight place (sheet_on state.now))) }
+fn look_first(alloc: Global, gate: Gate, body: &[u8], place: Place) -> Result<Sight, AllocError>
+    ensures sees { IfOk result (λ s. Sees s (first_sight place (sheet_on (state_with gate body.now)))) }
     ensures in_range { IfOk result TellsRange }
 {
-    let PageState::Gated(body) = state else {
+    let Gate::Open = gate else {
         return Ok(Sight::Told(None));
     };
     let Some((piece, from, bytes)) = sheet_in(body) else {
@@ -126,15 +127,16 @@ fn look_first(alloc: Global, state: &PageState, place: Place) -> Result<Sight, A
 fn look_next(
     alloc: Global,
     pieces: Vec<u8>,
-    state: &PageState,
+    gate: Gate,
+    body: &[u8],
     place: Place,
 ) -> Result<Sight, AllocError>
     ensures sees { (front : List ℕ) → Stand pieces.items front → IsBytes front →
-        IfOk result (λ s. Sees s (next_sight front place (sheet_on state.now))) }
+        IfOk result (λ s. Sees s (next_sight front place (sheet_on (state_with gate body.now)))) }
     ensures in_range { IfOk result TellsRange }
 {
     let mut pieces = pieces;
-    let PageState::Gated(body) = state else {
+    let Gate::Open = gate else {
         return Ok(Sight::Told(None));
     };
     let Some((piece, _, bytes)) = sheet_in(body) else {
@@ -192,9 +194,10 @@ pub fn find<M: Medium>(
     ensures later { M.faults medium.old ≤ M.faults medium.new }
     ensures failed { IfErr result (λ f. f ≡ FetchFault.Medium → Rose (M.faults medium.old) (M.faults medium.new)) }
 {
-    let sight = match look(medium, place.page) {
+    let mut bytes = [0; 4096];
+    let sight = match look_into(medium, place.page, &mut bytes) {
         Err(_) => return Err(FetchFault::Medium),
-        Ok(state) => match look_first(alloc, &state, place) {
+        Ok(gate) => match look_first(alloc, gate, &bytes[1..], place) {
             Err(_) => return Err(FetchFault::NoMemory),
             Ok(sight) => sight,
         },
@@ -204,9 +207,9 @@ pub fn find<M: Medium>(
         Sight::Due(pieces) => pieces,
     };
     for page in place.page + 1..pages {
-        match look(medium, page) {
+        match look_into(medium, page, &mut bytes) {
             Err(_) => return Err(FetchFault::Medium),
-            Ok(state) => match look_next(alloc, pieces, &state, place) {
+            Ok(gate) => match look_next(alloc, pieces, gate, &bytes[1..], place) {
                 Err(_) => return Err(FetchFault::NoMemory),
                 Ok(Sight::Told(told)) => return Ok(answer(told, page)),
                 Ok(Sight::Due(more)) => pieces = more,

@@ -1,7 +1,7 @@
 ghost use Rattle.std.specs.Prelude.{◌≡◌, ◌≢◌, ◌+◌, ◌<◌, ◌≤◌, List, ℕ, IsTrue, true, false, length, Some, Err, IfOk, IfErr, OnOk, MatchBool, if◌then◌else◌};
 ghost use Rattle.stream_port.specs.Causes.{Rose};
 ghost use Rattle.medium_port.specs.Image.{Image, NoMore};
-ghost use Rattle.page_gate.specs.States.{is_blank};
+ghost use Rattle.page_gate.specs.States.{is_blank, state_with};
 ghost use Rattle.page_gate.specs.declared.pages.PageState.TheVariants.{Blank};
 ghost use Rattle.version_store.specs.Faults.{fails_reading};
 ghost use Rattle.effect_form.specs.Effects.{AreEffects};
@@ -13,7 +13,7 @@ use crate::faults::OpenFault;
 use crate::page_reads::{Held, add_page};
 use effect_form::{Effect, Place};
 use medium_port::Medium;
-use page_gate::{PageState, look};
+use page_gate::{Gate, look_into};
 use std::alloc::{AllocError, Global};
 use std::collections::BTreeMap;
 use value_form::ObjectId;
@@ -31,12 +31,13 @@ pub struct Found {
     pub ended: bool,
 }
 
-// Adds a page to what was found before it. False where no log has such a page here.
+// Adds a page with this gate and body to what was found before it. False where no log has such a page here.
 fn add_state(
     alloc: Global,
     found: &mut Found,
     page: u32,
-    state: &PageState,
+    gate: Gate,
+    body: &[u8],
 ) -> Result<bool, AllocError>
     requires page { page < 1048576 }
     requires held { HeldBelow page found.old.held }
@@ -44,24 +45,24 @@ fn add_state(
     ensures found { (c : Content) → IsFound found.old.heads found.old.effects.items c.log →
         HeldFit found.old.held c.held →
         IfOk result (λ b. MatchBool b ((more : Content) ×
-        (next (reading_of found.old.ended c) page state.now ≡ reading_of found.new.ended more) ×
+        (next (reading_of found.old.ended c) page (state_with gate body.now) ≡ reading_of found.new.ended more) ×
         IsFound found.new.heads found.new.effects.items more.log × HeldFit found.new.held more.held)
-        (next (reading_of found.old.ended c) page state.now ≡ Damaged page)) }
+        (next (reading_of found.old.ended c) page (state_with gate body.now) ≡ Damaged page)) }
     ensures held { OnOk result (HeldBelow (page + 1) found.new.held) }
     ensures next { IfOk result (λ b. b ≡ true →
         found.new.next ≡ (if found.new.ended then found.old.next else page + 1)) }
-    ensures marked { IfOk result (λ b. b ≡ false → state.now ≢ Blank) }
+    ensures marked { IfOk result (λ b. b ≡ false → state_with gate body.now ≢ Blank) }
     ensures places { OnOk result (ArePlaces found.new.heads) }
     ensures below { (limit : ℕ) → page < limit → AreBelow limit found.old.heads →
         OnOk result (AreBelow limit found.new.heads) }
     ensures ranges { AreEffects found.old.effects.items → OnOk result (AreEffects found.new.effects.items) }
 {
-    match state {
-        PageState::Blank => {
+    match gate {
+        Gate::Blank => {
             found.ended = true;
             Ok(true)
         }
-        PageState::Spoiled => {
+        Gate::Spoiled => {
             if found.ended {
                 return Ok(false);
             }
@@ -69,7 +70,7 @@ fn add_state(
             found.held = None;
             Ok(true)
         }
-        PageState::Gated(body) => {
+        Gate::Open => {
             if found.ended {
                 return Ok(false);
             }
@@ -125,10 +126,11 @@ pub fn read_pages<M: Medium>(alloc: Global, medium: &mut M, pages: u32) -> Resul
         next: 0,
         ended: false,
     };
+    let mut bytes = [0; 4096];
     for page in 0..pages {
-        match look(medium, page) {
+        match look_into(medium, page, &mut bytes) {
             Err(_) => return Err(OpenFault::Medium),
-            Ok(state) => match add_state(alloc, &mut found, page, &state) {
+            Ok(gate) => match add_state(alloc, &mut found, page, gate, &bytes[1..]) {
                 Err(_) => return Err(OpenFault::NoMemory),
                 Ok(good) => {
                     if !good {
