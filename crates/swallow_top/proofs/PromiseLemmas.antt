@@ -1,4 +1,5 @@
 -- What the parts of a call say, said in the words of its promise.
+use Rattle.votes_command.specs.Tellings.{some_down as voters_down}
 use Rattle.swallow_top.proofs.Names.{Every, Plan, IsPlanFault, IsPlan, IsOfLanguage, Trace, open_acts, ObjectId, no_trace, Options, AreWords, Media, some_down, Account, AllKept, Kept, Wanted, Stop, CameOf, HasNoRun, RefusedAs, RunsPlan, AskedNothing, TellsHistory, TellsVolumes, ReadsPlan, ShelfSight, Retired, Rule, TellsAnswer, TellsWatch, TellsRetired, TellsRetirement, mark_at, status_of, Sinking, Ends, EndsIfAny, VoteEnd, Told, IsInputFault, IsInput, IsPoll, PollLine, HavePolled, ReadsPolls, TellsVotes, limits_of, tellers_of, votes_status, Vec, Global, ◌≡◌, ◌⊎◌, ◌≤◌, ◌==◌, inl, inr, ℕ, Bool, true, false, List, [], ◌∷◌, length, Option, Ok, Err, refl, sym, subst, arith, if◌then◌else◌, AreGiven, AreOptions, IsWith, IsNoPlan, AreNoPolls}
 use Rattle.std.specs.Option.{unwrap_or}
 use Rattle.plan_form.specs.Making.{made_plan}

@@ -1,4 +1,5 @@
 -- How the life of a node goes on, and what the code keeps of it.
+use Rattle.world_core.proofs.PlanRangeLemmas.{own-acts as broker-acts}
 use Rattle.std.proofs.Common.{◌≡◌, ◌≤◌, ℕ, Bool, arith, ◌==◌, ◌++◌, List, [], ◌∷◌, take, drop, sym, ap, subst, ◌∙◌, append_assoc}
 use Rattle.trace_logs.proofs.Names.{filter, append-nil, map-append, NodeId, NodeKind, Repository, Broker, Effect, Out, Post, posts, Tree, denote, block, script_text, ActSpec, AreEffects, AreBrokerActs, Scripted, opened_mind, Base, Life, all_effects, gated_life, ReplayedNode, StandsFor, own_acts, Lives, IsSound, take-append-drop, post, IsEffect, AreOuts, crashed_life, IsAble, kind_of, acts_for, every-left}
 use Rattle.std.proofs.lemmas.List.Elements.{filter-append}

@@ -1,4 +1,5 @@
 -- Nodes that are down, by the entries and by what the code gathers of them.
+use Rattle.report_writer.specs.declared.records.Down.{Down as Fallen}
 use Rattle.trace_report.proofs.Names.{flat_map, NodeId, same_node, Repository, Broker, Entry, Down, Tick, Trace, Plan, downs_shown, fallen, shown, nodes_of_kind, ◌≡◌, Some, if◌then◌else◌, List, [], ◌∷◌, ◌++◌, refl, sym, ◌∙◌, ap, flat_map-append, down_shown, nodes_of, cause_of}
 use Rattle.world_core.specs.Counts.{down_cause}
 

@@ -1,4 +1,5 @@
 -- What a pass has seen of its node is so in what a visit finds, and what a visit leaves.
+use Rattle.std.proofs.Math.ListN.{get_or-map as get_or-f}
 use Rattle.wire_lock.proofs.Names.{◌≡◌, ℕ, ◌+◌, ◌==◌, Bool, true, false, List, [], ◌∷◌, ◌++◌, map, length, ◌<◌, Some, None, IsTrue, if◌then◌else◌, filter-append, StampParts, NodeId, same_node, same_is, same_node-refl, CarriesOn, knows, base_of, Begins, entries_of, Entry, Take, Go, Learn, Hear, Gate, Crash, Down, Tick, Base, Life, Flags, World, numbered, gated_life, sent_by, walk, IsDecidedAs, Idle, is_behind, fates_of, walk-more, Trace, Origin, WireParts, base_from, trace_of, world_of, owner_for, owner_of, place_of, number_of, Decided, posted, answer_of, end_of, Sight, base_at, world_at, life_at, flags_at, ◌↔◌, ◌&&◌, take, Option, Result, Ok, Err, IfOk, OnErr, refl, ap, ap₂, sym, ◌∙◌, subst, cond, eq-eqb, get_or, append_assoc, map-append, get_or-map, take_more, IsPassOf, fresh, base_in, board_size, Sending, took, after_input, names, own, lives_on, flagged, is_down, step, start_world, walk_from, walk-append, same-life, stands-stays, IsLeft, HasNoneDue, IsIdle, origin_in, origin_at, IsOf, Owns, IsWirePass, IsAsBefore, Looked, Visited, Gated, Tested, TicksOn, HasNothingOpen, closed}
 use Rattle.std.specs.declared.snapshot.Snapshot.{Snapshot}
 use Rattle.atomic_table.specs.declared.shared.Seat.{Seat}
