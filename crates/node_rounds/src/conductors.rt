@@ -156,12 +156,7 @@ fn asked<F: Fates, C: Clock, M: Medium, R: Wait>(
 }
 
 // A round, in which each node has a turn, or several. The conductor meets them all, and again where it ticked.
-fn go_round<
-    F: Fates + Drop + Send,
-    C: Clock + Drop + Send,
-    M: Medium + Drop + Send,
-    R: Threads + Wait + Sync,
->(
+fn go_round<F: Fates + Send, C: Clock + Send, M: Medium + Send, R: Threads + Wait + Sync>(
     rt: &R,
     wire: &SharedWire<F, C, M>,
     limits: Limits,
@@ -184,7 +179,8 @@ fn go_round<
         TicksAreWanted (base_from (base_of wire.now.lock).origin) (knows result.1).story result.0.items }
 {
     let turns = if limits.workers > 1 { TURNS } else { 1 };
-    let mut shares = round(rt, wire, turns, shares);
+    let mut shares = shares;
+    round(rt, wire, turns, &mut shares);
     let mut pass = pass;
     meet_all(wire, &mut shares, &mut pass);
     let (mut pass, next) = asked(rt, wire, limits, ticks, shares.as_slice(), pass);
@@ -197,12 +193,7 @@ fn go_round<
 
 /// Gives the nodes their turns, round by round, until the run has ended. The pass is the conductor's,
 /// which has made no Tick yet.
-pub fn conduct<
-    F: Fates + Drop + Send,
-    C: Clock + Drop + Send,
-    M: Medium + Drop + Send,
-    R: Threads + Wait + Sync,
->(
+pub fn conduct<F: Fates + Send, C: Clock + Send, M: Medium + Send, R: Threads + Wait + Sync>(
     rt: &R,
     wire: &SharedWire<F, C, M>,
     limits: Limits,

@@ -16,7 +16,6 @@ use std::sync::Wait;
 use stream_port::{Clock, Fates};
 
 /// A node of a run, of either kind. Contracts see its name, how it stands, its pass and its medium.
-#[derive(Drop)]
 pub struct RunNode<F: Fates, C: Clock, M: Medium> {
     pub kind: AnyNode<RepositoryNode<F, C, M>, BrokerNode<F, C, M>>,
 }

@@ -4,7 +4,7 @@ ghost use Rattle.std.specs.List.{AllZip};
 ghost use Rattle.node_rounds.specs.Turns.{GoesFurther, HadSome};
 
 use std::sync::Wait;
-use std::thread::{Threads, join};
+use std::thread::{Threads, join_mut};
 
 /// One that has turns, beside others with which it shares an L.
 pub trait Turns<L> {
@@ -31,23 +31,22 @@ pub trait Turns<L> {
 
 /// One worker's share: each of its nodes has a turn, in their order. True where one of them did anything.
 /// Takes no memory.
-pub fn share<L, S: Turns<L> + Drop, R: Wait>(rt: &R, shared: &L, nodes: Vec<S>) -> (Vec<S>, bool)
-    requires ready { All (S.ready shared.now) nodes.items }
-    ensures does { AllZip (S.does shared.now) nodes.items result.0.items }
-    ensures room { (vec_len result.0 ≡ vec_len nodes) × (vec_capacity result.0 ≡ vec_capacity nodes) }
+pub fn share<L, S: Turns<L>, R: Wait>(rt: &R, shared: &L, nodes: &mut Vec<S>) -> bool
+    requires ready { All (S.ready shared.now) nodes.old.items }
+    ensures does { AllZip (S.does shared.now) nodes.old.items nodes.new.items }
+    ensures room { (vec_len nodes.new ≡ vec_len nodes.old) × (vec_capacity nodes.new ≡ vec_capacity nodes.old) }
 {
-    let mut nodes = nodes;
     let Some(last) = nodes.pop() else {
-        return (nodes, false);
+        return false;
     };
-    let (mut nodes, before) = share(rt, shared, nodes);
+    let before = share(rt, shared, nodes);
     let (last, worked) = last.take_turn(rt, shared);
     nodes.push_reserved(last);
-    (nodes, before || worked)
+    before || worked
 }
 
 // A node that had turns has another, where it may.
-fn turn_again<L, S: Turns<L> + Drop, R: Wait>(rt: &R, shared: &L, node: S) -> (S, bool)
+fn turn_again<L, S: Turns<L>, R: Wait>(rt: &R, shared: &L, node: S) -> (S, bool)
     requires had { HadSome (S.does shared.now) node }
     ensures does { GoesFurther (S.does shared.now) node result.0 }
 {
@@ -60,43 +59,34 @@ fn turn_again<L, S: Turns<L> + Drop, R: Wait>(rt: &R, shared: &L, node: S) -> (S
 }
 
 // The nodes of a share, which had turns, have another, in their order.
-fn share_again<L, S: Turns<L> + Drop, R: Wait>(rt: &R, shared: &L, nodes: Vec<S>) -> (Vec<S>, bool)
-    requires had { All (HadSome (S.does shared.now)) nodes.items }
-    ensures does { AllZip (GoesFurther (S.does shared.now)) nodes.items result.0.items }
-    ensures room { (vec_len result.0 ≡ vec_len nodes) × (vec_capacity result.0 ≡ vec_capacity nodes) }
+fn share_again<L, S: Turns<L>, R: Wait>(rt: &R, shared: &L, nodes: &mut Vec<S>) -> bool
+    requires had { All (HadSome (S.does shared.now)) nodes.old.items }
+    ensures does { AllZip (GoesFurther (S.does shared.now)) nodes.old.items nodes.new.items }
+    ensures room { (vec_len nodes.new ≡ vec_len nodes.old) × (vec_capacity nodes.new ≡ vec_capacity nodes.old) }
 {
-    let mut nodes = nodes;
     let Some(last) = nodes.pop() else {
-        return (nodes, false);
+        return false;
     };
-    let (mut nodes, before) = share_again(rt, shared, nodes);
+    let before = share_again(rt, shared, nodes);
     let (last, worked) = turn_again(rt, shared, last);
     nodes.push_reserved(last);
-    (nodes, before || worked)
+    before || worked
 }
 
 // A share's part of a round: its nodes have so many turns, one at least, or fewer where none of them does
 // anything in one. Takes no memory.
-fn share_often<L, S: Turns<L> + Drop, R: Wait>(
-    rt: &R,
-    shared: &L,
-    turns: u32,
-    nodes: Vec<S>,
-) -> Vec<S>
-    requires ready { All (S.ready shared.now) nodes.items }
-    ensures does { AllZip (S.does shared.now) nodes.items result.items }
-    ensures room { (vec_len result ≡ vec_len nodes) × (vec_capacity result ≡ vec_capacity nodes) }
+fn share_often<L, S: Turns<L>, R: Wait>(rt: &R, shared: &L, turns: u32, nodes: &mut Vec<S>)
+    requires ready { All (S.ready shared.now) nodes.old.items }
+    ensures does { AllZip (S.does shared.now) nodes.old.items nodes.new.items }
+    ensures room { (vec_len nodes.new ≡ vec_len nodes.old) × (vec_capacity nodes.new ≡ vec_capacity nodes.old) }
 {
-    let (mut nodes, mut worked) = share(rt, shared, nodes);
+    let mut worked = share(rt, shared, nodes);
     for _ in 1..turns {
         if !worked {
-            return nodes;
+            return;
         }
-        let (again, more) = share_again(rt, shared, nodes);
-        nodes = again;
-        worked = more;
+        worked = share_again(rt, shared, nodes);
     }
-    nodes
 }
 
 // Whether a share needs no thread beside those of the others.
@@ -106,58 +96,56 @@ fn stands_alone<S>(share: &Vec<S>, others: &Vec<Vec<S>>) -> bool {
 
 // A share on this thread, and a round of the others on another. Takes no memory.
 #[cycle(rounds)]
-fn beside<L: Sync, S: Turns<L> + Drop + Send, R: Threads + Wait + Sync>(
+fn beside<L: Sync, S: Turns<L> + Send, R: Threads + Wait + Sync>(
     rt: &R,
     shared: &L,
     turns: u32,
-    last: Vec<S>,
-    shares: Vec<Vec<S>>,
-) -> (Vec<S>, Vec<Vec<S>>)
-    requires own { All (S.ready shared.now) last.items }
-    requires others { All (λ nodes. All (S.ready shared.now) nodes.items) shares.items }
-    ensures own { AllZip (S.does shared.now) last.items result.0.items }
-    ensures others { AllZip (λ old new. AllZip (S.does shared.now) old.items new.items) shares.items result.1.items }
-    ensures room { (vec_len result.1 ≡ vec_len shares) × (vec_capacity result.1 ≡ vec_capacity shares) }
+    last: &mut Vec<S>,
+    shares: &mut Vec<Vec<S>>,
+)
+    requires own { All (S.ready shared.now) last.old.items }
+    requires others { All (λ nodes. All (S.ready shared.now) nodes.items) shares.old.items }
+    ensures own { AllZip (S.does shared.now) last.old.items last.new.items }
+    ensures others { AllZip (λ old new. AllZip (S.does shared.now) old.items new.items) shares.old.items shares.new.items }
+    ensures room { (vec_len shares.new ≡ vec_len shares.old) × (vec_capacity shares.new ≡ vec_capacity shares.old) }
 {
-    join(
+    join_mut(
         rt,
-        || -> Vec<S>
-            requires { All (S.ready shared.now) last.items }
-            ensures { AllZip (S.does shared.entry.now) last.items result.items }
+        &mut ||
+            requires { All (S.ready shared.now) last.now.items }
+            ensures { AllZip (S.does shared.entry.now) last.entry.now.items last.exit.now.items }
         { share_often(rt, shared, turns, last) },
-        || -> Vec<Vec<S>>
-            requires { All (λ nodes. All (S.ready shared.now) nodes.items) shares.items }
-            ensures { AllZip (λ old new. AllZip (S.does shared.entry.now) old.items new.items) shares.items
-                result.items × (vec_len result ≡ vec_len shares) ×
-                (vec_capacity result ≡ vec_capacity shares) }
+        &mut ||
+            requires { All (λ nodes. All (S.ready shared.now) nodes.items) shares.now.items }
+            ensures { AllZip (λ old new. AllZip (S.does shared.entry.now) old.items new.items) shares.entry.now.items
+                shares.exit.now.items × (vec_len shares.exit.now ≡ vec_len shares.entry.now) ×
+                (vec_capacity shares.exit.now ≡ vec_capacity shares.entry.now) }
         { round(rt, shared, turns, shares) },
-    )
+    );
 }
 
 /// A round: each share is a thread's, and the first one and those without nodes are this thread's. The
 /// nodes of each have so many turns, or fewer where none of the share does anything in one. Takes no memory.
 #[cycle(rounds)]
-pub fn round<L: Sync, S: Turns<L> + Drop + Send, R: Threads + Wait + Sync>(
+pub fn round<L: Sync, S: Turns<L> + Send, R: Threads + Wait + Sync>(
     rt: &R,
     shared: &L,
     turns: u32,
-    shares: Vec<Vec<S>>,
-) -> Vec<Vec<S>>
-    requires ready { All (λ nodes. All (S.ready shared.now) nodes.items) shares.items }
-    ensures does { AllZip (λ old new. AllZip (S.does shared.now) old.items new.items) shares.items result.items }
-    ensures room { (vec_len result ≡ vec_len shares) × (vec_capacity result ≡ vec_capacity shares) }
+    shares: &mut Vec<Vec<S>>,
+)
+    requires ready { All (λ nodes. All (S.ready shared.now) nodes.items) shares.old.items }
+    ensures does { AllZip (λ old new. AllZip (S.does shared.now) old.items new.items) shares.old.items shares.new.items }
+    ensures room { (vec_len shares.new ≡ vec_len shares.old) × (vec_capacity shares.new ≡ vec_capacity shares.old) }
 {
-    let mut shares = shares;
-    let Some(last) = shares.pop() else {
-        return shares;
+    let Some(mut last) = shares.pop() else {
+        return;
     };
-    if stands_alone(&last, &shares) {
-        let last = share_often(rt, shared, turns, last);
-        let mut shares = round(rt, shared, turns, shares);
+    if stands_alone(&last, shares) {
+        share_often(rt, shared, turns, &mut last);
+        round(rt, shared, turns, shares);
         shares.push_reserved(last);
-        return shares;
+        return;
     }
-    let (last, mut shares) = beside(rt, shared, turns, last, shares);
+    beside(rt, shared, turns, &mut last, shares);
     shares.push_reserved(last);
-    shares
 }

@@ -8,7 +8,7 @@ use medium_port::Medium;
 
 /// The meanings of a type of cores over media of one type. Clauses take them all as one record,
 /// `K.Meanings`, beside those of its media, `M.Medium`.
-pub trait Meanings<M: Medium>: Drop {
+pub trait Meanings<M: Medium> {
     /// Its node, whether it can be given inputs, and its medium.
     ghost parts: { Self → CoreParts M };
 

@@ -1,7 +1,6 @@
 use crate::conditions::Condition;
 
 /// What a node has beside its pass.
-#[derive(Drop)]
 pub struct Hand<K> {
     pub core: K,
     pub condition: Condition,

@@ -21,7 +21,6 @@ use wire_lock::{SharedWire, WirePass};
 ///
 /// Contracts see its name, how it stands, its pass and its medium. Between two turns what it keeps is
 /// that of its life in what its pass has seen, so that nothing which other nodes do can touch it.
-#[derive(Drop)]
 pub struct Node<K: StoredCore<M>, F: Fates, C: Clock, M: Medium> {
     alloc: Global,
     node: NodeId,

@@ -10,28 +10,28 @@ use Rattle.node_rounds.proofs.WantedLemmas.{round-wanted, still-wanted}
 use Rattle.node_rounds.proofs.WentLemmas.{all-more, passes-after, same-names, went-round, went-met, kept-round, kept-again}
 use Rattle.node_rounds.proofs.conductors.go_round.Goals as goal
 
-pub round-shares-requires-send-S : goal.round-shares-requires-send-S
-round-shares-requires-send-S g c κs within = param_send 1 _ (arg_send _ no _ (run_send (param 0 g.row.F) (param 1 g.row.C) (param 2 g.row.M) g.F.Fates g.C.Clock g.M.Medium c.type_bounds.send-F c.type_bounds.send-C c.type_bounds.send-M))
+pub round-requires-send-S : goal.round-requires-send-S
+round-requires-send-S g c κs within = param_send 1 _ (arg_send _ no _ (run_send (param 0 g.row.F) (param 1 g.row.C) (param 2 g.row.M) g.F.Fates g.C.Clock g.M.Medium c.type_bounds.send-F c.type_bounds.send-C c.type_bounds.send-M))
 
-pub round-shares-requires-sync-L : goal.round-shares-requires-sync-L
-round-shares-requires-sync-L g c κs within = param_sync 0 _ (arg_sync _ no _ (shared_sync (param 0 g.row.F) (param 1 g.row.C) (param 2 g.row.M) g.F.Fates g.C.Clock g.M.Medium c.type_bounds.send-F c.type_bounds.send-C))
+pub round-requires-sync-L : goal.round-requires-sync-L
+round-requires-sync-L g c κs within = param_sync 0 _ (arg_sync _ no _ (shared_sync (param 0 g.row.F) (param 1 g.row.C) (param 2 g.row.M) g.F.Fates g.C.Clock g.M.Medium c.type_bounds.send-F c.type_bounds.send-C))
 
 pub meet_all-requires : goal.meet_all-requires
 meet_all-requires g c = record {
-  pass = (passes-after c.args.wire.now.lock g.M.Medium c.args.shares.items c.round-shares.result.items c.requires.ready c.round-shares.ensures.does, c.requires.pass);
+  pass = (passes-after c.args.wire.now.lock g.M.Medium c.args.shares.items c.round.new.shares.items c.requires.ready c.round.ensures.does, c.requires.pass);
 }
 
 pub returns-in-Ticked-clause-went : goal.returns-in-Ticked-clause-went
 returns-in-Ticked-clause-went g c =
     let lock = c.args.wire.now.lock in
     went-met lock g.M.Medium c.args.shares.items c.meet_all.new.shares.items c.meet_all-in-Ticked.new.shares.items
-    (went-round lock g.M.Medium c.args.shares.items c.round-shares.result.items c.meet_all.new.shares.items c.round-shares.ensures.does c.meet_all.ensures.met) c.meet_all-in-Ticked.ensures.met
+    (went-round lock g.M.Medium c.args.shares.items c.round.new.shares.items c.meet_all.new.shares.items c.round.ensures.does c.meet_all.ensures.met) c.meet_all-in-Ticked.ensures.met
 
 pub returns-in-Ticked-clause-kept : goal.returns-in-Ticked-clause-kept
 returns-in-Ticked-clause-kept g c =
     let lock = c.args.wire.now.lock in
     kept-again lock g.M.Medium c.args.shares.items c.meet_all.new.shares.items c.meet_all-in-Ticked.new.shares.items c.meet_all.ensures.pass.0
-    (kept-round lock g.M.Medium c.args.shares.items c.round-shares.result.items c.meet_all.new.shares.items c.round-shares.ensures.does c.meet_all.ensures.met) c.meet_all-in-Ticked.ensures.met
+    (kept-round lock g.M.Medium c.args.shares.items c.round.new.shares.items c.meet_all.new.shares.items c.round.ensures.does c.meet_all.ensures.met) c.meet_all-in-Ticked.ensures.met
 
 pub returns-in-Ticked-clause-next : goal.returns-in-Ticked-clause-next
 returns-in-Ticked-clause-next g c =
@@ -63,7 +63,7 @@ returns-in-Ticked-clause-wanted g c = λ told wanted.
     c.meet_all.ensures.pass.0 c.meet_all.ensures.all c.meet_all-in-Ticked.ensures.met c.meet_all-in-Ticked.ensures.seen
     (same-names lock g.M.Medium c.args.shares.items c.meet_all-in-Ticked.new.shares.items c.requires.ready
     (went-met lock g.M.Medium c.args.shares.items nodes c.meet_all-in-Ticked.new.shares.items
-    (went-round lock g.M.Medium c.args.shares.items c.round-shares.result.items nodes c.round-shares.ensures.does c.meet_all.ensures.met) c.meet_all-in-Ticked.ensures.met)) wanted
+    (went-round lock g.M.Medium c.args.shares.items c.round.new.shares.items nodes c.round.ensures.does c.meet_all.ensures.met) c.meet_all-in-Ticked.ensures.met)) wanted
 
 pub returns : goal.returns
 returns g c =
@@ -75,13 +75,13 @@ returns g c =
     let said = subst (λ ns. Follows tells limits c.asked-pass.result.1 ns met asked) c.as_slice.ensures.value c.asked-pass.ensures.next in
     record {
       passes = (c.meet_all.ensures.pass.0, c.asked-pass.ensures.pass);
-      went = went-round c.args.wire.now.lock g.M.Medium c.args.shares.items c.round-shares.result.items nodes c.round-shares.ensures.does c.meet_all.ensures.met;
-      kept = kept-round c.args.wire.now.lock g.M.Medium c.args.shares.items c.round-shares.result.items nodes c.round-shares.ensures.does c.meet_all.ensures.met;
+      went = went-round c.args.wire.now.lock g.M.Medium c.args.shares.items c.round.new.shares.items nodes c.round.ensures.does c.meet_all.ensures.met;
+      kept = kept-round c.args.wire.now.lock g.M.Medium c.args.shares.items c.round.new.shares.items nodes c.round.ensures.does c.meet_all.ensures.met;
       all = all-more met.story asked.story nodes (follows-begins tells limits met asked c.asked-pass.result.1 nodes said) c.meet_all.ensures.all;
       next = follows-looked tells limits (knows c.args.pass) met asked c.asked-pass.result.1 nodes c.meet_all.ensures.looked said;
       wanted = λ told wanted.
           still-wanted c.args.wire.now.lock (knows c.args.pass) asked c.args.shares.items nodes c.requires.conductor c.requires.pass.own c.asked-pass.ensures.pass.own
           (follows-none tells limits (knows c.args.pass) asked c.asked-pass.result.1 nodes c.in_default.not-Ticked (follows-looked tells limits (knows c.args.pass) met asked c.asked-pass.result.1 nodes c.meet_all.ensures.looked said))
           (same-names c.args.wire.now.lock g.M.Medium c.args.shares.items nodes c.requires.ready
-          (went-round c.args.wire.now.lock g.M.Medium c.args.shares.items c.round-shares.result.items nodes c.round-shares.ensures.does c.meet_all.ensures.met)) wanted;
+          (went-round c.args.wire.now.lock g.M.Medium c.args.shares.items c.round.new.shares.items nodes c.round.ensures.does c.meet_all.ensures.met)) wanted;
     }
