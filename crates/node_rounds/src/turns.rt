@@ -42,7 +42,7 @@ pub fn share<L, S: Turns<L>, R: Wait>(rt: &R, shared: &L, nodes: &mut Vec<S>) ->
     let before = share(rt, shared, nodes);
     let (last, worked) = last.take_turn(rt, shared);
     nodes.push_reserved(last);
-    before || worked
+    before | worked
 }
 
 // A node that had turns has another, where it may.
@@ -70,7 +70,7 @@ fn share_again<L, S: Turns<L>, R: Wait>(rt: &R, shared: &L, nodes: &mut Vec<S>) 
     let before = share_again(rt, shared, nodes);
     let (last, worked) = turn_again(rt, shared, last);
     nodes.push_reserved(last);
-    before || worked
+    before | worked
 }
 
 // A share's part of a round: its nodes have so many turns, one at least, or fewer where none of them does
