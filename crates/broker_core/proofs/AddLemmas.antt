@@ -1,10 +1,24 @@
 -- What may be added to the notes: an effect that is owed, and what a message adds.
-use Rattle.broker_core.proofs.Names.{ActSpec, Value, Effect, ToRead, ToWrite, Stop, Asks, Over, IsAnswerTo, Given, Heard, Last, Notes, Phase, is_none, reads_now, writes_now, unended, open_last, act_at, stop_at, most_of, another_at, fits_at, fits_step_at, start_at, shown_at, by_clock_at, try_or_spent_at, closed_in, after_tries_at, by_phase, owed_at, IsAskedFor, MayAdd, MayBegin, IsHeard, ◌≡◌, ◌≢◌, ℕ, max, ◌+◌, ◌<◌, ◌==◌, nat_lt, Bool, true, false, ◌&&◌, length, List, refl, sym, ◌∙◌, subst, Option, Some, None, if◌then◌else◌, arith, common_steps, eqb-true, eq-eqb, false≢true, slice_get_within, slice_get}
+use Rattle.broker_core.proofs.Names.{ActSpec, Value, Effect, ToRead, ToWrite, Stop, Asks, Over, IsAnswerTo, Given, Heard, Last, Notes, Phase, is_none, reads_now, writes_now, unended, open_last, act_at, stop_at, most_of, another_at, fits_at, fits_step_at, start_at, shown_at, by_clock_at, try_or_spent_at, closed_in, after_tries_at, by_phase, owed_at, IsAskedFor, MayAdd, MayBegin, IsHeard, ◌≡◌, ◌≢◌, ℕ, max, ◌+◌, ◌<◌, ◌==◌, nat_lt, Bool, true, false, ◌&&◌, length, List, refl, sym, ◌∙◌, subst, Option, Some, None, if◌then◌else◌, arith, common_steps, eqb-true, eq-eqb, false≢true, slice_get_within, slice_get, ◌-◌, ◌≤◌, inl, inr, slice_get_cases}
 use Rattle.effect_form.specs.declared.effects.Effect.TheVariants as effect
 use Rattle.script_meaning.specs.Meaning as meaning
-use Rattle.broker_core.specs.declared.givens.Given.TheVariants as given
+use Rattle.broker_ledger.specs.declared.givens.Given.TheVariants as given
 use Rattle.broker_core.specs.declared.phases.Phase.TheVariants as phase
-use Rattle.broker_core.proofs.SoundLemmas.{and-right}
+use Rattle.broker_ledger.proofs.SoundLemmas.{and-right}
+
+-- the act that was begun last is there
+pub act-there : (acts : List ActSpec) (n : Notes) → n.started ≢ 0 → n.started ≤ length acts → act_at acts n ≢ None
+act-there acts n s l = there (n.started == 0) refl
+  where
+    place : (i : ℕ) → i < length acts → slice_get acts i ≢ None
+    place i h = elim (slice_get_cases acts i).1 [
+      | inl k ↦ λ q. (let w : Some k.0 ≡ None = sym k.2 ∙ q in cc)
+      | inr k ↦ absurd (omega arith)
+    ]
+
+    there : (c : Bool) → (n.started == 0) ≡ c → (if c then None else slice_get acts (n.started - 1)) ≢ None
+    there true e = absurd (s (eqb-true n.started 0 e))
+    there false e = place (n.started - 1) (omega arith)
 
 -- ---- an open try
 

@@ -1,12 +1,12 @@
 -- A call's turn is that of the rules.
-use Rattle.broker_core.proofs.Names.{ActSpec, Effect, Out, Turn, Tree, Given, Heard, Notes, Phase, tasks, task_of, Scripted, Book, book, enter, fits, counts, keep, stage, standing, Desk, desk_at, all_effects, note, hears, send, fuel, state, settle_up, say, Shows, noted, answered_in, standing_at, AreNotes, LedgerParts, Settled, kept, answers_noted, settled, most_steps, MayBegin, listed, phase_in, effects_from, ledger_from, BrokerParts, IsBroker, IsLedTo, book_of, parts_of, FirstInRange, reading, NoRun, Gives, follows, FirstFits, ◌≡◌, ℕ, min, ◌+◌, ◌*◌, ◌≤◌, ◌==◌, true, length, reverse, List, [], ◌∷◌, ◌++◌, refl, sym, ◌∙◌, ap, subst, Option, Some, None, arith, false≢true, length-map, length-take, length-take-le, reverse-append, reverse-reverse, common_steps}
+use Rattle.broker_core.proofs.Names.{ActSpec, Effect, Out, Turn, Tree, Given, Heard, Notes, Phase, tasks, task_of, Scripted, Book, book, enter, fits, counts, keep, stage, standing, Desk, desk_at, all_effects, note, hears, send, fuel, state, settle_up, say, Shows, noted, answered_in, standing_at, AreNotes, LedgerParts, Settled, kept, answers_noted, settled, most_steps, MayBegin, listed, phase_in, effects_from, ledger_from, BrokerParts, IsBroker, IsLedTo, book_of, parts_of, FirstInRange, reading, NoRun, Gives, follows, FirstFits, ◌≡◌, ℕ, min, ◌+◌, ◌*◌, ◌≤◌, ◌==◌, true, length, reverse, List, [], ◌∷◌, ◌++◌, refl, sym, ◌∙◌, ap, subst, Option, Some, None, arith, false≢true, length-map, length-take, length-take-le, reverse-append, reverse-reverse, common_steps, AreAsked, answers_given, act_at, tree_of}
 use Rattle.effect_form.specs.declared.effects.Effect.TheVariants as effect
 use Rattle.broker_core.proofs.AddLemmas.{heard-may}
-use Rattle.broker_core.proofs.CountLemmas.{are-same}
-use Rattle.broker_core.proofs.FitLemmas.{fits-is}
+use Rattle.broker_ledger.proofs.FitLemmas.{fits-is}
 use Rattle.broker_core.proofs.ReadingLemmas.{reads-own}
-use Rattle.broker_core.proofs.NotedLemmas.{noted-shows}
-use Rattle.broker_core.proofs.AnyLemmas.{Knows, meets, standing-any}
+use Rattle.broker_ledger.proofs.NotedLemmas.{noted-shows}
+use Rattle.broker_ledger.proofs.MeetLemmas.{Knows, meets}
+use Rattle.broker_core.proofs.AnyLemmas.{standing-any}
 use Rattle.broker_core.proofs.DoneLemmas.{knows-of}
 use Rattle.broker_core.proofs.GoodLemmas.{RunIs, counted}
 use Rattle.broker_core.proofs.TurnLemmas.{At, Led, settle-led, knows, state-note, not-later}
@@ -143,6 +143,18 @@ may-begin l h p log q (Some f) view k fit r =
     let b : Book = book_of s (parts_of l h log) in
     let t = meets s l.run l.acts l.notes (kept l.notes l.answers) b (knows-of s (parts_of l h log) l.notes (kept l.notes l.answers) m (k.led s m)) ff.1 in
     heard-may l.acts l.notes (kept l.notes l.answers) l.number f r.1 (fits-is l.number l.acts s l.run l.notes (kept l.notes l.answers) b f t ∙ ff.2)
+
+module _ (acts : List ActSpec) (n : Notes) (raw : List Given) where
+  -- with other answers behind them
+  pub are-same : (new : List Given) → AreNotes acts n raw → kept n new ≡ kept n raw → answered_in n.last ≤ length new → AreNotes acts n new
+  are-same new k e l = record {
+    started = k.started;
+    tries = k.tries;
+    clock = k.clock;
+    answered = l;
+    few = k.few;
+    asked = λ t. subst (λ (xs : List Given). AreAsked (tree_of (act_at acts n)) (answers_given xs)) (sym e) (k.asked t);
+  }
 
 -- where the answers that the notes count still stand, there are as many
 few-kept : (n : Notes) (old new : List Given) → answered_in n.last ≤ length old → kept n new ≡ kept n old → answered_in n.last ≤ length new

@@ -1,10 +1,11 @@
 -- What `done` and `hear` answer.
 use Rattle.broker_core.proofs.Names.{ActSpec, Effect, Out, Turn, ToRead, ToWrite, Tree, Given, Heard, Notes, Phase, tasks, task_of, Scripted, Book, is_none, Stage, Idle, Refused, Opening, Asking, Finishing, Stopping, Closing, stage, standing, all_over, Desk, Hear, desk_at, send, notes_of, act_at, most_of, over_at, phase_at, standing_at, LedgerParts, kept, listed, BrokerParts, IsBroker, IsLedTo, book_of, parts_of, Gives, turn_of, ◌≡◌, ℕ, ◌==◌, Bool, true, false, ◌&&◌, length, List, [], ◌++◌, reverse, refl, sym, ◌∙◌, ap, subst, Option, Some, None, if◌then◌else◌, eqb-true, append-nil, length-map, done, is_quiet, over_by, is_done}
-use Rattle.broker_core.proofs.ShapeLemmas.{over-is}
-use Rattle.broker_core.proofs.SoundLemmas.{sound-kept}
-use Rattle.broker_core.proofs.NotedLemmas.{most-of-last}
+use Rattle.broker_ledger.proofs.ShapeLemmas.{over-is}
+use Rattle.broker_ledger.proofs.SoundLemmas.{sound-kept}
+use Rattle.broker_ledger.proofs.NotedLemmas.{most-of-last}
 use Rattle.broker_core.proofs.PhaseLemmas.{shown}
-use Rattle.broker_core.proofs.AnyLemmas.{Knows, phase-any, standing-any}
+use Rattle.broker_ledger.proofs.MeetLemmas.{Knows}
+use Rattle.broker_core.proofs.AnyLemmas.{phase-any, standing-any}
 
 quiet-is : (s : Stage) → is_quiet (shown s) ≡ is_none (standing s)
 quiet-is Idle = refl

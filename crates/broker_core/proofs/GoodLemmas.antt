@@ -6,7 +6,7 @@ use Rattle.pseudo_time.specs.declared.decisions.Decision.TheVariants as decision
 use Rattle.effect_form.specs.declared.effects.Effect.TheVariants as effect
 use Rattle.effect_form.specs.declared.outcomes.Outcome.TheVariants as outcome
 use Rattle.message_form.specs.declared.messages.Message.TheVariants as message
-use Rattle.broker_core.proofs.SoundLemmas.{and-left, and-both}
+use Rattle.broker_ledger.proofs.SoundLemmas.{and-left, and-both}
 use Rattle.broker_core.proofs.PhaseLemmas.{StageOf}
 
 same_task-self : (a : Task) → same_task a a ≡ true

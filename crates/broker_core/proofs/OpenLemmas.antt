@@ -1,7 +1,26 @@
 -- A log that is opened.
-use Rattle.broker_core.proofs.Names.{ActSpec, Effect, Tree, Heard, ResumeFault, tasks, Scripted, book, keep, resume_fault, Shows, passed, LedgerParts, kept, fresh_ledger, fits_now, added, led, other_at, fault_of, IsLedTo, parts_of, ◌≡◌, ℕ, ◌≤◌, ◌==◌, Bool, true, false, List, [], ◌∷◌, ◌++◌, reverse, refl, sym, ◌∙◌, ap, subst, Option, Some, None, if◌then◌else◌, Err, nothing_heard, opened_broker, Opens}
-use Rattle.broker_core.specs.declared.resume_faults.ResumeFault.TheVariants as fault
-use Rattle.broker_core.proofs.LogLemmas.{Took, led-took, other-is, fault-is, not-old}
+use Rattle.broker_core.proofs.Names.{ActSpec, Effect, Tree, Heard, ResumeFault, tasks, Scripted, book, keep, resume_fault, Shows, passed, LedgerParts, kept, fresh_ledger, fits_now, added, led, other_at, fault_of, IsLedTo, parts_of, ◌≡◌, ℕ, ◌≤◌, ◌==◌, Bool, true, false, List, [], ◌∷◌, ◌++◌, reverse, refl, sym, ◌∙◌, ap, subst, Option, Some, None, if◌then◌else◌, Err, nothing_heard, opened_broker, Opens, Book, other_plan, plan_fault, nat_lt, arith, common_steps}
+use Rattle.broker_ledger.specs.declared.resume_faults.ResumeFault.TheVariants as fault
+use Rattle.broker_ledger.proofs.LogLemmas.{Took, led-took, other-is}
+
+module _ (script : List ℕ → Tree) (me run : ℕ) (acts : List ActSpec) where
+  -- why the broker can't go on
+  pub fault-is : (l : LedgerParts) (log : List Effect) (other : Option ℕ) → Took script me run acts l log → other ≡ other_plan script me run (tasks acts) log → fault_of l other ≡ resume_fault script me run (tasks acts) log
+  fault-is l log other t o =
+      let b : Book = book (keep script me run (tasks acts) log) in
+      ap (λ (x : ℕ). if nat_lt l.run x then Some (fault.OldRun x) else (if x == l.run then plan_fault other else None)) t.shows.run_is
+      ∙ (ap (λ (x : ℕ). if nat_lt x b.run then Some (fault.OldRun b.run) else (if b.run == x then plan_fault other else None)) t.of_run
+      ∙ ap (λ (x : Option ℕ). if nat_lt run b.run then Some (fault.OldRun b.run) else (if b.run == run then plan_fault x else None)) o)
+
+  old-not : (c : Bool) (x : ResumeFault) (y : Option ResumeFault) → (if c then Some x else y) ≡ None → c ≡ false
+  old-not true x y e = cc
+  old-not false x y e = refl
+
+  above-not : (m n : ℕ) → nat_lt m n ≡ false → n ≤ m
+  above-not m n h = grind (arith, common_steps)
+
+  pub not-old : (log : List Effect) → resume_fault script me run (tasks acts) log ≡ None → (book (keep script me run (tasks acts) log)).run ≤ run
+  not-old log e = above-not run _ (old-not (nat_lt run (book (keep script me run (tasks acts) log)).run) _ _ e)
 
 -- whose the ledger is stays
 Mine : LedgerParts → LedgerParts → Type 0

@@ -1,9 +1,9 @@
 -- The stage that the notes show, and the request that stands at it, are those of the book.
-use Rattle.broker_core.proofs.Names.{ActSpec, ToRead, ToWrite, Stop, Asks, Over, Tree, Given, Heard, Last, Notes, Phase, is_stamp, is_time, Task, tasks, Scripted, Try, Book, open_try, last_try, time_of, is_none, stop_of, Stage, Idle, Refused, Opening, Asking, Finishing, Stopping, Closing, no_answer, by_stop, by_last, is_asking, is_closed, stage_of, stage, standing, last_of, notes_of, answers_given, answers_of_last, act_at, timeout_of, phase_of, phase_by_last, phase_by_stop, phase_by_open, phase_at, standing_for, standing_by, standing_at, Sound, ◌≡◌, ℕ, ◌==◌, Bool, true, false, ◌&&◌, ◌||◌, List, refl, ◌∙◌, ap, Option, Some, None, if◌then◌else◌, option_map}
+use Rattle.broker_core.proofs.Names.{ActSpec, ToRead, ToWrite, Stop, Asks, Over, Tree, Given, Heard, Last, Notes, Phase, is_stamp, is_time, Task, Try, Book, open_try, last_try, time_of, is_none, stop_of, Stage, Idle, Refused, Opening, Asking, Finishing, Stopping, Closing, no_answer, by_stop, by_last, is_asking, is_closed, stage_of, stage, standing, last_of, notes_of, act_at, timeout_of, phase_of, phase_by_last, phase_by_stop, phase_by_open, phase_at, standing_for, standing_by, standing_at, ◌≡◌, ℕ, ◌==◌, Bool, true, false, ◌&&◌, ◌||◌, List, refl, ◌∙◌, ap, Option, Some, None, if◌then◌else◌, option_map}
 use Rattle.value_form.specs.declared.endings.Ending.TheVariants as ending
 use Rattle.broker_core.specs.declared.phases.Phase.TheVariants as phase
-use Rattle.broker_core.proofs.ShapeLemmas.{open-is, open-is-last}
-use Rattle.broker_core.proofs.MeetLemmas.{act-is, stop-is}
+use Rattle.broker_ledger.proofs.ShapeLemmas.{open-is, open-is-last}
+use Rattle.broker_ledger.proofs.MeetLemmas.{act-is, stop-is}
 
 -- a stage without its try
 abbrev pub shown : Stage → Phase
@@ -37,15 +37,7 @@ last-shown h (Some t) = closing (is_none t.end || is_closed h t) t
     closing false t = refl
 
 module _ (script : List ℕ → Tree) (run : ℕ) (acts : List ActSpec) where
-  -- what the answers and the notes are to the book
-  pub record Meets (n : Notes) (answers : List Given) (b : Book) : Type 0 where
-    pub scripted : Scripted script acts
-    pub sound : Sound run (tasks acts) b
-    pub here : b.run ≡ run
-    pub notes_are : n ≡ notes_of b
-    pub answers_are : answers_given answers ≡ answers_of_last (last_try b)
-
-  open-shown : (b : Book) (answers : List Given) (h : Heard) (o : Option Try) → Meets (notes_of b) answers b → open_try b ≡ o →
+  open-shown : (b : Book) (answers : List Given) (h : Heard) (o : Option Try) → Meets script run acts (notes_of b) answers b → open_try b ≡ o →
       phase_by_open acts (notes_of b) answers h (option_map last_of o) ≡ shown (stage_of script h o (last_try b))
   open-shown b answers h None k e = last-shown h (last_try b)
   open-shown b answers h (Some t) k e =
@@ -56,12 +48,12 @@ module _ (script : List ℕ → Tree) (run : ℕ) (acts : List ActSpec) where
   here-shown true p s e = e
   here-shown false p s e = refl
 
-  phase-shown : (b : Book) (answers : List Given) (h : Heard) → Meets (notes_of b) answers b → phase_at acts run (notes_of b) answers h ≡ shown (stage script run b h)
+  phase-shown : (b : Book) (answers : List Given) (h : Heard) → Meets script run acts (notes_of b) answers b → phase_at acts run (notes_of b) answers h ≡ shown (stage script run b h)
   phase-shown b answers h k =
       here-shown (b.run == run) _ _
       (ap (phase_by_open acts (notes_of b) answers h) (open-is b) ∙ open-shown b answers h (open_try b) k refl)
 
-  pub phase-is : (n : Notes) (answers : List Given) (b : Book) (h : Heard) → Meets n answers b → phase_at acts run n answers h ≡ shown (stage script run b h)
+  pub phase-is : (n : Notes) (answers : List Given) (b : Book) (h : Heard) → Meets script run acts n answers b → phase_at acts run n answers h ≡ shown (stage script run b h)
   phase-is n answers b h k =
       ap (λ (x : Notes). phase_at acts run x answers h) k.notes_are
       ∙ phase-shown b answers h (record { scripted = k.scripted; sound = k.sound; here = k.here; notes_are = refl; answers_are = k.answers_are })
@@ -121,7 +113,7 @@ module _ (script : List ℕ → Tree) (run : ℕ) (acts : List ActSpec) where
   none-stands None k = refl
   none-stands (Some l) k = refl
 
-  standing-shown : (b : Book) (answers : List Given) (s : Stage) → Meets (notes_of b) answers b → StageOf b s → standing_at acts (notes_of b) (shown s) ≡ standing s
+  standing-shown : (b : Book) (answers : List Given) (s : Stage) → Meets script run acts (notes_of b) answers b → StageOf b s → standing_at acts (notes_of b) (shown s) ≡ standing s
   unfolding StageOf
   standing-shown b answers Idle k e = none-stands (option_map last_of (last_try b)) (timeout_of (act_at acts (notes_of b)))
   standing-shown b answers (Refused t) k e = standing-last b answers t phase.Refused (open-is-last b t e)
@@ -135,10 +127,10 @@ module _ (script : List ℕ → Tree) (run : ℕ) (acts : List ActSpec) where
   standing-shown b answers (Stopping t o) k e = standing-last b answers t (phase.Stopping o) (open-is-last b t e)
   standing-shown b answers (Closing t) k e = standing-last b answers t phase.Closing e
 
-  pub standing-is : (n : Notes) (answers : List Given) (b : Book) (h : Heard) → Meets n answers b →
+  pub standing-is : (n : Notes) (answers : List Given) (b : Book) (h : Heard) → Meets script run acts n answers b →
       standing_at acts n (phase_at acts run n answers h) ≡ standing (stage script run b h)
   standing-is n answers b h k =
-      let k' : Meets (notes_of b) answers b = record { scripted = k.scripted; sound = k.sound; here = k.here; notes_are = refl; answers_are = k.answers_are } in
+      let k' : Meets script run acts (notes_of b) answers b = record { scripted = k.scripted; sound = k.sound; here = k.here; notes_are = refl; answers_are = k.answers_are } in
       ap (standing_at acts n) (phase-is n answers b h k)
       ∙ (ap (λ (x : Notes). standing_at acts x (shown (stage script run b h))) k.notes_are
       ∙ standing-shown b answers (stage script run b h) k' (stage-of-is b h))

@@ -18,7 +18,7 @@ use Rattle.serial_model.specs.Ranges.{StopInRange}
 use Rattle.serial_model.specs.Requests.{AsksInRange, AnswerHasBytes}
 use Rattle.serial_model.proofs.RequestLemmas.{denote-HasBytes, stop-InRange}
 use Rattle.serial_model.proofs.TestLemmas.{by_test}
-use Rattle.broker_core.specs.declared.givens.Given.TheVariants as given
+use Rattle.broker_ledger.specs.declared.givens.Given.TheVariants as given
 use Rattle.broker_core.specs.declared.phases.Phase.TheVariants as phase
 use Rattle.serial_model.proofs.ScriptRangeLemmas.{printable-InRange}
 use Rattle.serial_model.proofs.TextByteLemmas.{script-IsBytes}

@@ -3,9 +3,9 @@ use Rattle.broker_core.proofs.Names.{ActSpec, ObjectId, Value, same_stamp, Decis
 use Rattle.pseudo_time.specs.declared.decisions.Decision.TheVariants as decision
 use Rattle.message_form.specs.declared.messages.Message.TheVariants as message
 use Rattle.broker_core.specs.declared.phases.Phase.TheVariants as phase
-use Rattle.broker_core.proofs.ShapeLemmas.{open-is-last}
-use Rattle.broker_core.proofs.MeetLemmas.{act-is, stop-is}
-use Rattle.broker_core.proofs.PhaseLemmas.{shown, Meets, StageOf, phase-is, stage-of-is}
+use Rattle.broker_ledger.proofs.ShapeLemmas.{open-is-last}
+use Rattle.broker_ledger.proofs.MeetLemmas.{act-is, stop-is, Meets}
+use Rattle.broker_core.proofs.PhaseLemmas.{shown, StageOf, phase-is, stage-of-is}
 
 commit-is : (t : Try) (d : Decision) → commit_answered t.task.index d ≡ decided_commit t d
 commit-is t decision.Committed = refl

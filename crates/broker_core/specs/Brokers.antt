@@ -5,11 +5,11 @@ use Rattle.effect_form.specs.declared.effects.Effect.{Effect}
 use Rattle.effect_form.specs.declared.effects.Effect.TheVariants as effect
 use Rattle.message_form.specs.declared.turns.Turn.{Turn}
 use Rattle.serial_model.specs.Questions.{Tree}
-use Rattle.broker_core.specs.declared.heards.Heard.{Heard}
-use Rattle.broker_core.specs.declared.resume_faults.ResumeFault.{ResumeFault}
-use Rattle.broker_core.specs.declared.resume_faults.ResumeFault.TheVariants as fault
-use Rattle.broker_core.specs.Tasks.{tasks}
-use Rattle.broker_core.specs.Fits.{fits, resume_fault}
+use Rattle.broker_ledger.specs.declared.heards.Heard.{Heard}
+use Rattle.broker_ledger.specs.declared.resume_faults.ResumeFault.{ResumeFault}
+use Rattle.broker_ledger.specs.declared.resume_faults.ResumeFault.TheVariants as fault
+use Rattle.broker_ledger.specs.Tasks.{tasks}
+use Rattle.broker_ledger.specs.Fits.{fits, resume_fault}
 use Rattle.broker_core.specs.Owed.{done}
 use Rattle.broker_core.specs.Turns.{Desk, Input, desk_at, desk_turn, note, hears, say, settle_up, fuel}
 pub use Rattle.broker_core.specs.Parts.{BrokerParts, opened_broker, book_of}

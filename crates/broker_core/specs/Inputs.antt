@@ -1,19 +1,20 @@
 -- What an input leads to, from the notes.
 use Rattle.std.specs.Prelude.{ℕ, ◌==◌, ◌&&◌, nat_lt, Bool, length, List, [], ◌∷◌, Option, Some, None, if◌then◌else◌}
 use Rattle.value_form.specs.declared.acts.ActSpec.{ActSpec}
-use Rattle.broker_core.specs.declared.resume_faults.ResumeFault.{ResumeFault}
-use Rattle.broker_core.specs.declared.resume_faults.ResumeFault.TheVariants as fault
-use Rattle.broker_core.specs.Fits.{plan_fault}
-use Rattle.broker_core.specs.Notes.{act_at, most_of, over_at}
+use Rattle.broker_ledger.specs.declared.resume_faults.ResumeFault.{ResumeFault}
+use Rattle.broker_ledger.specs.declared.resume_faults.ResumeFault.TheVariants as fault
+use Rattle.broker_ledger.specs.Fits.{plan_fault}
+use Rattle.broker_ledger.specs.Notes.{act_at, most_of, over_at}
 use Rattle.effect_form.specs.declared.effects.Effect.{Effect}
 use Rattle.message_form.specs.declared.turns.Out.{Out}
-use Rattle.broker_core.specs.declared.givens.Given.{Given}
-use Rattle.broker_core.specs.declared.heards.Heard.{Heard}
-use Rattle.broker_core.specs.declared.notes.Notes.{Notes}
+use Rattle.broker_ledger.specs.declared.givens.Given.{Given}
+use Rattle.broker_ledger.specs.declared.heards.Heard.{Heard}
+use Rattle.broker_ledger.specs.declared.notes.Notes.{Notes}
 use Rattle.broker_core.specs.declared.phases.Phase.{Phase}
 use Rattle.broker_core.specs.Phases.{phase_at}
-use Rattle.broker_core.specs.Ledgers.{LedgerParts, MayAdd, Settled, kept, settled, most_steps}
-use Rattle.broker_core.specs.TakenUp.{added}
+use Rattle.broker_ledger.specs.Ledgers.{LedgerParts, MayAdd, kept}
+use Rattle.broker_core.specs.Settling.{Settled, settled, most_steps}
+use Rattle.broker_ledger.specs.TakenUp.{added}
 
 abbrev pub listed : Option Out → List Out
 listed None = []

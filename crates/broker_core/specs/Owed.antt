@@ -1,13 +1,14 @@
 -- The effects that a broker owes, and when it is done.
-use Rattle.std.specs.Prelude.{ℕ, max, nat_lt, ◌==◌, Bool, true, ◌&&◌, length, List, [], ◌∷◌, Option, Some, None, if◌then◌else◌, slice_get}
+use Rattle.std.specs.Prelude.{ℕ, max, nat_lt, ◌==◌, Bool, ◌&&◌, length, List, [], ◌∷◌, Option, Some, None, if◌then◌else◌, slice_get}
 use Rattle.effect_form.specs.declared.effects.Effect.{Effect}
 use Rattle.effect_form.specs.declared.effects.Effect.TheVariants as effect
 use Rattle.effect_form.specs.declared.outcomes.Outcome.TheVariants as outcome
 use Rattle.serial_model.specs.Questions.{Tree}
-use Rattle.broker_core.specs.declared.heards.Heard.{Heard}
-use Rattle.broker_core.specs.Tasks.{Task}
-use Rattle.broker_core.specs.Book.{Try, Act, Book}
-use Rattle.broker_core.specs.Fits.{another, has_outcome, is_none, act_effect, next_clock, shown_to}
+use Rattle.broker_ledger.specs.declared.heards.Heard.{Heard}
+use Rattle.broker_ledger.specs.Tasks.{Task}
+use Rattle.broker_ledger.specs.Book.{Try, Act, Book}
+use Rattle.broker_ledger.specs.Fits.{another, is_none, act_effect, next_clock, shown_to}
+pub use Rattle.broker_ledger.specs.Fits.{all_over}
 use Rattle.broker_core.specs.Stages.{Stage, Idle, Refused, Opening, Asking, Finishing, Stopping, Closing, stage, standing, is_closed}
 
 -- the act begins, where the plan has a further one
@@ -55,11 +56,6 @@ module _ (script : List ℕ → Tree) (me run : ℕ) (acts : List Task) where
   -- the next effect that is owed
   abbrev pub owed : Book → Heard → Option Effect
   owed b h = if nat_lt b.run run then Some (effect.Run run) else by_stage me acts h b (stage script run b h)
-
--- each act has its outcome
-abbrev pub all_over : List Act → Bool
-all_over [] = true
-all_over (a ∷ acts) = has_outcome a && all_over acts
 
 module _ (script : List ℕ → Tree) (run : ℕ) (acts : List Task) where
   -- each act of the plan has its outcome, and nothing is outstanding

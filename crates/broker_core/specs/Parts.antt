@@ -3,17 +3,17 @@ use Rattle.std.specs.Prelude.{◌≡◌, ◌≤◌, ℕ, List, reverse}
 use Rattle.value_form.specs.declared.acts.ActSpec.{ActSpec}
 use Rattle.effect_form.specs.declared.effects.Effect.{Effect}
 use Rattle.serial_model.specs.Questions.{Tree}
-use Rattle.broker_core.specs.declared.givens.Given.{Given}
-use Rattle.broker_core.specs.declared.heards.Heard.{Heard}
-use Rattle.broker_core.specs.declared.notes.Notes.{Notes}
+use Rattle.broker_ledger.specs.declared.givens.Given.{Given}
+use Rattle.broker_ledger.specs.declared.heards.Heard.{Heard}
+use Rattle.broker_ledger.specs.declared.notes.Notes.{Notes}
 use Rattle.broker_core.specs.declared.phases.Phase.{Phase}
-use Rattle.broker_core.specs.Tasks.{Scripted, tasks}
-use Rattle.broker_core.specs.Book.{Book, book}
-use Rattle.broker_core.specs.Fits.{keep}
-use Rattle.broker_core.specs.Stages.{nothing_heard}
-use Rattle.broker_core.specs.Notes.{Shows}
+use Rattle.broker_ledger.specs.Tasks.{Scripted, tasks}
+use Rattle.broker_ledger.specs.Book.{Book, book}
+use Rattle.broker_ledger.specs.Fits.{keep}
+use Rattle.broker_ledger.specs.Heards.{nothing_heard}
+use Rattle.broker_ledger.specs.Notes.{Shows}
 use Rattle.broker_core.specs.Phases.{phase_at}
-use Rattle.broker_core.specs.Ledgers.{LedgerParts, kept}
+use Rattle.broker_ledger.specs.Ledgers.{LedgerParts, kept}
 use Rattle.broker_core.specs.Ranges.{Ranged}
 
 -- its number, the run and the acts that the plan gives it, its log, oldest effect first, and what it heard

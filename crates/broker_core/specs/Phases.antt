@@ -16,21 +16,22 @@ use Rattle.message_form.specs.declared.messages.Message.{Message}
 use Rattle.message_form.specs.declared.messages.Message.TheVariants as message
 use Rattle.message_form.specs.declared.turns.Out.{Out}
 use Rattle.script_meaning.specs.Meaning.{ToRead, ToWrite, Stop, Asks, Over}
-use Rattle.broker_core.specs.declared.givens.Given.{Given}
-use Rattle.broker_core.specs.declared.heards.Heard.{Heard}
-use Rattle.broker_core.specs.declared.notes.Last.{Last}
-use Rattle.broker_core.specs.declared.notes.Notes.{Notes}
+use Rattle.broker_ledger.specs.declared.givens.Given.{Given}
+use Rattle.broker_ledger.specs.declared.heards.Heard.{Heard}
+use Rattle.broker_ledger.specs.declared.notes.Last.{Last}
+use Rattle.broker_ledger.specs.declared.notes.Notes.{Notes}
 use Rattle.broker_core.specs.declared.phases.Phase.{Phase}
 use Rattle.broker_core.specs.declared.phases.Phase.TheVariants as phase
 use Rattle.broker_core.specs.declared.replies.Reply.{Reply}
 use Rattle.broker_core.specs.declared.replies.Reply.TheVariants.{Ignored, Hears, Adds}
-use Rattle.broker_core.specs.Tasks.{task_of}
-use Rattle.broker_core.specs.Tests.{is_stamp, is_time}
-use Rattle.broker_core.specs.Fits.{is_none, act_effect, next_clock}
-use Rattle.broker_core.specs.Stages.{is_asking, is_finished, is_settled}
+use Rattle.broker_ledger.specs.Tasks.{task_of}
+use Rattle.broker_ledger.specs.Tests.{is_stamp, is_time}
+use Rattle.broker_ledger.specs.Fits.{is_none, act_effect, next_clock}
+use Rattle.broker_core.specs.Stages.{is_asking, is_finished}
 use Rattle.pseudo_time.specs.Nodes.{repository}
 use Rattle.broker_core.specs.Rows.{when}
-use Rattle.broker_core.specs.Notes.{open_last, time_at, stop_at, act_at, another_at, index_of, home_of, timeout_of, most_of, clock_of}
+use Rattle.broker_ledger.specs.Heards.{closed_at, closed_in}
+use Rattle.broker_ledger.specs.Notes.{open_last, time_at, stop_at, act_at, another_at, index_of, home_of, timeout_of, most_of, clock_of}
 
 -- ---- the stage
 
@@ -40,9 +41,6 @@ phase_of (Asks (ToWrite o v)) = phase.Writing o v
 phase_of (Over ending.Finished) = phase.Finishing
 phase_of (Over (ending.Withdrawn l)) = phase.Stopping (outcome.Withdrawn l)
 phase_of (Over (ending.Failed l k)) = phase.Stopping (outcome.Failed l k)
-
-abbrev pub closed_at : Heard → Last → Bool
-closed_at h l = if is_none l.end then false else (is_settled l.end || is_stamp h.closed l.stamp)
 
 -- the last try, where none is open
 abbrev pub phase_by_last : Heard → Option Last → Phase
@@ -181,10 +179,6 @@ by_clock_at me a n None = effect.End (index_of a) (outcome.Spent (max n.clock (s
 
 abbrev pub try_or_spent_at : ℕ → Option ActSpec → Notes → Effect
 try_or_spent_at me a n = by_clock_at me a n (next_clock n.clock (shown_at a n))
-
-abbrev pub closed_in : Heard → Option Last → Bool
-closed_in h None = false
-closed_in h (Some l) = closed_at h l
 
 module _ (me : ℕ) (acts : List ActSpec) where
   abbrev pub after_tries_at : Heard → Notes → Option Effect

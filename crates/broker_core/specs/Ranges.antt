@@ -6,11 +6,11 @@ use Rattle.value_form.specs.ValueBytes.{IsValue}
 use Rattle.effect_form.specs.declared.effects.Effect.{Effect}
 use Rattle.effect_form.specs.declared.effects.Effect.TheVariants as effect
 use Rattle.message_form.specs.Ranges.{IsEffect}
-use Rattle.broker_core.specs.declared.givens.Given.{Given}
-use Rattle.broker_core.specs.declared.givens.Given.TheVariants as given
-use Rattle.broker_core.specs.declared.notes.Last.{Last}
-use Rattle.broker_core.specs.declared.notes.Notes.{Notes}
-use Rattle.broker_core.specs.Ledgers.{AreBrokerActs, LedgerParts, kept}
+use Rattle.broker_ledger.specs.declared.givens.Given.{Given}
+use Rattle.broker_ledger.specs.declared.givens.Given.TheVariants as given
+use Rattle.broker_ledger.specs.declared.notes.Last.{Last}
+use Rattle.broker_ledger.specs.declared.notes.Notes.{Notes}
+use Rattle.broker_ledger.specs.Ledgers.{AreBrokerActs, LedgerParts, kept}
 
 -- an answer to a read has bytes
 abbrev pub GivenInRange : Given → Type 0

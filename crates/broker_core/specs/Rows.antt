@@ -13,11 +13,11 @@ use Rattle.message_form.specs.declared.messages.Message.TheVariants as message
 use Rattle.script_meaning.specs.Meaning as meaning
 use Rattle.script_meaning.specs.Meaning.{Answer, ToRead, ToWrite}
 use Rattle.serial_model.specs.Questions.{Tree}
-use Rattle.broker_core.specs.declared.heards.Heard.{Heard}
+use Rattle.broker_ledger.specs.declared.heards.Heard.{Heard}
 use Rattle.broker_core.specs.declared.replies.Reply.{Reply}
 use Rattle.broker_core.specs.declared.replies.Reply.TheVariants.{Ignored, Hears, Adds}
-use Rattle.broker_core.specs.Book.{Try, time_of}
-use Rattle.broker_core.specs.Fits.{stop_of}
+use Rattle.broker_ledger.specs.Book.{Try, time_of}
+use Rattle.broker_ledger.specs.Fits.{stop_of}
 use Rattle.broker_core.specs.Stages.{Stage, Refused, Opening, Asking, Finishing, Closing, is_finished}
 
 abbrev pub ends : Try → Outcome → Reply

@@ -9,14 +9,11 @@ use Rattle.message_form.specs.declared.messages.Message.TheVariants as message
 use Rattle.message_form.specs.declared.turns.Out.{Out}
 use Rattle.script_meaning.specs.Meaning.{Request, ToRead, ToWrite, Stop, Asks, Over}
 use Rattle.serial_model.specs.Questions.{Tree}
-use Rattle.broker_core.specs.declared.heards.Heard.{Heard}
-use Rattle.broker_core.specs.Tests.{is_stamp, is_time}
-use Rattle.broker_core.specs.Book.{Try, Book, open_try, last_try, time_of}
-use Rattle.broker_core.specs.Fits.{is_none, stop_of}
-
--- a broker that was opened just now
-abbrev pub nothing_heard : Heard
-nothing_heard = record { gone = false; begun = None; ended = None; closed = None }
+use Rattle.broker_ledger.specs.declared.heards.Heard.{Heard}
+use Rattle.broker_ledger.specs.Tests.{is_stamp, is_time}
+use Rattle.broker_ledger.specs.Book.{Try, Book, open_try, last_try, time_of}
+pub use Rattle.broker_ledger.specs.Heards.{is_settled, nothing_heard}
+use Rattle.broker_ledger.specs.Fits.{is_none, stop_of}
 
 -- the stage of the last try
 pub data Stage : Type 0 where
@@ -47,17 +44,6 @@ is_finished (Over ending.Finished) = true
 is_finished (Over (ending.Withdrawn l)) = false
 is_finished (Over (ending.Failed l k)) = false
 is_finished (Asks q) = false
-
--- an End that the home knows of: it has decided
-abbrev pub is_settled : Option Outcome → Bool
-is_settled None = false
-is_settled (Some outcome.Committed) = true
-is_settled (Some (outcome.Withdrawn l)) = false
-is_settled (Some (outcome.Failed l k)) = false
-is_settled (Some (outcome.LaterRead o e)) = false
-is_settled (Some (outcome.LaterVersion o x)) = false
-is_settled (Some (outcome.Expired d m)) = true
-is_settled (Some (outcome.Spent c)) = false
 
 -- a try is closed by an End Committed or Expired, or by a Decided of its stamp after another End
 abbrev pub is_closed : Heard → Try → Bool

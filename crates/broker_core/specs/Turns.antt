@@ -5,12 +5,12 @@ use Rattle.message_form.specs.declared.messages.Message.{Message}
 use Rattle.pseudo_time.specs.declared.nodes.NodeId.{NodeId}
 use Rattle.message_form.specs.declared.turns.Out.{Out}
 use Rattle.serial_model.specs.Questions.{Tree}
-use Rattle.broker_core.specs.declared.heards.Heard.{Heard}
+use Rattle.broker_ledger.specs.declared.heards.Heard.{Heard}
 use Rattle.broker_core.specs.declared.replies.Reply.{Reply}
 use Rattle.broker_core.specs.declared.replies.Reply.TheVariants.{Ignored, Hears, Adds}
-use Rattle.broker_core.specs.Tasks.{Task}
-use Rattle.broker_core.specs.Book.{Book, book}
-use Rattle.broker_core.specs.Fits.{keep}
+use Rattle.broker_ledger.specs.Tasks.{Task}
+use Rattle.broker_ledger.specs.Book.{Book, book}
+use Rattle.broker_ledger.specs.Fits.{keep}
 use Rattle.broker_core.specs.Stages.{stage, standing}
 use Rattle.broker_core.specs.Rows.{row, news}
 use Rattle.broker_core.specs.Owed.{owed}

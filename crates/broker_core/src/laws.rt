@@ -7,10 +7,10 @@ ghost use Rattle.effect_form.specs.declared.effects.Effect.{Effect};
 ghost use Rattle.script_form.specs.RowTexts.{script_text};
 ghost use Rattle.script_form.specs.Printable.{IsPrintable};
 ghost use Rattle.serial_model.specs.Questions.{Tree};
-ghost use Rattle.broker_core.specs.Fits.{keep, resume_fault};
-ghost use Rattle.broker_core.specs.Ledgers.{IsBrokerAct};
+ghost use Rattle.broker_ledger.specs.Fits.{keep, resume_fault};
+ghost use Rattle.broker_ledger.specs.Ledgers.{IsBrokerAct};
 ghost use Rattle.broker_core.specs.Readings.{reading};
-ghost use Rattle.broker_core.specs.Tasks.{Task, Scripted};
+ghost use Rattle.broker_ledger.specs.Tasks.{Task, Scripted};
 ghost use Rattle.broker_core.specs.Turns.{Desk, Input, desk_turn};
 
 /// Two scripts of the language with one text are one. So the reading of some acts reads each of them,

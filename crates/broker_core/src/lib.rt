@@ -3,20 +3,12 @@
 #![tactic(auto)]
 
 mod brokers;
-mod givens;
-mod heards;
 mod laws;
-mod ledgers;
-mod logs;
-mod notes;
 mod owed;
 mod phases;
 mod replies;
-mod resume_faults;
 
+pub use broker_ledger::{Heard, ResumeFault, counted_effects};
 pub use brokers::Broker;
-pub use heards::Heard;
 pub use laws::{law_of_readings, readings_agree};
-pub use logs::counted_effects;
 pub use message_form::{Out, Turn};
-pub use resume_faults::ResumeFault;

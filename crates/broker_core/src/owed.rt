@@ -1,12 +1,12 @@
 ghost use Rattle.std.specs.Prelude.{◌≡◌, ◌≢◌, ◌≤◌, ◌∷◌, ◌==◌, Some, None, reverse, length, slice_get, IfOk, OnOk, OnErr};
 ghost use Rattle.std.specs.Option.{option_map, option_copied};
-ghost use Rattle.broker_core.specs.Notes as notes;
-ghost use Rattle.broker_core.specs.Ledgers as ledgers;
+ghost use Rattle.broker_ledger.specs.Notes as notes;
+ghost use Rattle.broker_ledger.specs.Ledgers as ledgers;
 ghost use Rattle.broker_core.specs.Phases as spec;
+ghost use Rattle.broker_core.specs.Settling as settling;
 
-use crate::heards::Heard;
-use crate::ledgers::Ledger;
 use crate::phases::{Phase, phase_now};
+use broker_ledger::{Heard, Ledger};
 use effect_form::{Effect, Outcome};
 use pseudo_time::{Stamp, next_clock};
 use script_form::print;
@@ -117,9 +117,9 @@ pub fn settle(
     heard: &Heard,
     effects: &mut Vec<Effect>,
 ) -> Result<Phase, AllocError>
-    ensures settled { OnOk result (ledgers.settled ledger.old.number ledger.old.run ledger.old.acts
+    ensures settled { OnOk result (settling.settled ledger.old.number ledger.old.run ledger.old.acts
         ledger.old.answers heard.now
-        (ledgers.most_steps ledger.old.acts) (reverse effects.old.items) ledger.old.notes ≡
+        (settling.most_steps ledger.old.acts) (reverse effects.old.items) ledger.old.notes ≡
         (reverse effects.new.items, ledger.new.notes)) }
     ensures phase { IfOk result (λ p. p ≡
         spec.phase_at ledger.new.acts ledger.new.run ledger.new.notes

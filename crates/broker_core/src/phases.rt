@@ -1,16 +1,14 @@
 ghost use Rattle.std.specs.Prelude.{◌≡◌, ◌≢◌, ◌≤◌, IfOk};
 ghost use Rattle.std.specs.Option.{option_map};
 ghost use Rattle.script_run.specs.RunParts.{stop_of};
-ghost use Rattle.broker_core.specs.Tests as tests;
+ghost use Rattle.broker_ledger.specs.Tests as tests;
 ghost use Rattle.broker_core.specs.Stages as stages;
-ghost use Rattle.broker_core.specs.Notes as notes;
-ghost use Rattle.broker_core.specs.Ledgers.{AreNotes, kept};
+ghost use Rattle.broker_ledger.specs.Notes as notes;
+ghost use Rattle.broker_ledger.specs.Ledgers.{AreNotes, kept};
 ghost use Rattle.broker_core.specs.Phases as spec;
 ghost use Rattle.pseudo_time.specs.Nodes as nodes;
 
-use crate::heards::Heard;
-use crate::ledgers::Ledger;
-use crate::notes::{Last, Notes};
+use broker_ledger::{Heard, Last, Ledger, is_stamp};
 use effect_form::Outcome;
 use message_form::{Message, Out};
 use pseudo_time::{NodeId, PseudoTime, Stamp};
@@ -46,63 +44,12 @@ impl Phase {
     }
 }
 
-fn is_stamp(heard: &Option<Stamp>, stamp: Stamp) -> bool
-    ensures { result ≡ tests.is_stamp heard.now stamp }
-{
-    match heard {
-        Some(known) => known.is_same(stamp),
-        None => false,
-    }
-}
-
 fn is_time(heard: &Option<PseudoTime>, at: PseudoTime) -> bool
     ensures { result ≡ tests.is_time heard.now at }
 {
     match heard {
         Some(known) => known.is_same(at),
         None => false,
-    }
-}
-
-// Whether the home has decided with this end.
-fn is_settled(end: &Option<Outcome>) -> bool
-    ensures { result ≡ stages.is_settled end.now }
-{
-    matches!(
-        end,
-        Some(Outcome::Committed) | Some(Outcome::Expired { .. })
-    )
-}
-
-impl Last {
-    /// The pseudotime of the current request. A script makes 10,000 requests at most.
-    pub fn time(&self) -> PseudoTime
-        requires { self.now.answered ≤ 10000 }
-        ensures { result ≡ notes.time_at self.now }
-    {
-        let Some(time) = PseudoTime::new(self.stamp, self.answered as u32 + 1) else {
-            unreachable!()
-        };
-        time
-    }
-
-    /// Whether nothing more is to be heard of the try.
-    pub fn is_closed(&self, heard: &Heard) -> bool
-        ensures { result ≡ spec.closed_at heard.now self.now }
-    {
-        self.end.is_some() && (is_settled(&self.end) || is_stamp(&heard.closed, self.stamp))
-    }
-}
-
-impl Notes {
-    /// Whether nothing more is to be heard of the last try.
-    pub fn is_closed(&self, heard: &Heard) -> bool
-        ensures { result ≡ spec.closed_in heard.now self.now.last }
-    {
-        match self.last {
-            Some(last) => last.is_closed(heard),
-            None => false,
-        }
     }
 }
 

@@ -1,15 +1,13 @@
 ghost use Rattle.std.specs.Prelude.{◌≡◌, ◌≢◌, ◌≤◌, IfOk};
 ghost use Rattle.broker_core.specs.Stages.{is_finished};
 ghost use Rattle.broker_core.specs.Rows.{when};
-ghost use Rattle.broker_core.specs.Notes as notes;
+ghost use Rattle.broker_ledger.specs.Notes as notes;
 ghost use Rattle.broker_core.specs.Phases as spec;
-ghost use Rattle.broker_core.specs.Ledgers.{kept};
+ghost use Rattle.broker_ledger.specs.Ledgers.{kept};
 ghost use Rattle.script_run.specs.RunParts.{stop_of};
 
-use crate::heards::Heard;
-use crate::ledgers::Ledger;
-use crate::notes::Last;
 use crate::phases::Phase;
+use broker_ledger::{Heard, Last, Ledger};
 use effect_form::{Effect, Outcome};
 use message_form::Message;
 use pseudo_time::{Decision, PseudoTime, Stamp};

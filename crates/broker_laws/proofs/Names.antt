@@ -11,7 +11,7 @@ pub use Rattle.broker_core.specs.Tasks.{Task, task_with}
 pub use Rattle.broker_core.specs.Tests.{is_stamp, is_task, is_time, same_bytes, same_task}
 pub use Rattle.broker_core.specs.Turns.{Desk, Go, Hear, Input, Take, all_effects, desk_turn, fuel, hears, note, note_if, reply, say, send, state}
 unfoldable pub use Rattle.broker_core.specs.Turns.{settle_up}
-pub use Rattle.broker_core.specs.declared.heards.Heard.{Heard}
+pub use Rattle.broker_core.specs.Heard.{Heard}
 pub use Rattle.broker_core.specs.declared.replies.Reply.{Reply}
 pub use Rattle.broker_core.specs.declared.replies.Reply.TheVariants.{Adds, Hears, Ignored}
 pub use Rattle.broker_laws.specs.Fits.{EndFits, EndsBy, FitsBook, FitsLog, IsAsked, IsReady, IsTidy, MayTry, OpenAt, may_start}

@@ -2,8 +2,8 @@
 use Rattle.broker_laws.proofs.Names.{Task, Effect, Outcome, Book, book, close, enter, add_if, counts, first_some, fits, keep, other_plan, unfit_act, IsReady, Tree, ◌≡◌, ℕ, ◌==◌, nat_lt, Bool, true, false, ◌&&◌, List, [], ◌∷◌, refl, sym, subst, Option, Some, None, if◌then◌else◌, arith, common_steps, plan_fault, resume_fault}
 use Rattle.effect_form.specs.declared.effects.Effect.TheVariants as effect
 use Rattle.effect_form.specs.declared.outcomes.Outcome.TheVariants as outcome
-use Rattle.broker_core.specs.declared.resume_faults.ResumeFault.{ResumeFault}
-use Rattle.broker_core.specs.declared.resume_faults.ResumeFault.TheVariants as fault
+use Rattle.broker_core.specs.ResumeFault.{ResumeFault}
+use Rattle.broker_core.specs.ResumeFault.TheVariants as fault
 
 module _ (script : List ℕ → Tree) (me run : ℕ) (acts : List Task) where
   run-close : (o : Outcome) (b : Book) → (close o b).run ≡ b.run

@@ -8,7 +8,7 @@ use Rattle.message_form.specs.declared.messages.Message.{Message}
 use Rattle.message_form.specs.declared.messages.Message.TheVariants as message
 use Rattle.message_form.specs.Posts.{Post}
 use Rattle.serial_model.specs.Questions.{Tree}
-use Rattle.broker_core.specs.declared.heards.Heard.{Heard}
+use Rattle.broker_core.specs.Heard.{Heard}
 use Rattle.broker_core.specs.Tasks.{Task}
 use Rattle.broker_core.specs.Book.{Act, Book, Try, front, last_try, tries_of}
 use Rattle.broker_core.specs.Fits.{is_none}

@@ -7,8 +7,8 @@ use Rattle.serial_model.specs.Questions.{Tree}
 use Rattle.version_store.specs.Storage.{storage}
 use Rattle.version_store.specs.declared.faults.OpenFault.{OpenFault}
 use Rattle.version_store.specs.declared.faults.OpenFault.TheVariants as opening
-use Rattle.broker_core.specs.declared.resume_faults.ResumeFault.{ResumeFault}
-use Rattle.broker_core.specs.declared.resume_faults.ResumeFault.TheVariants as resuming
+use Rattle.broker_core.specs.ResumeFault.{ResumeFault}
+use Rattle.broker_core.specs.ResumeFault.TheVariants as resuming
 use Rattle.broker_core.specs.Book.{book}
 use Rattle.broker_core.specs.Brokers.{Gives, Opens, is_done, opened_broker, turn_of}
 use Rattle.broker_core.specs.Fits.{keep, resume_fault}

@@ -5,8 +5,8 @@ use Rattle.effect_form.specs.declared.effects.Effect.{Effect}
 use Rattle.version_store.specs.StoreWords.{medium_of, effects_in}
 use Rattle.version_store.specs.declared.faults.OpenFault.{OpenFault}
 use Rattle.version_store.specs.declared.faults.OpenFault.TheVariants as opening
-use Rattle.broker_core.specs.declared.resume_faults.ResumeFault.{ResumeFault}
-use Rattle.broker_core.specs.declared.resume_faults.ResumeFault.TheVariants as resuming
+use Rattle.broker_core.specs.ResumeFault.{ResumeFault}
+use Rattle.broker_core.specs.ResumeFault.TheVariants as resuming
 use Rattle.broker_core.specs.Book.{book}
 use Rattle.broker_core.specs.Fits.{keep}
 use Rattle.broker_core.specs.Owed.{done}

@@ -11,7 +11,7 @@ pub use Rattle.broker_core.specs.Tasks.{Scripted, Task, task_of, tasks}
 pub use Rattle.broker_core.specs.Tests.{is_stamp, is_time}
 pub use Rattle.broker_core.specs.Turns.{Desk, desk_at, desk_turn, fuel, hears, note_if, reply, say, state}
 unfoldable pub use Rattle.broker_core.specs.Turns.{settle_up}
-pub use Rattle.broker_core.specs.declared.heards.Heard.{Heard}
+pub use Rattle.broker_core.specs.Heard.{Heard}
 pub use Rattle.broker_core.specs.declared.replies.Reply.{Reply}
 pub use Rattle.broker_core.specs.declared.replies.Reply.TheVariants.{Adds, Hears, Ignored}
 pub use Rattle.broker_laws.proofs.BookSteps.{AllDecided, BookSound, HasSettled, HasStarted, StageSound, Trail, enter-sound, last-among, open-among, stage-sound}

@@ -20,7 +20,7 @@ use Rattle.repository_laws.specs.Facts.{WriteSent}
 use Rattle.repository_laws.specs.Waits.{Waits}
 use Rattle.message_form.specs.Posts.{WasSent}
 use Rattle.plan_form.specs.Plans.{InRange}
-use Rattle.broker_core.specs.declared.heards.Heard.{Heard}
+use Rattle.broker_core.specs.Heard.{Heard}
 use Rattle.broker_core.specs.Book.{Try, book, tries, find, last_try}
 use Rattle.broker_core.specs.Stages.{stage, standing, is_settled}
 use Rattle.pseudo_time.specs.Nodes.{repository, broker}

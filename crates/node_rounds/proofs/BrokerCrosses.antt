@@ -19,8 +19,8 @@ use Rattle.broker_core.proofs.heards.Heard.TheSendSync as heard
 use Rattle.broker_core.proofs.phases.Phase.TheSendSync as phase
 use Rattle.broker_core.proofs.notes.Notes.TheSendSync as notes
 use Rattle.broker_core.proofs.givens.Given.TheSendSync as given
-use Rattle.broker_core.specs.contracts.ledgers.Ledger as Ledger
-use Rattle.broker_core.specs.contracts.ledgers.Ledger.TheInside as LedgerInside
+use Rattle.broker_core.specs.LedgerContracts as Ledger
+use Rattle.broker_core.specs.LedgerContracts.TheInside as LedgerInside
 use Rattle.broker_core.specs.contracts.brokers.Broker as Broker
 use Rattle.broker_core.specs.contracts.brokers.Broker.TheInside as BrokerInside
 use Rattle.broker_node.specs.contracts.acts.OwnActs as OwnActs

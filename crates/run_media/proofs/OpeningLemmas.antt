@@ -7,10 +7,10 @@ use Rattle.pseudo_time.specs.declared.down_causes.DownCause.{DownCause}
 use Rattle.version_store.specs.declared.stores.Store.{Store}
 use Rattle.plan_form.specs.PlanTexts.{IsOfLanguage}
 use Rattle.serial_model.specs.Questions.{Tree}
-use Rattle.broker_core.specs.declared.resume_faults.ResumeFault.{ResumeFault}
+use Rattle.broker_core.specs.ResumeFault.{ResumeFault}
 use Rattle.broker_core.specs.Book.{book}
 use Rattle.broker_core.specs.Brokers.{Opens}
-use Rattle.broker_core.specs.declared.resume_faults.ResumeFault.TheVariants as fault
+use Rattle.broker_core.specs.ResumeFault.TheVariants as fault
 use Rattle.world_core.proofs.OneReading.{own-reading}
 use Rattle.run_media.specs.declared.openings.Opening.TheVariants.{Open, Shut}
 use Rattle.run_media.specs.declared.openings.Refusal.{Refusal}

@@ -15,8 +15,8 @@ use Rattle.version_store.specs.Storage.{storage}
 use Rattle.version_store.specs.StoreWords.{medium_of, effects_in}
 use Rattle.version_store.specs.declared.stores.Store.{Store}
 use Rattle.plan_form.specs.declared.plans.Plan.{Plan}
-use Rattle.broker_core.specs.declared.resume_faults.ResumeFault.{ResumeFault}
-use Rattle.broker_core.specs.declared.resume_faults.ResumeFault.TheVariants as resuming
+use Rattle.broker_core.specs.ResumeFault.{ResumeFault}
+use Rattle.broker_core.specs.ResumeFault.TheVariants as resuming
 use Rattle.broker_core.specs.Fits.{resume_fault}
 use Rattle.broker_core.specs.Readings.{reading}
 use Rattle.broker_core.specs.Tasks.{tasks}

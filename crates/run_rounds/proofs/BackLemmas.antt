@@ -1,7 +1,7 @@
 -- Media that are handed back where no run began, and the broker whose log refuses a plan.
 use Rattle.run_rounds.proofs.Names.{NodeId, NodeKind, Repository, Broker, repository, broker, Rose, Effect, storage, Plan, reading, in_plan, is_within, is_ready, Opening, Open, Shut, Wanting, Media, IsBack, AreBack, HasOpened, medium_in, log_in, IsInRange, IsOpen, AreReady, node_count, node_at, place_of, place-at, at-place, in-at, Became, inner, IsKeptWhole, in-range, zip-back, ◌≡◌, ◌<◌, ◌+◌, ◌-◌, inl, nat_lt, ℕ, zero, suc, Bool, true, false, IsTrue, List, [], ◌∷◌, ◌++◌, length, map, Option, Some, None, Ok, Err, Result, is_none, slice_get, refl, ap, sym, subst, ◌∙◌, arith, if◌then◌else◌, All, AllZip, All-cons, All-nil, same_Some, kind_ready, IsLeftAlone, IsWanting, kind_fault, fault_in, IsReadyFor, IsFirstRefusal, Shows, IsFirstFault}
 use Rattle.pseudo_time.specs.declared.down_causes.DownCause.TheVariants as down
-use Rattle.broker_core.specs.declared.resume_faults.ResumeFault.{ResumeFault}
+use Rattle.broker_core.specs.ResumeFault.{ResumeFault}
 use Rattle.run_media.specs.declared.openings.Refusal.TheVariants as refusal
 
 zip-mapped : {A B C : Type 0} (P : A → B → Type 0) (Q : A → C → Type 0) (f : B → C) → ((x : A) (y : B) → P x y → Q x (f y)) → (xs : List A) (ys : List B) → AllZip P xs ys → AllZip Q xs (map f ys)

@@ -8,8 +8,8 @@ use Rattle.pseudo_time.specs.Nodes.{broker}
 use Rattle.effect_form.specs.declared.effects.Effect.{Effect}
 use Rattle.version_store.specs.Storage.{storage}
 use Rattle.plan_form.specs.declared.plans.Plan.{Plan}
-use Rattle.broker_core.specs.declared.resume_faults.ResumeFault.{ResumeFault}
-use Rattle.broker_core.specs.declared.resume_faults.ResumeFault.TheVariants as resuming
+use Rattle.broker_core.specs.ResumeFault.{ResumeFault}
+use Rattle.broker_core.specs.ResumeFault.TheVariants as resuming
 use Rattle.broker_core.specs.Readings.{reading}
 use Rattle.world_core.specs.declared.traces.Trace.{Trace}
 use Rattle.world_core.specs.Legal.{JustNodes, AllReady, base_of, asked_of, in_plan, is_within}

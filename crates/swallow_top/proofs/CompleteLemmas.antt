@@ -4,8 +4,8 @@ use Rattle.std.proofs.lemmas.List.Sums.{sum_by-cons}
 use Rattle.pseudo_time.specs.declared.nodes.NodeKind.{NodeKind}
 use Rattle.pseudo_time.specs.declared.nodes.NodeKind.TheVariants.{Repository, Broker}
 use Rattle.medium_port.specs.Image.{Image, IsBlankImage}
-use Rattle.broker_core.specs.declared.resume_faults.ResumeFault.{ResumeFault}
-use Rattle.broker_core.specs.declared.resume_faults.ResumeFault.TheVariants as resuming
+use Rattle.broker_core.specs.ResumeFault.{ResumeFault}
+use Rattle.broker_core.specs.ResumeFault.TheVariants as resuming
 use Rattle.plan_volumes.proofs.OrderLemmas.{at-place}
 use Rattle.swallow_top.proofs.SmoothLemmas.{complete, none-down}
 use Rattle.swallow_top.proofs.StandingLemmas.{none-open}

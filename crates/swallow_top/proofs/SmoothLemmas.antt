@@ -4,7 +4,7 @@ use Rattle.pseudo_time.specs.declared.down_causes.DownCause.TheVariants as down
 use Rattle.effect_form.specs.declared.outcomes.Outcome.TheVariants as ended
 use Rattle.value_form.proofs.ValueLaws.{ok_is}
 use Rattle.broker_core.specs.Owed.{all_over, done}
-use Rattle.broker_core.specs.declared.heards.Heard.{Heard}
+use Rattle.broker_core.specs.Heard.{Heard}
 use Rattle.world_core.specs.Pasts.{WasNotOpened}
 use Rattle.run_rounds.specs.Costs.{cost_of, costs}
 use Rattle.run_rounds.proofs.TrailLemmas.{costs-append}

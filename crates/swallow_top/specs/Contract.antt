@@ -10,7 +10,7 @@ use Rattle.version_store.specs.Storage.{storage}
 use Rattle.plan_form.specs.declared.plans.Plan.{Plan}
 use Rattle.plan_form.specs.declared.plan_faults.PlanKind.{PlanKind}
 use Rattle.plan_form.specs.PlanFaults.{IsPlanFault}
-use Rattle.broker_core.specs.declared.resume_faults.ResumeFault.{ResumeFault}
+use Rattle.broker_core.specs.ResumeFault.{ResumeFault}
 use Rattle.world_core.specs.Legal.{fates_of, in_plan}
 use Rattle.run_rounds.specs.Stories.{no_trace}
 use Rattle.command_words.specs.declared.commands.Options.{Options}

@@ -4,7 +4,7 @@ ghost use Rattle.plan_form.specs.PlanTexts.{IsOfLanguage};
 ghost use Rattle.world_core.specs.Walks as walks;
 ghost use Rattle.world_core.specs.Legal.{JustNodes};
 ghost use Rattle.run_rounds.specs.Reports.{open_acts};
-ghost use Rattle.broker_core.specs.declared.resume_faults.ResumeFault.TheVariants as resuming;
+ghost use Rattle.broker_core.specs.ResumeFault.TheVariants as resuming;
 ghost use Rattle.run_rounds.specs.Ends as ends;
 ghost use Rattle.run_rounds.specs.Runs.{HasRanges};
 ghost use Rattle.swallow_top.specs.Lines as lines;

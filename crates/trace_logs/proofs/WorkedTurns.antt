@@ -15,7 +15,7 @@ use Rattle.object_history.specs.Answers.{some_put, has_put}
 use Rattle.object_history.specs.History.{settle_of, version_count, pick, scan, stretched, floor_of}
 use Rattle.object_history.specs.Objects.{same_object, same_value}
 use Rattle.repository_core.specs.Turns as turns
-use Rattle.broker_core.specs.declared.heards.Heard.{Heard}
+use Rattle.broker_core.specs.Heard.{Heard}
 use Rattle.broker_core.specs.Stages.{nothing_heard}
 use Rattle.broker_core.specs.Turns as desks
 use Rattle.trace_logs.proofs.WorkedTraces.{home, desk, stamp, blank, prompt}

@@ -16,7 +16,7 @@ use Rattle.repository_core.specs.Hands.{Mind as HandMind}
 use Rattle.repository_core.specs.Turns as turns
 pub use Rattle.repository_core.specs.Logs.{is_commit}
 pub use Rattle.pseudo_time.specs.Nodes.{repository, broker}
-use Rattle.broker_core.specs.declared.heards.Heard.{Heard}
+use Rattle.broker_core.specs.Heard.{Heard}
 use Rattle.broker_core.specs.Fits.{resume_fault}
 use Rattle.broker_core.specs.Stages.{nothing_heard}
 use Rattle.broker_core.specs.Tasks.{tasks}

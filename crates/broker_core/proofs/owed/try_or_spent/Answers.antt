@@ -1,5 +1,5 @@
 use Rattle.broker_core.proofs.Names.{◌∙◌, ap, sym, option_copied}
-use Rattle.broker_core.proofs.CountLemmas.{act-there}
+use Rattle.broker_core.proofs.AddLemmas.{act-there}
 use Rattle.broker_core.proofs.owed.try_or_spent.Goals as goal
 
 pub unreachable-requires : goal.unreachable-requires

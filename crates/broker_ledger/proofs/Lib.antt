@@ -1,0 +1,10 @@
+pub mod CountLemmas
+pub mod FitLemmas
+pub mod GivenLemmas
+pub mod LogLemmas
+pub mod MeetLemmas
+pub mod NotedLemmas
+pub mod ShapeLemmas
+pub mod SoundLemmas
+pub mod StopLemmas
+pub mod Names

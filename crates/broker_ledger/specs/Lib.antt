@@ -1,0 +1,10 @@
+pub mod Book
+pub mod Counted
+pub mod Fits
+pub mod Heards
+pub mod Ledgers
+pub mod Notes
+pub mod Sound
+pub mod TakenUp
+pub mod Tasks
+pub mod Tests
