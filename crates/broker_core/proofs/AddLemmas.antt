@@ -1,7 +1,7 @@
 -- What may be added to the notes: an effect that is owed, and what a message adds.
 use Rattle.broker_core.proofs.Names.{ActSpec, Value, Effect, ToRead, ToWrite, Stop, Asks, Over, IsAnswerTo, Given, Heard, Last, Notes, Phase, is_none, reads_now, writes_now, unended, open_last, act_at, stop_at, most_of, another_at, fits_at, fits_step_at, start_at, shown_at, by_clock_at, try_or_spent_at, closed_in, after_tries_at, by_phase, owed_at, IsAskedFor, MayAdd, MayBegin, IsHeard, ◌≡◌, ◌≢◌, ℕ, max, ◌+◌, ◌<◌, ◌==◌, nat_lt, Bool, true, false, ◌&&◌, length, List, refl, sym, ◌∙◌, subst, Option, Some, None, if◌then◌else◌, arith, common_steps, eqb-true, eq-eqb, false≢true, slice_get_within, slice_get, ◌-◌, ◌≤◌, inl, inr, slice_get_cases}
-use Rattle.effect_form.specs.declared.effects.Effect.TheVariants as effect
-use Rattle.script_meaning.specs.Meaning as meaning
+use Rattle.broker_ledger.specs.Effect.TheVariants as effect
+use Rattle.broker_ledger.specs.Meaning as meaning
 use Rattle.broker_ledger.specs.declared.givens.Given.TheVariants as given
 use Rattle.broker_core.specs.declared.phases.Phase.TheVariants as phase
 use Rattle.broker_ledger.proofs.SoundLemmas.{and-right}

@@ -1,6 +1,6 @@
 -- A call's turn is that of the rules.
 use Rattle.broker_core.proofs.Names.{ActSpec, Effect, Out, Turn, Tree, Given, Heard, Notes, Phase, tasks, task_of, Scripted, Book, book, enter, fits, counts, keep, stage, standing, Desk, desk_at, all_effects, note, hears, send, fuel, state, settle_up, say, Shows, noted, answered_in, standing_at, AreNotes, LedgerParts, Settled, kept, answers_noted, settled, most_steps, MayBegin, listed, phase_in, effects_from, ledger_from, BrokerParts, IsBroker, IsLedTo, book_of, parts_of, FirstInRange, reading, NoRun, Gives, follows, FirstFits, ◌≡◌, ℕ, min, ◌+◌, ◌*◌, ◌≤◌, ◌==◌, true, length, reverse, List, [], ◌∷◌, ◌++◌, refl, sym, ◌∙◌, ap, subst, Option, Some, None, arith, false≢true, length-map, length-take, length-take-le, reverse-append, reverse-reverse, common_steps, AreAsked, answers_given, act_at, tree_of}
-use Rattle.effect_form.specs.declared.effects.Effect.TheVariants as effect
+use Rattle.broker_ledger.specs.Effect.TheVariants as effect
 use Rattle.broker_core.proofs.AddLemmas.{heard-may}
 use Rattle.broker_ledger.proofs.FitLemmas.{fits-is}
 use Rattle.broker_core.proofs.ReadingLemmas.{reads-own}
@@ -146,7 +146,7 @@ may-begin l h p log q (Some f) view k fit r =
 
 module _ (acts : List ActSpec) (n : Notes) (raw : List Given) where
   -- with other answers behind them
-  pub are-same : (new : List Given) → AreNotes acts n raw → kept n new ≡ kept n raw → answered_in n.last ≤ length new → AreNotes acts n new
+  are-same : (new : List Given) → AreNotes acts n raw → kept n new ≡ kept n raw → answered_in n.last ≤ length new → AreNotes acts n new
   are-same new k e l = record {
     started = k.started;
     tries = k.tries;

@@ -1,7 +1,8 @@
 -- What the notes show of any book, also of an earlier run.
 use Rattle.broker_core.proofs.Names.{ActSpec, Effect, Message, Tree, Given, Heard, Notes, Phase, tasks, Book, open_try, last_try, Stage, Idle, stage, stage_of, standing, row, news, owed, open_last, act_at, stop_at, index_of, timeout_of, phase_at, phase_by_open, standing_at, reply_at, owed_at, ◌≡◌, ℕ, ◌==◌, ◌≤◌, nat_lt, Bool, true, false, List, refl, sym, ◌∙◌, ap, subst, Option, Some, if◌then◌else◌, arith, common_steps, eqb-true}
-use Rattle.effect_form.specs.declared.effects.Effect.TheVariants as effect
+use Rattle.broker_ledger.specs.Effect.TheVariants as effect
 use Rattle.broker_core.specs.declared.phases.Phase.TheVariants as phase
+use Rattle.broker_ledger.proofs.MeetLemmas.{Knows, meets}
 use Rattle.broker_core.proofs.PhaseLemmas.{shown, phase-is, standing-is, none-stands}
 use Rattle.broker_core.proofs.ReplyLemmas.{idle-is, reply-is}
 use Rattle.broker_core.proofs.DueLemmas.{owed-is}

@@ -1,7 +1,7 @@
 -- What is owed by the notes is what is owed by the book.
 use Rattle.broker_core.proofs.Names.{ActSpec, Effect, ToRead, ToWrite, Tree, Given, Heard, Notes, Task, task_of, tasks, Try, Act, Book, front, tries_of, is_none, another, next_clock, Stage, Idle, Refused, Opening, Asking, Finishing, Stopping, Closing, stage, is_closed, try_or_spent, after_tries, after_act, due, by_stage, owed, last_of, over_behind, spent_in, tries_in, notes_of, calls_on, act_at, most_of, index_of, phase_at, start_at, try_or_spent_at, closed_in, after_tries_at, due_at, by_phase, owed_at, Started, ◌≡◌, ℕ, max, ◌-◌, ◌==◌, nat_lt, Bool, true, false, ◌&&◌, length, List, [], ◌∷◌, ◌++◌, refl, sym, ◌∙◌, ap, Option, Some, None, if◌then◌else◌, slice_get, option_map, start, slice_get-map}
-use Rattle.effect_form.specs.declared.effects.Effect.TheVariants as effect
-use Rattle.effect_form.specs.declared.outcomes.Outcome.TheVariants as outcome
+use Rattle.broker_ledger.specs.Effect.TheVariants as effect
+use Rattle.broker_ledger.specs.Outcome.TheVariants as outcome
 use Rattle.broker_ledger.proofs.ShapeLemmas.{past-zero, another-is}
 use Rattle.broker_ledger.proofs.MeetLemmas.{last-act, act-is, Meets}
 use Rattle.broker_core.proofs.PhaseLemmas.{shown, StageOf, phase-is, stage-of-is}
@@ -12,7 +12,7 @@ start-of : (o : Option ActSpec) → start (option_map task_of o) ≡ start_at o
 start-of None = refl
 start-of (Some a) = refl
 
-pub start-is : (acts : List ActSpec) (i : ℕ) → start (slice_get (tasks acts) i) ≡ start_at (slice_get acts i)
+start-is : (acts : List ActSpec) (i : ℕ) → start (slice_get (tasks acts) i) ≡ start_at (slice_get acts i)
 start-is acts i = ap start (slice_get-map task_of acts i) ∙ start-of (slice_get acts i)
 
 module _ (me : ℕ) (acts : List ActSpec) where

@@ -1,10 +1,10 @@
 -- What is owed, and what a message adds, counts.
 use Rattle.broker_core.proofs.Names.{ActSpec, ObjectId, Value, TimeParts, same_stamp, same_time, Decision, Effect, Outcome, Message, ToRead, ToWrite, Stop, Asks, Over, Tree, Heard, Reply, Ignored, Hears, Adds, Task, task_with, same_task, is_task, is_stamp, Try, Act, Book, open_try, last_try, time_of, is_none, calls_again, has_ended, may_follow, rests, another, next_clock, reads_now, writes_now, fits_end, fits_outcome, fits_try, fits_spent, fits_got, fits_acked, fits, counts, stop_of, Stage, Idle, Refused, Opening, Asking, Finishing, Stopping, Closing, by_stop, by_last, is_finished, is_closed, stage_of, stage, row, news, when, decided_commit, decided_early, start, try_or_spent, after_tries, after_act, due, by_stage, owed, NoRun, ◌≡◌, ℕ, max, ◌+◌, ◌<◌, ◌==◌, nat_lt, Bool, true, false, ◌||◌, length, List, [], ◌∷◌, refl, sym, ap, subst, Option, Some, None, if◌then◌else◌, arith, common_steps, eq-eqb, slice_get, bytes_decides, shown_to, is_settled, ends, by_clock}
-use Rattle.value_form.specs.declared.endings.Ending.TheVariants as ending
-use Rattle.pseudo_time.proofs.OrderLemmas.{same_time-is}
-use Rattle.pseudo_time.specs.declared.decisions.Decision.TheVariants as decision
-use Rattle.effect_form.specs.declared.effects.Effect.TheVariants as effect
-use Rattle.effect_form.specs.declared.outcomes.Outcome.TheVariants as outcome
+use Rattle.broker_ledger.specs.Ending.TheVariants as ending
+use Rattle.broker_ledger.proofs.OrderLemmas.{same_time-is}
+use Rattle.broker_ledger.specs.Decision.TheVariants as decision
+use Rattle.broker_ledger.specs.Effect.TheVariants as effect
+use Rattle.broker_ledger.specs.Outcome.TheVariants as outcome
 use Rattle.message_form.specs.declared.messages.Message.TheVariants as message
 use Rattle.broker_ledger.proofs.SoundLemmas.{and-left, and-both}
 use Rattle.broker_core.proofs.PhaseLemmas.{StageOf}

@@ -15,36 +15,40 @@ unfoldable pub use Rattle.broker_core.specs.Turns.{settle_up}
 pub use Rattle.broker_core.specs.declared.phases.Phase.{Phase}
 pub use Rattle.broker_core.specs.declared.replies.Reply.{Reply}
 pub use Rattle.broker_core.specs.declared.replies.Reply.TheVariants.{Adds, Hears, Ignored}
+pub use Rattle.broker_ledger.specs.ActSpec.{ActSpec}
+pub use Rattle.broker_ledger.specs.Asked.{AreAsked, IsAnswerTo}
 pub use Rattle.broker_ledger.specs.Book.{Act, Book, Try, enter, front, if_open, last_try, open_front, open_of, open_try, time_of, tries_of}
 unfoldable pub use Rattle.broker_ledger.specs.Book.{book}
+pub use Rattle.broker_ledger.specs.Decision.{Decision}
+pub use Rattle.broker_ledger.specs.Effect.{Effect}
 pub use Rattle.broker_ledger.specs.Fits.{act_effect, add_if, all_over, another, calls_again, counts, first_some, fits, fits_acked, fits_end, fits_got, fits_outcome, fits_spent, fits_try, has_ended, is_none, may_follow, next_clock, plan_fault, reads_now, rests, resume_fault, shown_to, stop_of, unfit_act, writes_now}
 unfoldable pub use Rattle.broker_ledger.specs.Fits.{keep, other_plan}
 pub use Rattle.broker_ledger.specs.Heards.{closed_at, closed_in, is_settled, nothing_heard}
 pub use Rattle.broker_ledger.specs.Ledgers.{AreBrokerActs, AreNotes, IsAskedFor, IsBrokerAct, LedgerParts, MayAdd, answers_noted, kept}
+pub use Rattle.broker_ledger.specs.Lists.{Every, Has}
+pub use Rattle.broker_ledger.specs.Meaning.{Asks, Over, Stop, ToRead, ToWrite}
+pub use Rattle.broker_ledger.specs.Mirror.{At, Block, Fixed, Spot, block}
 pub use Rattle.broker_ledger.specs.Notes.{Shows, act_at, another_at, answered_in, answers_given, calls_on, changed, end_noted, fits_at, fits_step_at, fits_try_at, home_of, index_of, last_of, most_of, noted, notes_of, open_last, over_at, over_behind, passed, run_begun, shown_by, spent_in, stop_at, time_at, timeout_of, tree_of, tries_in, unended}
+pub use Rattle.broker_ledger.specs.ObjectId.{ObjectId}
+pub use Rattle.broker_ledger.specs.Order.{same_stamp, same_time}
+pub use Rattle.broker_ledger.specs.Outcome.{Outcome}
+pub use Rattle.broker_ledger.specs.Questions.{Tree, denote, stop}
 pub use Rattle.broker_ledger.specs.Sound.{OfAct, Sound, Started}
+pub use Rattle.broker_ledger.specs.StampParts.{IsStamp, StampParts}
 pub use Rattle.broker_ledger.specs.TakenUp.{added, fits_now, fresh_ledger, led, logged, other_at}
 pub use Rattle.broker_ledger.specs.Tasks.{Scripted, Task, task_of, task_with, tasks}
 pub use Rattle.broker_ledger.specs.Tests.{is_stamp, is_task, is_time, same_task}
+pub use Rattle.broker_ledger.specs.TimeParts.{IsTime, TimeParts}
+pub use Rattle.broker_ledger.specs.Value.{Value}
 pub use Rattle.broker_ledger.specs.declared.givens.Given.{Given}
 pub use Rattle.broker_ledger.specs.declared.heards.Heard.{Heard}
 pub use Rattle.broker_ledger.specs.declared.notes.Last.{Last}
 pub use Rattle.broker_ledger.specs.declared.notes.Notes.{Notes}
 pub use Rattle.broker_ledger.specs.declared.resume_faults.ResumeFault.{ResumeFault}
-pub use Rattle.effect_form.specs.declared.effects.Effect.{Effect}
-pub use Rattle.effect_form.specs.declared.outcomes.Outcome.{Outcome}
 pub use Rattle.message_form.specs.Ranges.{AreEffects, AreOuts, IsEffect}
 pub use Rattle.message_form.specs.declared.messages.Message.{Message}
 pub use Rattle.message_form.specs.declared.turns.Out.{Out}
 pub use Rattle.message_form.specs.declared.turns.Turn.{Turn}
-pub use Rattle.pseudo_time.specs.Lists.{Every, Has}
-pub use Rattle.pseudo_time.specs.Order.{same_stamp, same_time}
-pub use Rattle.pseudo_time.specs.StampParts.{IsStamp, StampParts}
-pub use Rattle.pseudo_time.specs.TimeParts.{IsTime, TimeParts}
-pub use Rattle.pseudo_time.specs.declared.decisions.Decision.{Decision}
-pub use Rattle.script_meaning.specs.Meaning.{Asks, Over, Stop, ToRead, ToWrite}
-pub use Rattle.serial_model.specs.Asked.{AreAsked, IsAnswerTo}
-pub use Rattle.serial_model.specs.Questions.{Tree, denote, stop}
 pub use Rattle.std.proofs.Common.{Bool, Err, List, None, Option, Some, [], ap, arith, cond, false, if◌then◌else◌, inl, inr, length, max, min, nat_lt, refl, reverse, subst, suc, sym, take, true, zero, ℕ, ◌&&◌, ◌*◌, ◌++◌, ◌+◌, ◌-◌, ◌<◌, ◌==◌, ◌^◌, ◌||◌, ◌∙◌, ◌∷◌, ◌≡◌, ◌≢◌, ◌≤◌}
 pub use Rattle.std.proofs.lemmas.Bool.{eq-eqb, eqb-true, false≢true}
 pub use Rattle.std.proofs.lemmas.Grind.{common_steps}
@@ -53,7 +57,3 @@ pub use Rattle.std.proofs.lemmas.Option.{slice_get-map, slice_get_cases, slice_g
 pub use Rattle.std.specs.Cmp.Lexicographic.{bytes_decides, pointwise, same_text}
 pub use Rattle.std.specs.List.{slice_get}
 pub use Rattle.std.specs.Option.{option_copied, option_map}
-pub use Rattle.value_form.specs.Mirror.{At, Block, Fixed, Spot, block}
-pub use Rattle.value_form.specs.declared.acts.ActSpec.{ActSpec}
-pub use Rattle.value_form.specs.declared.objects.ObjectId.{ObjectId}
-pub use Rattle.value_form.specs.declared.values.Value.{Value}

@@ -5,7 +5,7 @@ use Rattle.broker_ledger.proofs.LogLemmas.{Took, led-took, other-is}
 
 module _ (script : List ℕ → Tree) (me run : ℕ) (acts : List ActSpec) where
   -- why the broker can't go on
-  pub fault-is : (l : LedgerParts) (log : List Effect) (other : Option ℕ) → Took script me run acts l log → other ≡ other_plan script me run (tasks acts) log → fault_of l other ≡ resume_fault script me run (tasks acts) log
+  fault-is : (l : LedgerParts) (log : List Effect) (other : Option ℕ) → Took script me run acts l log → other ≡ other_plan script me run (tasks acts) log → fault_of l other ≡ resume_fault script me run (tasks acts) log
   fault-is l log other t o =
       let b : Book = book (keep script me run (tasks acts) log) in
       ap (λ (x : ℕ). if nat_lt l.run x then Some (fault.OldRun x) else (if x == l.run then plan_fault other else None)) t.shows.run_is
@@ -19,7 +19,7 @@ module _ (script : List ℕ → Tree) (me run : ℕ) (acts : List ActSpec) where
   above-not : (m n : ℕ) → nat_lt m n ≡ false → n ≤ m
   above-not m n h = grind (arith, common_steps)
 
-  pub not-old : (log : List Effect) → resume_fault script me run (tasks acts) log ≡ None → (book (keep script me run (tasks acts) log)).run ≤ run
+  not-old : (log : List Effect) → resume_fault script me run (tasks acts) log ≡ None → (book (keep script me run (tasks acts) log)).run ≤ run
   not-old log e = above-not run _ (old-not (nat_lt run (book (keep script me run (tasks acts) log)).run) _ _ e)
 
 -- whose the ledger is stays

@@ -1,9 +1,9 @@
 -- The stage that the notes show, and the request that stands at it, are those of the book.
 use Rattle.broker_core.proofs.Names.{ActSpec, ToRead, ToWrite, Stop, Asks, Over, Tree, Given, Heard, Last, Notes, Phase, is_stamp, is_time, Task, Try, Book, open_try, last_try, time_of, is_none, stop_of, Stage, Idle, Refused, Opening, Asking, Finishing, Stopping, Closing, no_answer, by_stop, by_last, is_asking, is_closed, stage_of, stage, standing, last_of, notes_of, act_at, timeout_of, phase_of, phase_by_last, phase_by_stop, phase_by_open, phase_at, standing_for, standing_by, standing_at, ◌≡◌, ℕ, ◌==◌, Bool, true, false, ◌&&◌, ◌||◌, List, refl, ◌∙◌, ap, Option, Some, None, if◌then◌else◌, option_map}
-use Rattle.value_form.specs.declared.endings.Ending.TheVariants as ending
+use Rattle.broker_ledger.specs.Ending.TheVariants as ending
 use Rattle.broker_core.specs.declared.phases.Phase.TheVariants as phase
 use Rattle.broker_ledger.proofs.ShapeLemmas.{open-is, open-is-last}
-use Rattle.broker_ledger.proofs.MeetLemmas.{act-is, stop-is}
+use Rattle.broker_ledger.proofs.MeetLemmas.{act-is, stop-is, Meets}
 
 -- a stage without its try
 abbrev pub shown : Stage → Phase

@@ -2,26 +2,26 @@
 use Rattle.std.proofs.lemmas.Bool.Decides.{nat_tests}
 use Rattle.std.proofs.Math.Nat.{max-le}
 use Rattle.broker_core.proofs.Names.{Every, StampParts, TimeParts, same_stamp, same_time, Decision, ActSpec, block, Effect, Outcome, Message, Out, Turn, AreEffects, AreOuts, Stop, Asks, Over, ToRead, ToWrite, Given, Heard, Last, Notes, Phase, Reply, Ignored, Hears, Adds, is_none, next_clock, is_asking, task_of, is_stamp, is_time, when, act_at, answered_in, answers_given, another_at, changed, fits_try_at, index_of, most_of, open_last, passed, run_begun, stop_at, timeout_of, tree_of, unended, phase_of, phase_by_last, phase_by_stop, phase_by_open, phase_at, closed_in, standing_for, standing_by, standing_at, commit_answered, early_answered, opening_row, reading_row, writing_row, decided_of, decision_row, reply_for, reply_by, reply_at, start_at, shown_at, by_clock_at, try_or_spent_at, after_tries_at, due_at, by_phase, IsBrokerAct, AreNotes, LedgerParts, Settled, kept, owed_now, settle_on, settled, most_steps, fits_now, added, logged, led, fresh_ledger, listed, phase_in, effects_from, ledger_from, IsHeard, FirstInRange, ◌≡◌, ◌≢◌, ℕ, zero, suc, ◌+◌, ◌-◌, ◌<◌, ◌≤◌, ◌^◌, max, nat_lt, ◌==◌, Bool, true, false, cond, ◌&&◌, ◌||◌, take, length, List, [], ◌∷◌, ◌++◌, reverse, refl, sym, ◌∙◌, ap, subst, Option, Some, None, if◌then◌else◌, arith, slice_get, option_map, eqb-true, false≢true, reverse-reverse, IsStamp, IsTime, IsEffect, act_effect, end_noted, home_of, shown_by, time_at, closed_at, ends_at, ended_row, AreBrokerActs, GivenInRange, HasStamp, AreInRange, Ranged}
-use Rattle.pseudo_time.specs.declared.decisions.Decision.TheVariants as decision
-use Rattle.pseudo_time.proofs.ListLemmas.{every-append, every-reverse}
+use Rattle.broker_ledger.specs.Decision.TheVariants as decision
+use Rattle.broker_ledger.proofs.ListLemmas.{every-append, every-reverse}
 use Rattle.field_form.specs.Decisions.{IsDecision}
-use Rattle.value_form.specs.declared.endings.Ending.TheVariants as ending
-use Rattle.value_form.specs.ObjectBytes.{IsObject}
-use Rattle.value_form.specs.ValueBytes.{IsValue}
-use Rattle.effect_form.specs.declared.effects.Effect.TheVariants as effect
-use Rattle.effect_form.specs.declared.outcomes.Outcome.TheVariants as outcome
-use Rattle.effect_form.specs.Effects.{IsIndex}
-use Rattle.effect_form.specs.Outcomes.{IsOutcome}
+use Rattle.broker_ledger.specs.Ending.TheVariants as ending
+use Rattle.broker_ledger.specs.ObjectBytes.{IsObject}
+use Rattle.broker_ledger.specs.ValueBytes.{IsValue}
+use Rattle.broker_ledger.specs.Effect.TheVariants as effect
+use Rattle.broker_ledger.specs.Outcome.TheVariants as outcome
+use Rattle.broker_ledger.specs.Effects.{IsIndex}
+use Rattle.broker_ledger.specs.Outcomes.{IsOutcome}
 use Rattle.message_form.specs.declared.messages.Message.TheVariants as message
 use Rattle.message_form.specs.Messages.{IsMessage}
-use Rattle.serial_model.specs.Ranges.{StopInRange}
-use Rattle.serial_model.specs.Requests.{AsksInRange, AnswerHasBytes}
-use Rattle.serial_model.proofs.RequestLemmas.{denote-HasBytes, stop-InRange}
-use Rattle.serial_model.proofs.TestLemmas.{by_test}
+use Rattle.broker_ledger.specs.ScriptRanges.{StopInRange}
+use Rattle.broker_ledger.specs.Requests.{AsksInRange, AnswerHasBytes}
+use Rattle.broker_ledger.proofs.RequestLemmas.{denote-HasBytes, stop-InRange}
+use Rattle.broker_ledger.proofs.TestLemmas.{by_test}
 use Rattle.broker_ledger.specs.declared.givens.Given.TheVariants as given
 use Rattle.broker_core.specs.declared.phases.Phase.TheVariants as phase
-use Rattle.serial_model.proofs.ScriptRangeLemmas.{printable-InRange}
-use Rattle.serial_model.proofs.TextByteLemmas.{script-IsBytes}
+use Rattle.broker_ledger.proofs.ScriptRangeLemmas.{printable-InRange}
+use Rattle.broker_ledger.proofs.TextByteLemmas.{script-IsBytes}
 
 -- ---- lists
 

@@ -1,13 +1,13 @@
 -- A text of the language is read as the script that has it.
 use Rattle.broker_core.proofs.Names.{Every, ActSpec, block, Tree, denote, Scripted, IsBrokerAct, reading, ◌≡◌, inl, inr, ℕ, ◌+◌, ◌≤◌, arith, Bool, true, false, List, [], ◌∷◌, refl, sym, ap, subst, ◌∙◌, if◌then◌else◌, ◌==◌, pointwise, same_text, bytes_decides, false≢true, Has, Block, Spot, Fixed, At}
-use Rattle.script_form.specs.Row.{Row}
-use Rattle.script_form.specs.Row as r
-use Rattle.script_form.specs.Rows.{Numbered}
-use Rattle.script_form.specs.RowTexts.{script_text, SpotUpTo, RowUpTo}
-use Rattle.script_form.specs.Lines.{lines}
-use Rattle.script_form.specs.Printable.{IsPrintable, RowsInLimits}
-use Rattle.script_form.specs.Scripts.{IsScriptLines}
-use Rattle.script_form.proofs.PrintLemmas.{one_script_of_lines, printed_is_script}
+use Rattle.broker_ledger.specs.ScriptRow.{Row}
+use Rattle.broker_ledger.specs.ScriptRow as r
+use Rattle.broker_ledger.specs.ScriptRows.{Numbered}
+use Rattle.broker_ledger.specs.RowTexts.{script_text, SpotUpTo, RowUpTo}
+use Rattle.broker_ledger.specs.ScriptLines.{lines}
+use Rattle.broker_ledger.specs.Printable.{IsPrintable, RowsInLimits}
+use Rattle.broker_ledger.specs.Scripts.{IsScriptLines}
+use Rattle.broker_ledger.proofs.PrintLemmas.{one_script_of_lines, printed_is_script}
 
 -- ---- a greater greatest repository
 

@@ -1,6 +1,6 @@
 -- What is heard by the notes is what is heard by the book.
 use Rattle.broker_core.proofs.Names.{ActSpec, ObjectId, Value, same_stamp, Decision, Outcome, Message, ToRead, ToWrite, Stop, Tree, Given, Heard, Last, Notes, Phase, Ignored, Hears, Task, Try, Book, open_try, last_try, stop_of, Stage, Idle, Refused, Opening, Asking, Finishing, Stopping, Closing, is_finished, stage, row, news, when, decided_commit, decided_early, last_of, notes_of, act_at, index_of, stop_at, phase_at, opening_row, reading_row, writing_row, decided_of, decision_row, commit_answered, early_answered, reply_for, reply_by, reply_at, ◌≡◌, ℕ, Bool, true, false, List, refl, ◌∙◌, ap, Option, Some, None, if◌then◌else◌, option_map, deciding_row, finished_for}
-use Rattle.pseudo_time.specs.declared.decisions.Decision.TheVariants as decision
+use Rattle.broker_ledger.specs.Decision.TheVariants as decision
 use Rattle.message_form.specs.declared.messages.Message.TheVariants as message
 use Rattle.broker_core.specs.declared.phases.Phase.TheVariants as phase
 use Rattle.broker_ledger.proofs.ShapeLemmas.{open-is-last}

@@ -1,7 +1,7 @@
 -- Two readings of the scripts of a broker's acts give the same turns.
 use Rattle.broker_core.proofs.Names.{Every, same_stamp, Effect, Outcome, Stop, Asks, Over, Tree, stop, Heard, Reply, Ignored, Hears, Adds, ResumeFault, is_time, is_stamp, Task, Try, Act, Book, book, open_try, open_of, open_front, if_open, last_try, time_of, stop_of, reads_now, writes_now, fits_got, fits_acked, counts, add_if, keep, unfit_act, other_plan, first_some, resume_fault, plan_fault, is_none, Stage, Idle, Refused, Opening, Closing, stage, stage_of, by_last, by_stop, is_finished, standing, is_asking, no_answer, is_closed, owed, by_stage, row, when, decided_early, news, Desk, all_effects, note, hears, send, note_if, fuel, state, settle_up, say, reply, Hear, Take, Started, OfAct, Sound, ◌≡◌, ℕ, zero, suc, ◌+◌, ◌==◌, Bool, true, false, ◌&&◌, length, List, [], ◌∷◌, refl, sym, ◌∙◌, ap, subst, Option, Some, None, if◌then◌else◌, eqb-true, slice_get, nat_lt, ◌||◌, News, Begun, Answered, Refusal, Over_there, Decided, Nothing_new, desk_turn, Input, Go}
-use Rattle.effect_form.specs.declared.effects.Effect.TheVariants as effect
-use Rattle.value_form.specs.declared.endings.Ending.TheVariants as ending
+use Rattle.broker_ledger.specs.Effect.TheVariants as effect
+use Rattle.broker_ledger.specs.Ending.TheVariants as ending
 use Rattle.broker_ledger.specs.declared.resume_faults.ResumeFault.TheVariants as fault
 use Rattle.broker_ledger.proofs.SoundLemmas.{sound-kept}
 

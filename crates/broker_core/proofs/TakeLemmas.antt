@@ -1,5 +1,5 @@
 -- A message that is taken.
-use Rattle.pseudo_time.specs.declared.nodes.NodeId.{NodeId}
+use Rattle.broker_ledger.specs.NodeId.{NodeId}
 use Rattle.broker_core.proofs.Names.{Effect, Message, Turn, Tree, Heard, Phase, Reply, Ignored, Hears, Adds, tasks, Scripted, Book, Stage, stage, row, news, Desk, Take, desk_at, reply, reply_at, LedgerParts, kept, BrokerParts, IsBroker, book_of, parts_of, Gives, turn_of, follows, FirstFits, ◌≡◌, ℕ, ◌==◌, Bool, true, false, List, [], reverse, refl, sym, ◌∙◌, ap, subst, Some, None, eqb-true}
 use Rattle.broker_core.proofs.PhaseLemmas.{stage-of-is}
 use Rattle.broker_core.proofs.AnyLemmas.{reply-any, stage-away}

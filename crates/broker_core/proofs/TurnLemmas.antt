@@ -1,6 +1,6 @@
 -- What a turn of the ledger gives is what the rules give over its log.
 use Rattle.broker_core.proofs.Names.{ActSpec, Effect, Tree, Given, Heard, Notes, tasks, Scripted, Book, book, enter, fits, counts, add_if, keep, owed, Desk, all_effects, note, note_if, state, settle_up, Shows, run_begun, noted, changed, Settled, kept, answers_noted, settle_on, settled, ◌≡◌, ℕ, zero, suc, ◌≤◌, ◌==◌, nat_lt, Bool, true, false, List, refl, sym, ap, subst, Option, Some, None, if◌then◌else◌, arith, common_steps, eqb-true, eq-eqb}
-use Rattle.effect_form.specs.declared.effects.Effect.TheVariants as effect
+use Rattle.broker_ledger.specs.Effect.TheVariants as effect
 use Rattle.broker_ledger.proofs.SoundLemmas.{sound-kept, here, closed-run}
 use Rattle.broker_ledger.proofs.NotedLemmas.{noted-shows}
 use Rattle.broker_ledger.proofs.MeetLemmas.{Knows, meets}

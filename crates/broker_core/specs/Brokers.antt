@@ -1,10 +1,10 @@
 -- What the calls of a broker give.
 use Rattle.std.specs.Prelude.{◌≡◌, ℕ, List, ◌++◌, Bool, true, Option, Some, None, Result, Ok, Err, reverse}
-use Rattle.value_form.specs.declared.acts.ActSpec.{ActSpec}
-use Rattle.effect_form.specs.declared.effects.Effect.{Effect}
-use Rattle.effect_form.specs.declared.effects.Effect.TheVariants as effect
+use Rattle.broker_ledger.specs.ActSpec.{ActSpec}
+use Rattle.broker_ledger.specs.Effect.{Effect}
+use Rattle.broker_ledger.specs.Effect.TheVariants as effect
 use Rattle.message_form.specs.declared.turns.Turn.{Turn}
-use Rattle.serial_model.specs.Questions.{Tree}
+use Rattle.broker_ledger.specs.Questions.{Tree}
 use Rattle.broker_ledger.specs.declared.heards.Heard.{Heard}
 use Rattle.broker_ledger.specs.declared.resume_faults.ResumeFault.{ResumeFault}
 use Rattle.broker_ledger.specs.declared.resume_faults.ResumeFault.TheVariants as fault

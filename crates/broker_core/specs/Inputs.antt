@@ -1,11 +1,11 @@
 -- What an input leads to, from the notes.
 use Rattle.std.specs.Prelude.{ℕ, ◌==◌, ◌&&◌, nat_lt, Bool, length, List, [], ◌∷◌, Option, Some, None, if◌then◌else◌}
-use Rattle.value_form.specs.declared.acts.ActSpec.{ActSpec}
+use Rattle.broker_ledger.specs.ActSpec.{ActSpec}
 use Rattle.broker_ledger.specs.declared.resume_faults.ResumeFault.{ResumeFault}
 use Rattle.broker_ledger.specs.declared.resume_faults.ResumeFault.TheVariants as fault
 use Rattle.broker_ledger.specs.Fits.{plan_fault}
 use Rattle.broker_ledger.specs.Notes.{act_at, most_of, over_at}
-use Rattle.effect_form.specs.declared.effects.Effect.{Effect}
+use Rattle.broker_ledger.specs.Effect.{Effect}
 use Rattle.message_form.specs.declared.turns.Out.{Out}
 use Rattle.broker_ledger.specs.declared.givens.Given.{Given}
 use Rattle.broker_ledger.specs.declared.heards.Heard.{Heard}

@@ -1,9 +1,9 @@
 -- The effects that a broker owes, and when it is done.
 use Rattle.std.specs.Prelude.{ℕ, max, nat_lt, ◌==◌, Bool, ◌&&◌, length, List, [], ◌∷◌, Option, Some, None, if◌then◌else◌, slice_get}
-use Rattle.effect_form.specs.declared.effects.Effect.{Effect}
-use Rattle.effect_form.specs.declared.effects.Effect.TheVariants as effect
-use Rattle.effect_form.specs.declared.outcomes.Outcome.TheVariants as outcome
-use Rattle.serial_model.specs.Questions.{Tree}
+use Rattle.broker_ledger.specs.Effect.{Effect}
+use Rattle.broker_ledger.specs.Effect.TheVariants as effect
+use Rattle.broker_ledger.specs.Outcome.TheVariants as outcome
+use Rattle.broker_ledger.specs.Questions.{Tree}
 use Rattle.broker_ledger.specs.declared.heards.Heard.{Heard}
 use Rattle.broker_ledger.specs.Tasks.{Task}
 use Rattle.broker_ledger.specs.Book.{Try, Act, Book}

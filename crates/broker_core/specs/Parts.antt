@@ -1,8 +1,8 @@
 -- A broker, as its callers see it, and what it keeps of its log.
 use Rattle.std.specs.Prelude.{◌≡◌, ◌≤◌, ℕ, List, reverse}
-use Rattle.value_form.specs.declared.acts.ActSpec.{ActSpec}
-use Rattle.effect_form.specs.declared.effects.Effect.{Effect}
-use Rattle.serial_model.specs.Questions.{Tree}
+use Rattle.broker_ledger.specs.ActSpec.{ActSpec}
+use Rattle.broker_ledger.specs.Effect.{Effect}
+use Rattle.broker_ledger.specs.Questions.{Tree}
 use Rattle.broker_ledger.specs.declared.givens.Given.{Given}
 use Rattle.broker_ledger.specs.declared.heards.Heard.{Heard}
 use Rattle.broker_ledger.specs.declared.notes.Notes.{Notes}

@@ -1,21 +1,21 @@
 -- The stage of the last try, the request that stands and what is heard, from the notes.
 use Rattle.std.specs.Prelude.{ℕ, max, ◌-◌, ◌==◌, Bool, true, false, ◌&&◌, ◌||◌, nat_lt, List, Option, Some, None, if◌then◌else◌, slice_get}
-use Rattle.value_form.specs.declared.acts.ActSpec.{ActSpec}
-use Rattle.value_form.specs.declared.endings.Ending.TheVariants as ending
-use Rattle.pseudo_time.specs.StampParts.{StampParts}
-use Rattle.pseudo_time.specs.TimeParts.{TimeParts}
-use Rattle.value_form.specs.declared.objects.ObjectId.{ObjectId}
-use Rattle.pseudo_time.specs.Order.{same_stamp, same_time}
-use Rattle.effect_form.specs.declared.effects.Effect.{Effect}
-use Rattle.effect_form.specs.declared.effects.Effect.TheVariants as effect
-use Rattle.effect_form.specs.declared.outcomes.Outcome.{Outcome}
-use Rattle.effect_form.specs.declared.outcomes.Outcome.TheVariants as outcome
-use Rattle.pseudo_time.specs.declared.decisions.Decision.{Decision}
-use Rattle.pseudo_time.specs.declared.decisions.Decision.TheVariants as decision
+use Rattle.broker_ledger.specs.ActSpec.{ActSpec}
+use Rattle.broker_ledger.specs.Ending.TheVariants as ending
+use Rattle.broker_ledger.specs.StampParts.{StampParts}
+use Rattle.broker_ledger.specs.TimeParts.{TimeParts}
+use Rattle.broker_ledger.specs.ObjectId.{ObjectId}
+use Rattle.broker_ledger.specs.Order.{same_stamp, same_time}
+use Rattle.broker_ledger.specs.Effect.{Effect}
+use Rattle.broker_ledger.specs.Effect.TheVariants as effect
+use Rattle.broker_ledger.specs.Outcome.{Outcome}
+use Rattle.broker_ledger.specs.Outcome.TheVariants as outcome
+use Rattle.broker_ledger.specs.Decision.{Decision}
+use Rattle.broker_ledger.specs.Decision.TheVariants as decision
 use Rattle.message_form.specs.declared.messages.Message.{Message}
 use Rattle.message_form.specs.declared.messages.Message.TheVariants as message
 use Rattle.message_form.specs.declared.turns.Out.{Out}
-use Rattle.script_meaning.specs.Meaning.{ToRead, ToWrite, Stop, Asks, Over}
+use Rattle.broker_ledger.specs.Meaning.{ToRead, ToWrite, Stop, Asks, Over}
 use Rattle.broker_ledger.specs.declared.givens.Given.{Given}
 use Rattle.broker_ledger.specs.declared.heards.Heard.{Heard}
 use Rattle.broker_ledger.specs.declared.notes.Last.{Last}
@@ -28,7 +28,7 @@ use Rattle.broker_ledger.specs.Tasks.{task_of}
 use Rattle.broker_ledger.specs.Tests.{is_stamp, is_time}
 use Rattle.broker_ledger.specs.Fits.{is_none, act_effect, next_clock}
 use Rattle.broker_core.specs.Stages.{is_asking, is_finished}
-use Rattle.pseudo_time.specs.Nodes.{repository}
+use Rattle.broker_ledger.specs.Nodes.{repository}
 use Rattle.broker_core.specs.Rows.{when}
 use Rattle.broker_ledger.specs.Heards.{closed_at, closed_in}
 use Rattle.broker_ledger.specs.Notes.{open_last, time_at, stop_at, act_at, another_at, index_of, home_of, timeout_of, most_of, clock_of}

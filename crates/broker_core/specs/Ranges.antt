@@ -1,10 +1,10 @@
 -- What a broker keeps of its log is in range, so that what it gives can be stored and sent.
 use Rattle.std.specs.Prelude.{◌≢◌, ◌≤◌, ◌<◌, ◌^◌, length, List, Option, Some, None}
-use Rattle.pseudo_time.specs.Lists.{Every}
-use Rattle.pseudo_time.specs.StampParts.{IsStamp}
-use Rattle.value_form.specs.ValueBytes.{IsValue}
-use Rattle.effect_form.specs.declared.effects.Effect.{Effect}
-use Rattle.effect_form.specs.declared.effects.Effect.TheVariants as effect
+use Rattle.broker_ledger.specs.Lists.{Every}
+use Rattle.broker_ledger.specs.StampParts.{IsStamp}
+use Rattle.broker_ledger.specs.ValueBytes.{IsValue}
+use Rattle.broker_ledger.specs.Effect.{Effect}
+use Rattle.broker_ledger.specs.Effect.TheVariants as effect
 use Rattle.message_form.specs.Ranges.{IsEffect}
 use Rattle.broker_ledger.specs.declared.givens.Given.{Given}
 use Rattle.broker_ledger.specs.declared.givens.Given.TheVariants as given

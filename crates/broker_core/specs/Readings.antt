@@ -1,11 +1,11 @@
 -- What a script's text asks and says, by the acts of a plan.
 use Rattle.std.specs.Prelude.{ℕ, List, [], ◌∷◌, ◌==◌, if◌then◌else◌}
 use Rattle.std.specs.Cmp.Lexicographic.{pointwise}
-use Rattle.value_form.specs.declared.acts.ActSpec.{ActSpec}
-use Rattle.value_form.specs.declared.endings.Ending.TheVariants as ending
-use Rattle.value_form.specs.Mirror.{block}
-use Rattle.script_form.specs.RowTexts.{script_text}
-use Rattle.serial_model.specs.Questions.{Tree, Ends, denote}
+use Rattle.broker_ledger.specs.ActSpec.{ActSpec}
+use Rattle.broker_ledger.specs.Ending.TheVariants as ending
+use Rattle.broker_ledger.specs.Mirror.{block}
+use Rattle.broker_ledger.specs.RowTexts.{script_text}
+use Rattle.broker_ledger.specs.Questions.{Tree, Ends, denote}
 
 -- the tree of questions of the first of these acts whose script has this text
 unfoldable pub reading : List ActSpec → List ℕ → Tree

@@ -1,18 +1,18 @@
 -- What is heard of a message, at each stage of the last try.
 use Rattle.std.specs.Prelude.{ℕ, Bool, true, false, List, Some, if◌then◌else◌}
-use Rattle.pseudo_time.specs.StampParts.{StampParts}
-use Rattle.pseudo_time.specs.TimeParts.{TimeParts}
-use Rattle.pseudo_time.specs.Order.{same_stamp, same_time}
-use Rattle.pseudo_time.specs.declared.decisions.Decision.{Decision}
-use Rattle.pseudo_time.specs.declared.decisions.Decision.TheVariants as decision
-use Rattle.effect_form.specs.declared.effects.Effect.TheVariants as effect
-use Rattle.effect_form.specs.declared.outcomes.Outcome.{Outcome}
-use Rattle.effect_form.specs.declared.outcomes.Outcome.TheVariants as outcome
+use Rattle.broker_ledger.specs.StampParts.{StampParts}
+use Rattle.broker_ledger.specs.TimeParts.{TimeParts}
+use Rattle.broker_ledger.specs.Order.{same_stamp, same_time}
+use Rattle.broker_ledger.specs.Decision.{Decision}
+use Rattle.broker_ledger.specs.Decision.TheVariants as decision
+use Rattle.broker_ledger.specs.Effect.TheVariants as effect
+use Rattle.broker_ledger.specs.Outcome.{Outcome}
+use Rattle.broker_ledger.specs.Outcome.TheVariants as outcome
 use Rattle.message_form.specs.declared.messages.Message.{Message}
 use Rattle.message_form.specs.declared.messages.Message.TheVariants as message
-use Rattle.script_meaning.specs.Meaning as meaning
-use Rattle.script_meaning.specs.Meaning.{Answer, ToRead, ToWrite}
-use Rattle.serial_model.specs.Questions.{Tree}
+use Rattle.broker_ledger.specs.Meaning as meaning
+use Rattle.broker_ledger.specs.Meaning.{Answer, ToRead, ToWrite}
+use Rattle.broker_ledger.specs.Questions.{Tree}
 use Rattle.broker_ledger.specs.declared.heards.Heard.{Heard}
 use Rattle.broker_core.specs.declared.replies.Reply.{Reply}
 use Rattle.broker_core.specs.declared.replies.Reply.TheVariants.{Ignored, Hears, Adds}

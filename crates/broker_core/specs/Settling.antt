@@ -1,7 +1,7 @@
 -- The effects that are owed follow one after another.
 use Rattle.std.specs.Prelude.{ℕ, ◌+◌, ◌*◌, zero, suc, length, List, ◌∷◌, Option, Some, None}
-use Rattle.value_form.specs.declared.acts.ActSpec.{ActSpec}
-use Rattle.effect_form.specs.declared.effects.Effect.{Effect}
+use Rattle.broker_ledger.specs.ActSpec.{ActSpec}
+use Rattle.broker_ledger.specs.Effect.{Effect}
 use Rattle.broker_ledger.specs.declared.givens.Given.{Given}
 use Rattle.broker_ledger.specs.declared.heards.Heard.{Heard}
 use Rattle.broker_ledger.specs.declared.notes.Notes.{Notes}

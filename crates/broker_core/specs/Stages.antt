@@ -1,14 +1,14 @@
 -- What is outstanding: the stage of the last try of a run, and the request that stands at it.
 use Rattle.std.specs.Prelude.{ℕ, ◌==◌, Bool, true, false, ◌&&◌, ◌||◌, length, List, Option, Some, None, if◌then◌else◌}
-use Rattle.value_form.specs.declared.endings.Ending.TheVariants as ending
-use Rattle.pseudo_time.specs.Nodes.{repository}
-use Rattle.effect_form.specs.declared.outcomes.Outcome.{Outcome}
-use Rattle.effect_form.specs.declared.outcomes.Outcome.TheVariants as outcome
+use Rattle.broker_ledger.specs.Ending.TheVariants as ending
+use Rattle.broker_ledger.specs.Nodes.{repository}
+use Rattle.broker_ledger.specs.Outcome.{Outcome}
+use Rattle.broker_ledger.specs.Outcome.TheVariants as outcome
 use Rattle.message_form.specs.declared.messages.Message.{Message}
 use Rattle.message_form.specs.declared.messages.Message.TheVariants as message
 use Rattle.message_form.specs.declared.turns.Out.{Out}
-use Rattle.script_meaning.specs.Meaning.{Request, ToRead, ToWrite, Stop, Asks, Over}
-use Rattle.serial_model.specs.Questions.{Tree}
+use Rattle.broker_ledger.specs.Meaning.{Request, ToRead, ToWrite, Stop, Asks, Over}
+use Rattle.broker_ledger.specs.Questions.{Tree}
 use Rattle.broker_ledger.specs.declared.heards.Heard.{Heard}
 use Rattle.broker_ledger.specs.Tests.{is_stamp, is_time}
 use Rattle.broker_ledger.specs.Book.{Try, Book, open_try, last_try, time_of}

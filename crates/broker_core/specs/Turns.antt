@@ -1,10 +1,10 @@
 -- What a broker does with an input.
 use Rattle.std.specs.Prelude.{ℕ, zero, suc, ◌+◌, ◌*◌, true, length, List, [], ◌∷◌, ◌++◌, Option, Some, None}
-use Rattle.effect_form.specs.declared.effects.Effect.{Effect}
+use Rattle.broker_ledger.specs.Effect.{Effect}
 use Rattle.message_form.specs.declared.messages.Message.{Message}
-use Rattle.pseudo_time.specs.declared.nodes.NodeId.{NodeId}
+use Rattle.broker_ledger.specs.NodeId.{NodeId}
 use Rattle.message_form.specs.declared.turns.Out.{Out}
-use Rattle.serial_model.specs.Questions.{Tree}
+use Rattle.broker_ledger.specs.Questions.{Tree}
 use Rattle.broker_ledger.specs.declared.heards.Heard.{Heard}
 use Rattle.broker_core.specs.declared.replies.Reply.{Reply}
 use Rattle.broker_core.specs.declared.replies.Reply.TheVariants.{Ignored, Hears, Adds}

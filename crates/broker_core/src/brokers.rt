@@ -1,8 +1,8 @@
 ghost use Rattle.std.specs.Prelude.{◌≡◌, ◌≤◌, ◌++◌, [], ◌∷◌, ℕ, List, Some, None, reverse, length, IfOk, OnOk, OnErr};
 ghost use Rattle.std.specs.Option.{option_copied};
-ghost use Rattle.effect_form.specs.declared.effects.Effect.{Effect};
+ghost use Rattle.broker_ledger.specs.Effect.{Effect};
 ghost use Rattle.message_form.specs.declared.turns.Out.{Out};
-ghost use Rattle.serial_model.specs.Questions.{Tree};
+ghost use Rattle.broker_ledger.specs.Questions.{Tree};
 ghost use Rattle.broker_ledger.specs.Tasks.{Scripted};
 ghost use Rattle.broker_ledger.specs.Heards.{nothing_heard};
 ghost use Rattle.broker_core.specs.Turns.{Go, Hear, Take};
@@ -17,13 +17,10 @@ ghost use Rattle.message_form.specs.Ranges.{AreEffects, AreOuts};
 use crate::owed::settle;
 use crate::phases::{Phase, phase_now, standing};
 use crate::replies::{Reply, reply_to};
-use broker_ledger::{Heard, Ledger, ResumeFault, take_up_all};
-use effect_form::Effect;
+use broker_ledger::{ActSpec, Effect, Heard, Ledger, NodeId, ResumeFault, take_up_all};
 use message_form::{Message, Out, SnapshotLog, Turn};
-use pseudo_time::NodeId;
 use std::alloc::{AllocError, Global};
 use std::marker::Model;
-use value_form::ActSpec;
 
 /// A broker in a run of a plan. Contracts see its log; it keeps notes on it, and not the log.
 ///
@@ -40,7 +37,7 @@ pub struct Broker {
 
 impl Model for Broker {
     ghost use Rattle.std.specs.Coded.{codes};
-    ghost use Rattle.value_form.specs.contracts.scripts.Stmt as stmt;
+    ghost use Rattle.broker_ledger.specs.StmtContracts as stmt;
     ghost use Rattle.broker_core.specs.Parts.{BrokerParts, parts_of, IsBroker};
 
     ghost Value = { BrokerParts };

@@ -1,12 +1,12 @@
 // Each law holds for every list of acts.
 ghost use Rattle.std.specs.Prelude.{◌≡◌, ◌≤◌, ℕ, List, Some, slice_get};
-ghost use Rattle.pseudo_time.specs.Lists.{Every, Has};
-ghost use Rattle.value_form.specs.declared.acts.ActSpec.{ActSpec};
-ghost use Rattle.value_form.specs.Mirror.{Block};
-ghost use Rattle.effect_form.specs.declared.effects.Effect.{Effect};
-ghost use Rattle.script_form.specs.RowTexts.{script_text};
-ghost use Rattle.script_form.specs.Printable.{IsPrintable};
-ghost use Rattle.serial_model.specs.Questions.{Tree};
+ghost use Rattle.broker_ledger.specs.Lists.{Every, Has};
+ghost use Rattle.broker_ledger.specs.ActSpec.{ActSpec};
+ghost use Rattle.broker_ledger.specs.Mirror.{Block};
+ghost use Rattle.broker_ledger.specs.Effect.{Effect};
+ghost use Rattle.broker_ledger.specs.RowTexts.{script_text};
+ghost use Rattle.broker_ledger.specs.Printable.{IsPrintable};
+ghost use Rattle.broker_ledger.specs.Questions.{Tree};
 ghost use Rattle.broker_ledger.specs.Fits.{keep, resume_fault};
 ghost use Rattle.broker_ledger.specs.Ledgers.{IsBrokerAct};
 ghost use Rattle.broker_core.specs.Readings.{reading};

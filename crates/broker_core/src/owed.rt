@@ -6,12 +6,8 @@ ghost use Rattle.broker_core.specs.Phases as spec;
 ghost use Rattle.broker_core.specs.Settling as settling;
 
 use crate::phases::{Phase, phase_now};
-use broker_ledger::{Heard, Ledger};
-use effect_form::{Effect, Outcome};
-use pseudo_time::{Stamp, next_clock};
-use script_form::print;
+use broker_ledger::{ActSpec, Effect, Heard, Ledger, Outcome, Stamp, next_clock, print};
 use std::alloc::{AllocError, Global};
-use value_form::ActSpec;
 
 // The effect that begins an act, if there is one.
 fn start(alloc: Global, act: Option<&ActSpec>) -> Result<Option<Effect>, AllocError>

@@ -1,20 +1,18 @@
 ghost use Rattle.std.specs.Prelude.{◌≡◌, ◌≢◌, ◌≤◌, IfOk};
 ghost use Rattle.std.specs.Option.{option_map};
-ghost use Rattle.script_run.specs.RunParts.{stop_of};
+ghost use Rattle.broker_ledger.specs.RunParts.{stop_of};
 ghost use Rattle.broker_ledger.specs.Tests as tests;
 ghost use Rattle.broker_core.specs.Stages as stages;
 ghost use Rattle.broker_ledger.specs.Notes as notes;
 ghost use Rattle.broker_ledger.specs.Ledgers.{AreNotes, kept};
 ghost use Rattle.broker_core.specs.Phases as spec;
-ghost use Rattle.pseudo_time.specs.Nodes as nodes;
+ghost use Rattle.broker_ledger.specs.Nodes as nodes;
 
-use broker_ledger::{Heard, Last, Ledger, is_stamp};
-use effect_form::Outcome;
+use broker_ledger::{
+    Heard, Last, Ledger, Next, NodeId, ObjectId, Outcome, PseudoTime, Stamp, Value, is_stamp,
+};
 use message_form::{Message, Out};
-use pseudo_time::{NodeId, PseudoTime, Stamp};
-use script_run::Next;
 use std::alloc::{AllocError, Global};
-use value_form::{ObjectId, Value};
 
 /// The stage of the last try.
 #[derive(Drop)]

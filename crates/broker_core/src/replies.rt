@@ -4,16 +4,14 @@ ghost use Rattle.broker_core.specs.Rows.{when};
 ghost use Rattle.broker_ledger.specs.Notes as notes;
 ghost use Rattle.broker_core.specs.Phases as spec;
 ghost use Rattle.broker_ledger.specs.Ledgers.{kept};
-ghost use Rattle.script_run.specs.RunParts.{stop_of};
+ghost use Rattle.broker_ledger.specs.RunParts.{stop_of};
 
 use crate::phases::Phase;
-use broker_ledger::{Heard, Last, Ledger};
-use effect_form::{Effect, Outcome};
+use broker_ledger::{
+    Decision, Effect, Heard, Last, Ledger, Next, ObjectId, Outcome, PseudoTime, Stamp,
+};
 use message_form::Message;
-use pseudo_time::{Decision, PseudoTime, Stamp};
-use script_run::Next;
 use std::alloc::{AllocError, Global};
-use value_form::ObjectId;
 
 /// What a message comes to.
 #[derive(Drop)]

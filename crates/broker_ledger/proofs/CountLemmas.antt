@@ -1,5 +1,5 @@
 -- What the notes count stays in range, and each answer of the last try is to what its script asks.
-use Rattle.broker_ledger.proofs.Names.{ActSpec, block, StampParts, Effect, Answer, RunParts, AreAsked, Given, Last, Notes, answer_of, answers_given, answered_in, act_at, tree_of, answer_noted, try_begun, LedgerParts, AreNotes, IsAskedFor, IsLedger, MayAdd, StepperFits, kept, lines_of, ◌≡◌, ◌≢◌, ℕ, max, ◌+◌, ◌-◌, ◌≤◌, ◌<◌, length, take, List, [], ◌∷◌, ◌++◌, refl, sym, ◌∙◌, ap, subst, Option, Some, None, arith, common_steps, length-append, length-map, length-take-le, map-append, take-length, option_map, asked-none, asked-next, asked-few}
+use Rattle.broker_ledger.proofs.Names.{ActSpec, block, StampParts, Effect, Answer, RunParts, AreAsked, Given, Last, Notes, answer_of, answers_given, answered_in, act_at, tree_of, answer_noted, try_begun, LedgerParts, AreNotes, IsAskedFor, IsLedger, MayAdd, StepperFits, kept, lines_of, ◌≡◌, ◌≢◌, ℕ, max, ◌+◌, ◌≤◌, ◌<◌, length, take, List, [], ◌∷◌, ◌++◌, refl, sym, ◌∙◌, ap, subst, Option, Some, None, arith, common_steps, length-append, length-map, length-take-le, map-append, take-length, option_map, asked-none, asked-next, asked-few}
 use Rattle.effect_form.specs.declared.effects.Effect.TheVariants as effect
 
 -- a try has at most 10,000 answers

@@ -7,4 +7,11 @@ pub mod NotedLemmas
 pub mod ShapeLemmas
 pub mod SoundLemmas
 pub mod StopLemmas
+pub use Rattle.pseudo_time.proofs.ListLemmas
+pub use Rattle.pseudo_time.proofs.OrderLemmas
+pub use Rattle.script_form.proofs.PrintLemmas
+pub use Rattle.serial_model.proofs.RequestLemmas
+pub use Rattle.serial_model.proofs.ScriptRangeLemmas
+pub use Rattle.serial_model.proofs.TestLemmas
+pub use Rattle.serial_model.proofs.TextByteLemmas
 pub mod Names

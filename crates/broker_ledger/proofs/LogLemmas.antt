@@ -2,7 +2,6 @@
 use Rattle.broker_ledger.proofs.Names.{ActSpec, Effect, Tree, Given, Notes, tasks, Scripted, Book, book, enter, fits, counts, add_if, keep, unfit_act, first_some, other_plan, Shows, noted, passed, run_begun, fits_at, LedgerParts, kept, answers_noted, fresh_ledger, fits_now, added, logged, led, other_at, counts_led, ◌≡◌, ℕ, max, ◌==◌, nat_lt, Bool, true, false, ◌&&◌, List, [], ◌∷◌, refl, sym, ◌∙◌, ap, subst, Option, Some, None, if◌then◌else◌, eqb-true, eq-eqb, false≢true, unfit_index, unfit_at, counts_at}
 use Rattle.effect_form.specs.declared.effects.Effect.TheVariants as effect
 use Rattle.effect_form.specs.declared.outcomes.Outcome.TheVariants as outcome
-use Rattle.broker_ledger.specs.declared.resume_faults.ResumeFault.TheVariants as fault
 use Rattle.broker_ledger.specs.Counted.{counts_now, counting}
 use Rattle.broker_ledger.proofs.SoundLemmas.{sound-kept, closed-run}
 use Rattle.broker_ledger.proofs.FitLemmas.{fits-is}

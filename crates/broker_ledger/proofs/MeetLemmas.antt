@@ -67,5 +67,5 @@ module _ (script : List ℕ → Tree) (run : ℕ) (acts : List ActSpec) where
     pub sound : Sound run (tasks acts) b
     pub shows : Shows run n answers b
 
-  pub meets : (n : Notes) (answers : List Given) (b : Book) → Knows n answers b → b.run ≡ run → Meets script run acts n answers b
+  pub meets : (n : Notes) (answers : List Given) (b : Book) → Knows n answers b → b.run ≡ run → Meets n answers b
   meets n answers b k r = record { scripted = k.scripted; sound = k.sound; here = r; notes_are = k.shows.notes_are r; answers_are = k.shows.answers_are r }
