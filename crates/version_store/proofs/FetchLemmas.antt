@@ -1,6 +1,6 @@
 -- How a call that looks for an effect goes on from page to page.
 use Rattle.version_store.proofs.Names.{IsBytes, Image, page_of, state_of, PageState, Place, Written, effect_bytes, effect_at, effect_takes, length-effect_bytes, size_most, without_back, LastTells, first_sight, next_sight, sheet_on, shown_alone, shown_behind, shown_in, sight_then, Gated, Sheet, sheet_of, First, Middle, Last, Stand, Sees, ◌≡◌, ℕ, ◌+◌, ◌≤◌, ◌<◌, List, [], ◌∷◌, ◌++◌, length, drop, Option, Some, None, Result, Ok, Err, refl, sym, ◌∙◌, ap, subst, arith, Vec, inl, ⊎_elim, length-append, Global, drop_more, drop_all, Sight, Told, Due, StandsBehind, Tells, sight_of, ◌==◌, cond-true, eq-eqb}
-use Rattle.version_store.proofs.ReadLemmas.{IsBytes-append}
+use Rattle.page_form.proofs.ReadLemmas.{IsBytes-append}
 use Rattle.version_store.specs.declared.fetches.Sight.TheVariants as code
 
 -- ---- one effect and no more

@@ -1,6 +1,6 @@
 -- How far the pages of an append have come.
 use Rattle.version_store.proofs.Names.{Image, Only, Stage, LeftNow, LeavesOnly, joins, is_blank, state_of, gated_page, Spoiled, Gated, Log, Going, log_going, begun, next, scan, entries, KeepsPages, Laid, PagesFit, HasPages, Grows, IsAtRest, all_of, body_of, padded, ◌≡◌, ◌≢◌, ◌⊎◌, inl, inr, ⊎_elim, ℕ, ◌+◌, ◌<◌, List, [], ◌∷◌, ◌++◌, length, take, drop, get_or, true, Some, Ok, refl, sym, ◌∙◌, ap, subst, arith, add-zero, slice_set, list_all, and_parts, cond-true, cases_eq, append-nil, drop_more, take_more, flat_map_more, drop-set-lt, get_or-set_same, get_or-set_other, stays}
-use Rattle.page_gate.specs.Steps.{MayPut}
+use Rattle.page_form.specs.Steps.{MayPut}
 use Rattle.version_store.proofs.ScanLemmas.{going, stays_blank, stays_spoiled, steps, front_steps, log_at_rest}
 
 -- a page that is none

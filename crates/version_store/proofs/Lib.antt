@@ -1,11 +1,10 @@
 pub mod FetchLemmas
 pub mod FillingLemmas
-pub mod LogLemmas
+pub mod GateLemmas
 pub mod ReadBackLemmas
 pub mod LaidLemmas
 pub mod GrownLemmas
 pub mod ScanLemmas
-pub mod ReadLemmas
 pub mod OpenLemmas
 pub mod StoreLemmas
 pub mod BlankLemmas
@@ -13,3 +12,4 @@ pub mod PlaceLemmas
 pub mod StandLemmas
 mod CleanLemmas
 pub mod Names
+pub use Rattle.page_form.proofs.LogLemmas

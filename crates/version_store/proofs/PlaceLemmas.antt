@@ -1,8 +1,8 @@
 -- An entry of the log of an image stands at its place, and its back place is before it.
 use Rattle.version_store.proofs.Names.{IsBytes, ◌>>=◌, byte_at, number_at, between, some_is, Piece, Whole, First, Middle, Last, u16_form, between_form, Image, IsImage, is_blank, state_of, PageState, Blank, Spoiled, Gated, ObjectId, Place, Written, effect_bytes, effect_at, effect_takes, Entry, Log, IsIn, put_object, is_object, last_put, back_of, back_in, same_back, shown, shown_alone, sheet_on, first_sight, next_sight, sight_then, shown_behind, shown_in, Sheet, piece_of, padded_at, new_sheet_at, sheet_of, place_before, place_alone, admitted, alone, log_at, content_of, held_more, held_ends, with_sheet, Reading, Going, Ended, Damaged, begun, next, scan, finish, going_or_damaged, log_or_none, log_of, effect_cons, ◌≡◌, inl, inr, ⊎_elim, ℕ, zero, suc, ◌+◌, ◌-◌, ◌*◌, ◌≤◌, ◌<◌, List, [], ◌∷◌, ◌++◌, length, get_or, take, drop, true, Option, Some, None, Result, Ok, Err, refl, sym, ◌∙◌, ap, subst, arith, length-append, length-drop, IfSome, nat_le, ◌==◌, w16, option_map, cases_Bool, cases_lt, cond-true, cond-false, le-leb, lt-ltb, drop_more, drop-drop, drop_at, take_at, take_all, take-append-le, get_or_append_left, get_or-append_right, front_at, IsBytes-drop, bind_some, chosen_then, byte_form, front_takes, IsBefore, number_of, is_back_before, old_sheet_at}
-use Rattle.field_form.proofs.DecisionLaws.{chosen}
-use Rattle.version_store.proofs.LogLemmas.{last_from-push}
-use Rattle.version_store.proofs.ReadLemmas.{IsBytes-append, same_back-is}
+use Rattle.page_form.proofs.DecisionLaws.{chosen}
+use Rattle.page_form.proofs.LogLemmas.{last_from-push}
+use Rattle.page_form.proofs.ReadLemmas.{IsBytes-append, same_back-is}
 use Rattle.version_store.proofs.ScanLemmas.{scan_more}
 
 -- the offset of a page's first byte, and its bytes

@@ -1,5 +1,6 @@
 -- A page that was laid out reads back.
-use Rattle.version_store.proofs.Names.{◌>>=◌, byte_at, number_at, between, u16_form, between_form, is_blank, Place, Written, IsWritten, effect_bytes, effect_at, size_of, length-effect_bytes, effect_cons, size_some, Entry, Log, effects_of, back_in, same_back, sizes, Content, content_of, piece_of, padded_at, new_sheet_at, sheet_of, place_before, admitted, log_at, alone, with_sheet, Piece, Whole, texts, body_with, padded, place_after, ◌≡◌, ℕ, zero, suc, ◌+◌, ◌-◌, ◌^◌, ◌≤◌, ◌<◌, List, [], ◌∷◌, ◌++◌, length, true, cond, Option, Some, None, Result, refl, sym, ◌∙◌, ap, arith, append_assoc, length-append, ◌==◌, replicate, option_map, w16, to_be_bytes, cond-true, eq-eqb, and_from, append-nil, front_again, effect_again}
+use Rattle.version_store.proofs.Names.{◌>>=◌, byte_at, number_at, between, u16_form, between_form, is_blank, Place, Written, IsWritten, effect_bytes, effect_at, size_of, length-effect_bytes, effect_cons, Entry, Log, effects_of, back_in, same_back, sizes, Content, content_of, piece_of, padded_at, new_sheet_at, sheet_of, place_before, admitted, log_at, alone, with_sheet, Piece, Whole, texts, body_with, padded, place_after, ◌≡◌, ℕ, zero, suc, ◌+◌, ◌-◌, ◌^◌, ◌≤◌, ◌<◌, List, [], ◌∷◌, ◌++◌, length, true, cond, Option, Some, None, Result, refl, sym, ◌∙◌, ap, arith, append_assoc, length-append, ◌==◌, replicate, option_map, w16, to_be_bytes, cond-true, eq-eqb, and_from, append-nil, front_again, effect_again}
+use Rattle.page_form.proofs.LayingLemmas.{few_effects, length-texts}
 
 same_back-self : (b : Option Place) → same_back b b ≡ true
 same_back-self None = refl
@@ -9,14 +10,6 @@ same_back-self (Some p) = and_from (p.page == p.page) (p.offset == p.offset) (eq
 abbrev pub IsLaid : Log → ℕ → ℕ → Log → Type 0
 IsLaid log page size [] = Unit {0}
 IsLaid log page size (e ∷ es) = IsWritten (e.effect, e.back) × (e.place ≡ place_after page size) × (e.back ≡ back_in log e.effect) × IsLaid (log ++ e ∷ []) page (size + size_of e.effect) es
-
-pub length-texts : (es : Log) → length (texts es) ≡ sizes (effects_of es)
-length-texts [] = refl
-length-texts (e ∷ es) = length-append (effect_bytes (e.effect, e.back)) (texts es) ∙ (let here = length-effect_bytes e.effect e.back None in let rest = length-texts es in omega (arith, here, rest))
-
-pub texts-push : (es : Log) (e : Entry) → texts (es ++ e ∷ []) ≡ texts es ++ effect_bytes (e.effect, e.back)
-texts-push [] e = append-nil (effect_bytes (e.effect, e.back))
-texts-push (x ∷ es) e = ap (λ (l : List ℕ). effect_bytes (x.effect, x.back) ++ l) (texts-push es e) ∙ sym (append_assoc (effect_bytes (x.effect, x.back)) (texts es) (effect_bytes (e.effect, e.back)))
 
 -- one step of the reading, where an effect's text stands at the front
 log_at-step : (n : ℕ) (log : Log) (page end : ℕ) (w : Written) (rest : List ℕ) → IsWritten w → w.1 ≡ back_in log w.0
@@ -55,10 +48,6 @@ reads_back (suc n) log page size end (e ∷ es) laid few is =
       where
         offset : (k : ℕ) → end ≡ 5 + size + k → end - k ≡ 5 + size
         offset k at = omega (arith, at)
-
-pub few_effects : (es : Log) → length es ≤ length (texts es)
-few_effects [] = omega arith
-few_effects (e ∷ es) = let rest = few_effects es in let some = size_some e.effect in let long = length-texts (e ∷ es) in let all = length-texts es in omega (arith, rest, some, long, all)
 
 zeros : (n : ℕ) → is_blank (replicate n 0) ≡ true
 zeros zero = refl

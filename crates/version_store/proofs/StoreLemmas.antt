@@ -2,9 +2,10 @@
 use Rattle.version_store.proofs.Names.{Image, Stage, LeftNow, LeavesOnly, Effect, Log, effects_of, AreEffects, filling, joined, HasPrefix, KeepsPages, Heads, HeadsFit, ArePlaces, Laid, IsAtRest, HasPages, Grows, PagesFit, laid, all_of, body_of, bytes_of, begun, scan, entries, log_of, log_or_none, ◌≡◌, ℕ, zero, suc, ◌+◌, ◌≤◌, List, [], ◌∷◌, ◌++◌, length, map, take, drop, Ok, refl, sym, ◌∙◌, ap, subst, arith, length-take, append_assoc, Vec, Global, take-append-drop, take_at, widens, goes_to, effects_found}
 use Rattle.version_store.specs.Settled.{IsSettled}
 use Rattle.version_store.proofs.ScanLemmas.{log_at_rest}
-use Rattle.version_store.proofs.LogLemmas.{effects_of-append}
+use Rattle.page_form.proofs.LogLemmas.{effects_of-append}
 use Rattle.version_store.proofs.FillingLemmas.{joined-filling}
-use Rattle.version_store.proofs.LaidLemmas.{standing, standing-laid, effects-all_of, effects-laid, length-laid, laid_fits, lasts_are_places}
+use Rattle.page_form.proofs.LayingLemmas.{standing}
+use Rattle.version_store.proofs.LaidLemmas.{standing-laid, effects-all_of, effects-laid, length-laid, laid_fits, lasts_are_places}
 
 module _ (log : Log) (n : ℕ) (reads : Image) (may_leave : Image → Type 0) (rest : IsAtRest log n reads may_leave) where
   pub entries_here : entries reads ≡ Ok log

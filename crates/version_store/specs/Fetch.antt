@@ -1,16 +1,16 @@
 -- What pages show at a place.
 use Rattle.std.specs.Prelude.{◌≡◌, ℕ, ◌+◌, ◌-◌, ◌<◌, ◌≤◌, ◌==◌, ◌++◌, List, [], ◌∷◌, drop, Bool, true, nat_lt, nat_le, if◌then◌else◌, Option, Some, None, Result, Ok, Err}
 use Rattle.stream_port.specs.Causes.{next_count}
-use Rattle.page_gate.specs.States.{state_of}
-use Rattle.page_gate.specs.declared.pages.PageState.{PageState}
-use Rattle.page_gate.specs.declared.pages.PageState.TheVariants.{Blank, Spoiled, Gated}
-use Rattle.value_form.specs.declared.objects.ObjectId.{ObjectId}
-use Rattle.effect_form.specs.declared.effects.Place.{Place}
-use Rattle.effect_form.specs.Effects.{Written, effect_at}
-use Rattle.version_store.specs.Entries.{Entry, Log, IsIn, number_of, put_object, is_object}
+use Rattle.page_form.specs.States.{state_of}
+use Rattle.page_form.specs.PageState.{PageState}
+use Rattle.page_form.specs.PageState.TheVariants.{Blank, Spoiled, Gated}
+use Rattle.page_form.specs.ObjectId.{ObjectId}
+use Rattle.page_form.specs.Place.{Place}
+use Rattle.page_form.specs.Effects.{Written, effect_at}
+use Rattle.page_form.specs.Entries.{Entry, Log, IsIn, number_of, put_object, is_object}
 use Rattle.medium_port.specs.Image.{Image, page_of}
-use Rattle.version_store.specs.declared.pieces.Piece.TheVariants.{Whole, First, Middle, Last}
-use Rattle.version_store.specs.Storage.{Sheet, sheet_of}
+use Rattle.page_form.specs.declared.pieces.Piece.TheVariants.{Whole, First, Middle, Last}
+use Rattle.page_form.specs.Sheets.{Sheet, sheet_of}
 use Rattle.version_store.specs.declared.faults.FetchFault.{FetchFault}
 use Rattle.version_store.specs.declared.faults.FetchFault.TheVariants as fault
 

@@ -1,12 +1,11 @@
 pub mod Causes
-pub mod Entries
 pub mod Faults
 pub mod Fetch
 pub mod Filling
 pub mod Found
-pub mod Heads
-pub mod Laying
+pub mod Rests
 pub mod Settled
 pub mod Sights
 pub mod Storage
 pub mod StoreWords
+pub use Rattle.page_form.specs.Entries

@@ -1,9 +1,9 @@
 -- What a call that looks for an effect gives.
 use Rattle.std.specs.Prelude.{◌≡◌, ℕ, Option, Some, None, Result, Ok, Err, IfSome}
-use Rattle.field_form.specs.Forms.{IsBytes}
-use Rattle.effect_form.specs.Effects.{Written, IsWritten}
+use Rattle.page_form.specs.Forms.{IsBytes}
+use Rattle.page_form.specs.Effects.{Written, IsWritten}
 use Rattle.version_store.specs.Fetch as fetch
-use Rattle.version_store.specs.Found.{Stand}
+use Rattle.page_form.specs.Kept.{Stand}
 use Rattle.version_store.specs.declared.fetches.Sight.{Sight}
 use Rattle.version_store.specs.declared.fetches.Sight.TheVariants.{Told, Due}
 

@@ -1,8 +1,8 @@
 -- What callers see of a store.
 use Rattle.std.specs.Prelude.{ℕ, ◌-◌, List, Result, Ok, Err}
 use Rattle.medium_port.specs.Image.{Image}
-use Rattle.effect_form.specs.declared.effects.Effect.{Effect}
-use Rattle.version_store.specs.Entries.{Log, effects_of}
+use Rattle.page_form.specs.Effect.{Effect}
+use Rattle.page_form.specs.Entries.{Log, effects_of}
 use Rattle.version_store.specs.Storage.{log_of}
 use Rattle.version_store.specs.declared.stores.Store.{Store}
 

@@ -1,21 +1,20 @@
 ghost use Rattle.std.specs.Prelude.{◌≡◌, ◌≢◌, ◌<◌, ◌≤◌, ℕ, List, length, IsTrue, IfOk, IfErr, IfSome, false};
 ghost use Rattle.stream_port.specs.Causes.{Rose};
-ghost use Rattle.field_form.specs.Forms.{IsBytes};
+ghost use Rattle.page_form.specs.Forms.{IsBytes};
 ghost use Rattle.medium_port.specs.Image.{NoMore};
-ghost use Rattle.page_gate.specs.States.{state_with};
-ghost use Rattle.effect_form.specs.Effects.{IsWritten, effect_at};
-ghost use Rattle.version_store.specs.Entries.{number_of};
+ghost use Rattle.page_form.specs.States.{state_with};
+ghost use Rattle.page_form.specs.Effects.{IsWritten, effect_at};
+ghost use Rattle.page_form.specs.Entries.{number_of};
 ghost use Rattle.version_store.specs.Faults.{fails_fetching};
 ghost use Rattle.version_store.specs.Fetch.{LastTells, first_sight, is_back_before, next_sight, sheet_on, shown, shown_alone, shown_in};
-ghost use Rattle.version_store.specs.Found.{Stand};
+ghost use Rattle.page_form.specs.Kept.{Stand};
 ghost use Rattle.version_store.specs.Sights.{Sees, TellsRange, found_of, told_of};
 
 use crate::faults::FetchFault;
-use crate::page_reads::{add_piece, keep, sheet_in};
-use crate::pieces::Piece;
-use effect_form::{Effect, EffectFault, Place, read};
 use medium_port::Medium;
-use page_gate::{Gate, look_into};
+use page_form::{
+    Effect, EffectFault, Gate, Piece, Place, add_piece, keep, look_into, read, sheet_in,
+};
 use std::alloc::{AllocError, Global};
 
 /// What a page shows at a place.

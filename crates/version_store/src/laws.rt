@@ -1,12 +1,13 @@
 ghost use Rattle.std.specs.Prelude.{◌≡◌, ◌+◌, ◌*◌, ◌++◌, [], ◌∷◌, ℕ, ◌<◌, ◌≤◌, List, IfSome, Ok, Some, length, take};
 ghost use Rattle.medium_port.specs.Image.{Image, IsImage};
-ghost use Rattle.value_form.specs.declared.objects.ObjectId.{ObjectId};
-ghost use Rattle.effect_form.specs.declared.effects.Effect.{Effect};
-ghost use Rattle.effect_form.specs.declared.effects.Place.{Place};
-ghost use Rattle.version_store.specs.Entries.{Entry, IsBefore, IsIn, Log, back_in, last_put};
+ghost use Rattle.page_form.specs.ObjectId.{ObjectId};
+ghost use Rattle.page_form.specs.Effect.{Effect};
+ghost use Rattle.page_form.specs.Place.{Place};
+ghost use Rattle.page_form.specs.Entries.{Entry, IsBefore, IsIn, Log, back_in, last_put};
 ghost use Rattle.version_store.specs.Fetch.{BackStands, IsLastPut};
-ghost use Rattle.version_store.specs.Filling.{HasPrefix, KeepsPages, StaysClean, filling, joined, pages_apart};
-ghost use Rattle.effect_form.specs.Effects.{AreEffects, size_of};
+ghost use Rattle.version_store.specs.Filling.{HasPrefix, KeepsPages, StaysClean, joined, pages_apart};
+ghost use Rattle.page_form.specs.Filling.{filling};
+ghost use Rattle.page_form.specs.Effects.{AreEffects, size_of};
 ghost use Rattle.version_store.specs.Storage.{log_of, storage};
 
 /// A law: what is read of an image that a crash of an append left is the log with a prefix of the

@@ -3,13 +3,8 @@
 
 mod faults;
 mod fetches;
-mod last_puts;
 mod laws;
-mod layouts;
 mod openings;
-mod page_reads;
-mod pieces;
-mod sizes;
 mod stores;
 mod writes;
 

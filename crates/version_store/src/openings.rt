@@ -1,22 +1,21 @@
 ghost use Rattle.std.specs.Prelude.{◌≡◌, ◌≢◌, ◌+◌, ◌<◌, ◌≤◌, List, ℕ, IsTrue, true, false, length, Some, Err, IfOk, IfErr, OnOk, MatchBool, if◌then◌else◌};
 ghost use Rattle.stream_port.specs.Causes.{Rose};
 ghost use Rattle.medium_port.specs.Image.{Image, NoMore};
-ghost use Rattle.page_gate.specs.States.{is_blank, state_with};
-ghost use Rattle.page_gate.specs.declared.pages.PageState.TheVariants.{Blank};
+ghost use Rattle.page_form.specs.States.{is_blank, state_with};
+ghost use Rattle.page_form.specs.PageState.TheVariants.{Blank};
 ghost use Rattle.version_store.specs.Faults.{fails_reading};
-ghost use Rattle.effect_form.specs.Effects.{AreEffects};
-ghost use Rattle.version_store.specs.Found.{HeldBelow, HeldFit, Reached, reading_of};
-ghost use Rattle.version_store.specs.Heads.{AreBelow, ArePlaces, IsFound};
-ghost use Rattle.version_store.specs.Storage.{Content, Damaged, begun, next, scan};
+ghost use Rattle.page_form.specs.Effects.{AreEffects};
+ghost use Rattle.page_form.specs.Kept.{HeldBelow, HeldFit};
+ghost use Rattle.version_store.specs.Found.{Reached, reading_of};
+ghost use Rattle.page_form.specs.Heads.{AreBelow, ArePlaces, IsFound};
+ghost use Rattle.page_form.specs.Sheets.{Content, Damaged, next};
+ghost use Rattle.version_store.specs.Storage.{begun, scan};
 
 use crate::faults::OpenFault;
-use crate::page_reads::{Held, add_page};
-use effect_form::{Effect, Place};
 use medium_port::Medium;
-use page_gate::{Gate, look_into};
+use page_form::{Effect, Gate, Held, ObjectId, Place, add_page, look_into};
 use std::alloc::{AllocError, Global};
 use std::collections::BTreeMap;
-use value_form::ObjectId;
 
 /// What an opening has found so far.
 #[derive(Drop)]

@@ -2,28 +2,26 @@ ghost use Rattle.std.specs.Prelude.{◌≡◌, ◌≢◌, [], ◌+◌, ℕ, ◌<
 ghost use Rattle.stream_port.specs.Causes.{Rose, next_count};
 ghost use Rattle.medium_port.specs.Image.{Image, Only, NoMore};
 ghost use Rattle.medium_port.specs.Moment.{LeavesOnly};
-ghost use Rattle.page_gate.specs.States.{is_blank};
-ghost use Rattle.effect_form.specs.Effects.{IsWritten, AreEffects};
-ghost use Rattle.version_store.specs.Entries.{Entry, IsBefore, IsIn, Log, last_put};
+ghost use Rattle.page_form.specs.States.{is_blank};
+ghost use Rattle.page_form.specs.Effects.{IsWritten, AreEffects};
+ghost use Rattle.page_form.specs.Entries.{Entry, IsBefore, IsIn, Log, last_put};
 ghost use Rattle.version_store.specs.Storage.{entries, storage, log_of};
-ghost use Rattle.version_store.specs.Filling.{HasPrefix, KeepsPages, StaysClean, filling};
+ghost use Rattle.version_store.specs.Filling.{HasPrefix, KeepsPages, StaysClean};
+ghost use Rattle.page_form.specs.Filling.{filling};
 ghost use Rattle.version_store.specs.Faults.{fails_opening, fails_adding, fails_fetching};
 ghost use Rattle.version_store.specs.Fetch.{BackStands, IsLastPut, LastTells, StandsAt, damage_after};
-ghost use Rattle.version_store.specs.Heads.{AreBelow, ArePlaces, HeadsFit};
-ghost use Rattle.version_store.specs.Laying.{IsAtRest};
+ghost use Rattle.page_form.specs.Heads.{AreBelow, ArePlaces, HeadsFit};
+ghost use Rattle.version_store.specs.Rests.{IsAtRest};
 ghost use Rattle.version_store.specs.Settled.{IsSettled};
 
 use crate::faults::{FetchFault, OpenFault, StoreFault};
 use crate::fetches::find;
-use crate::layouts::lay_out;
 use crate::openings::{Found, read_pages};
-use crate::sizes::pages_filled;
 use crate::writes::write_pages;
-use effect_form::{Effect, Place};
 use medium_port::Medium;
+use page_form::{Effect, ObjectId, Place, lay_out, pages_filled};
 use std::alloc::Global;
 use std::collections::BTreeMap;
-use value_form::ObjectId;
 
 // One more.
 fn counted(damage: u64) -> u64

@@ -2,14 +2,15 @@ ghost use Rattle.std.specs.Prelude.{◌≡◌, ◌+◌, ◌≤◌, ◌<◌, ◌^
 ghost use Rattle.std.specs.List.{list_all};
 ghost use Rattle.stream_port.specs.Causes.{HasCause};
 ghost use Rattle.medium_port.specs.Moment.{LeavesOnly};
-ghost use Rattle.page_gate.specs.States.{is_blank};
-ghost use Rattle.version_store.specs.Entries.{Log};
+ghost use Rattle.page_form.specs.States.{is_blank};
+ghost use Rattle.page_form.specs.Entries.{Log};
 ghost use Rattle.version_store.specs.Filling.{StaysClean};
-ghost use Rattle.version_store.specs.Laying.{Grows, IsAtRest, IsBody, Laid, PagesFit, all_of, body_of, bytes_of};
+ghost use Rattle.version_store.specs.Rests.{Grows, IsAtRest, PagesFit};
+ghost use Rattle.page_form.specs.Laying.{IsBody, Laid, all_of, body_of, bytes_of};
 ghost use Rattle.version_store.specs.Storage.{begun, scan};
 
 use medium_port::{Medium, MediumFault};
-use page_gate::put;
+use page_form::put;
 
 /// Puts the bodies on the pages from this one on.
 pub fn write_pages<M: Medium>(

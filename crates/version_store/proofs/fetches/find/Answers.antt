@@ -1,6 +1,6 @@
 use Rattle.version_store.proofs.Names.{Image, page_of, state_of, state_with, drop, take, List, ℕ, LastTells, first_sight, next_sight, sheet_on, Sees, refl, IsTrue, None, sym, ◌∙◌, ap, subst, arith}
 use Rattle.version_store.proofs.FetchLemmas.{told_is, looking_first, looking_next, first_told, next_told, next_tells, tells_here}
-use Rattle.version_store.proofs.ReadLemmas.{behind_gate}
+use Rattle.version_store.proofs.GateLemmas.{behind_gate}
 use Rattle.version_store.proofs.fetches.find.Goals as goal
 
 -- ---- the place's page

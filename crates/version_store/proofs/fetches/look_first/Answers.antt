@@ -1,5 +1,5 @@
 use Rattle.version_store.proofs.Names.{sym, ◌∙◌, ap, arith, Some, state_with}
-use Rattle.page_gate.specs.declared.pages.Gate.{Gate}
+use Rattle.page_form.specs.Gate.{Gate}
 use Rattle.version_store.proofs.FetchLemmas.{first_piece}
 use Rattle.version_store.proofs.fetches.look_first.Goals as goal
 

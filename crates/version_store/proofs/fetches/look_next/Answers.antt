@@ -1,5 +1,5 @@
 use Rattle.version_store.proofs.Names.{state_with, ℕ, List, ◌++◌, sym, ◌∙◌, ap, subst, Some, Stand}
-use Rattle.page_gate.specs.declared.pages.Gate.{Gate}
+use Rattle.page_form.specs.Gate.{Gate}
 use Rattle.version_store.proofs.FetchLemmas.{next_middle, next_last}
 use Rattle.version_store.proofs.fetches.look_next.Goals as goal
 

@@ -1,6 +1,6 @@
-use Rattle.version_store.proofs.Names.{ap, state_with, List, Effect, Option, None, MatchOption, sym, subst, ◌≡◌, ◌∙◌, Content, Damaged, Going, HeldFit, IsFound, next, Gated, Held, Heads, reading_of, refl}
-use Rattle.page_gate.specs.declared.pages.Gate.{Gate}
-use Rattle.version_store.proofs.ReadLemmas.{opened_page, spoiled_goes}
+use Rattle.version_store.proofs.Names.{ap, state_with, Option, MatchOption, sym, subst, ◌≡◌, ◌∙◌, Content, Damaged, Going, HeldFit, IsFound, next, Gated, Held, reading_of}
+use Rattle.page_form.specs.Gate.{Gate}
+use Rattle.version_store.proofs.GateLemmas.{opened_page, spoiled_goes}
 use Rattle.version_store.proofs.openings.add_state.Goals as goal
 
 pub returns-else-found-clause-found : goal.returns-else-found-clause-found

@@ -2,7 +2,7 @@ use Rattle.version_store.proofs.Names.{Image, state_of, state_with, drop, take, 
 use Rattle.version_store.specs.declared.faults.OpenFault.TheVariants as faults
 use Rattle.version_store.proofs.ScanLemmas.{scan_more, scan_damaged}
 use Rattle.version_store.proofs.OpenLemmas.{reached_more}
-use Rattle.version_store.proofs.ReadLemmas.{behind_gate}
+use Rattle.version_store.proofs.GateLemmas.{behind_gate}
 use Rattle.version_store.proofs.openings.read_pages.Goals as goal
 
 same_page : (i page : ℕ) → faults.Damaged i ≡ faults.Damaged page → i ≡ page

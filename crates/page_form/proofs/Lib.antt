@@ -1,0 +1,11 @@
+pub mod LogLemmas
+pub mod ParcelLemmas
+pub mod LayingLemmas
+pub mod ReadLemmas
+pub mod Names
+pub use Rattle.effect_form.proofs.EffectLaws
+pub use Rattle.effect_form.proofs.ReadLaws
+pub use Rattle.effect_form.proofs.SizeLaws
+pub use Rattle.field_form.proofs.DecisionLaws
+pub use Rattle.field_form.proofs.FormLaws
+pub use Rattle.field_form.proofs.NumberLaws

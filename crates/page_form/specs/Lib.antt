@@ -1,0 +1,17 @@
+pub mod Entries
+pub mod Filling
+pub mod Heads
+pub mod Kept
+pub mod Laying
+pub mod Sheets
+pub use Rattle.effect_form.specs.Effects
+pub use Rattle.effect_form.specs.declared.effects.Effect
+pub use Rattle.effect_form.specs.declared.effects.Place
+pub use Rattle.field_form.specs.Forms
+pub use Rattle.field_form.specs.Numbers
+pub use Rattle.page_gate.specs.States
+pub use Rattle.page_gate.specs.Steps
+pub use Rattle.page_gate.specs.declared.pages.Gate
+pub use Rattle.page_gate.specs.declared.pages.PageState
+pub use Rattle.value_form.specs.Objects
+pub use Rattle.value_form.specs.declared.objects.ObjectId
