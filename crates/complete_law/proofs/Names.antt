@@ -63,8 +63,8 @@ pub use Rattle.repository_core.specs.Hands.{Hand, Mind, asker_cmp, note, now, se
 pub use Rattle.repository_core.specs.Rows.{accepts, ask_as, ask_for, begin_as, close_as, hold, is_broker_of, learn_as, read_as, read_known, reread, tells, unhold, waits_for, write_as}
 unfoldable pub use Rattle.repository_core.specs.Rows.{on_ask, on_begin, on_close, on_learn, on_message, on_read, on_write, release, tell_askers}
 pub use Rattle.repository_core.specs.Turns.{hand_at, mind_of}
-pub use Rattle.repository_core.specs.declared.waits.Asker.{Asker}
-pub use Rattle.repository_core.specs.declared.waits.HeldRead.{HeldRead}
+pub use Rattle.repository_core.specs.Asker.{Asker}
+pub use Rattle.repository_core.specs.HeldRead.{HeldRead}
 pub use Rattle.repository_laws.proofs.AnyTurns.{begun-fine, on-learn-fine, take-fine}
 pub use Rattle.repository_laws.proofs.AskServices.{ask-serves, has-record}
 pub use Rattle.repository_laws.proofs.AskerSteps.{Askers, on-learn-askers, on-message-askers}

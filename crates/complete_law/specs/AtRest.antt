@@ -14,7 +14,7 @@ use Rattle.message_form.specs.declared.turns.Out.{Out}
 use Rattle.message_form.specs.Posts.{Post}
 use Rattle.script_meaning.specs.Meaning.{ToWrite}
 use Rattle.serial_model.specs.Questions.{Tree}
-use Rattle.repository_core.specs.declared.waits.HeldRead.{HeldRead}
+use Rattle.repository_core.specs.HeldRead.{HeldRead}
 use Rattle.repository_core.specs.Rows.{waits_for}
 use Rattle.repository_laws.specs.Facts.{WriteSent}
 use Rattle.repository_laws.specs.Waits.{Waits}

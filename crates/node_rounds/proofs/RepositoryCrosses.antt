@@ -30,10 +30,10 @@ use Rattle.object_header.specs.contracts.headers.HeaderTable as HeaderTable
 use Rattle.object_header.specs.contracts.tables.HeaderTableHistories.TheImpl as table
 use Rattle.repository_core.proofs.waits.HeldRead.TheSendSync as held
 use Rattle.repository_core.proofs.waits.Asker.TheSendSync as asker
-use Rattle.repository_core.specs.contracts.waits.AskerPartialEq.TheImpl as asker_eq
-use Rattle.repository_core.specs.contracts.waits.AskerPartialOrd.TheImpl as asker_order
-use Rattle.repository_core.specs.contracts.drafts.Draft as Draft
-use Rattle.repository_core.specs.contracts.drafts.Draft.TheInside as DraftInside
+use Rattle.repository_core.specs.AskerPartialEq.TheImpl as asker_eq
+use Rattle.repository_core.specs.AskerPartialOrd.TheImpl as asker_order
+use Rattle.repository_core.specs.DraftContracts as Draft
+use Rattle.repository_core.specs.DraftContracts.TheInside as DraftInside
 use Rattle.repository_core.specs.contracts.books.Books as Books
 use Rattle.repository_core.specs.contracts.works.Work as Work
 use Rattle.repository_core.specs.contracts.repositories.Repository as Repository

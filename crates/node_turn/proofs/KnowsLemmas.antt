@@ -10,7 +10,7 @@ use Rattle.object_history.specs.declared.steps.ReadStep.TheVariants as read
 use Rattle.object_history.specs.Answers.{read_step}
 use Rattle.repository_log.specs.Logs.{knows, known, marks}
 use Rattle.repository_log.proofs.MarkLemmas.{knows-known}
-use Rattle.repository_core.specs.declared.waits.HeldRead.{HeldRead}
+use Rattle.repository_core.specs.HeldRead.{HeldRead}
 use Rattle.repository_core.specs.Hands.{Hand, now, note, Mind as HandMind}
 use Rattle.repository_core.specs.Rows.{read_as, read_known, on_read, reread, release, learn_as, on_learn, unhold, waits_for}
 use Rattle.repository_core.specs.Turns as hands

@@ -1,9 +1,9 @@
 -- What is looked up goes on to agree with the log.
 use Rattle.repository_core.proofs.Names.{◌≡◌, ℕ, ◌≤◌, true, false, List, ◌∷◌, sym, ◌∙◌, ap, subst, arith, StampParts, TimeParts, Decision, ObjectId, Value, Effect, States, Mark, ReadStep, WriteStep, settle_of, after_read, after_write, read_by, wrote, first_begin, decision_of, BooksShow}
-use Rattle.effect_form.specs.declared.effects.Effect.TheVariants.{Put, Stretch}
-use Rattle.object_history.specs.declared.marks.Mark.TheVariants as mark
-use Rattle.object_history.specs.declared.steps.ReadStep.TheVariants as read
-use Rattle.object_history.specs.declared.steps.WriteStep.TheVariants as write
+use Rattle.repository_draft.specs.Effect.TheVariants.{Put, Stretch}
+use Rattle.repository_draft.specs.Mark.TheVariants as mark
+use Rattle.repository_draft.specs.ReadStep.TheVariants as read
+use Rattle.repository_draft.specs.WriteStep.TheVariants as write
 use Rattle.repository_core.specs.Calls.{Begins, Since}
 
 -- ---- the histories in a call

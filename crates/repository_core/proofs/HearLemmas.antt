@@ -3,8 +3,8 @@ use Rattle.repository_core.proofs.Names.{◌≡◌, ℕ, ◌<◌, ◌+◌, Bool,
 use Rattle.std.specs.FinMap.Entries.{is_sorted, below_all}
 use Rattle.std.proofs.lemmas.Bool.{false≢true, true≢false}
 use Rattle.pseudo_time.specs.declared.decisions.Decision.TheVariants as decision
-use Rattle.effect_form.specs.declared.effects.Effect.TheVariants as effect
-use Rattle.message_form.specs.declared.messages.Message.TheVariants as message
+use Rattle.repository_draft.specs.Effect.TheVariants as effect
+use Rattle.repository_draft.specs.Message.TheVariants as message
 use Rattle.commit_record.specs.declared.states.RecordState.{RecordState}
 use Rattle.commit_record.specs.declared.states.RecordState.TheVariants.{Unknown, Decided}
 use Rattle.repository_core.proofs.RowLemmas.{now-read, record-by, tell-now}

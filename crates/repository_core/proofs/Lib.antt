@@ -3,4 +3,5 @@ pub mod HearLemmas
 pub mod HeldLemmas
 pub mod RowLemmas
 pub mod TurnLemmas
+pub use Rattle.repository_draft.proofs.waits
 pub mod Names

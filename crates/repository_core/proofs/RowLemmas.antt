@@ -1,9 +1,9 @@
 -- What a row of the rules makes of the log.
 use Rattle.repository_core.proofs.Names.{◌≡◌, ◌≤◌, ◌<◌, ◌+◌, subst, get_or, length, drop, ℕ, Bool, true, false, List, [], ◌∷◌, refl, sym, ◌∙◌, ap, Some, None, ◌==◌, ◌||◌, if◌then◌else◌, not, StampParts, TimeParts, NodeId, ObjectId, Value, Effect, ReadStep, WriteStep, HeldRead, Asker, drop_all, drop_more, filter, same_stamp, read_step, AreHeld, read_by, wrote, first_begin, decision_of, marks, known, HasSameRecords, Hand, now, note, send, HasSameLog, repository, unhold, hold, waits_for, read_as, read_known, on_read, write_as, reread, release, learn_as, on_learn, tells, tell_askers}
-use Rattle.message_form.specs.declared.messages.Message.TheVariants as message
-use Rattle.object_history.specs.declared.steps.ReadStep.TheVariants as read
-use Rattle.object_history.specs.declared.steps.WriteStep.TheVariants as write
-use Rattle.effect_form.specs.declared.effects.Effect.TheVariants as effect
+use Rattle.repository_draft.specs.Message.TheVariants as message
+use Rattle.repository_draft.specs.ReadStep.TheVariants as read
+use Rattle.repository_draft.specs.WriteStep.TheVariants as write
+use Rattle.repository_draft.specs.Effect.TheVariants as effect
 
 now-if : (b : Bool) (x y : Hand) (l : List Effect) → now x ≡ l → now y ≡ l → now (if b then x else y) ≡ l
 now-if true x y l h k = h

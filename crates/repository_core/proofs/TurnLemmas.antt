@@ -1,7 +1,7 @@
 -- A whole turn, from its beginning to its end, is what the rules give.
 use Rattle.repository_core.proofs.Names.{◌≡◌, List, [], ◌++◌, reverse, sym, ◌∙◌, ap, subst, reverse-reverse, StampParts, Decision, Effect, Mark, AgreeBut, AgreeWith, IsOpen, Mind, Hand, now, given, Input, Given, hand_turn, hand_at, mind_of, gives}
-use Rattle.message_form.specs.declared.turns.Out.{Out}
-use Rattle.message_form.specs.declared.turns.Turn.{Turn}
+use Rattle.repository_draft.specs.Out.{Out}
+use Rattle.repository_draft.specs.Turn.{Turn}
 use Rattle.repository_core.specs.declared.books.Books.{Books}
 
 abbrev given_as : List Effect → List Out → Mind → Given

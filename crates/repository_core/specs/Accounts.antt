@@ -2,9 +2,9 @@
 use Rattle.std.specs.Prelude.{◌≡◌, ℕ, Bool, List, [], Result, OnOk}
 use Rattle.pseudo_time.specs.StampParts.{StampParts}
 use Rattle.pseudo_time.specs.declared.decisions.Decision.{Decision}
-use Rattle.effect_form.specs.declared.effects.Effect.{Effect}
-use Rattle.object_history.specs.declared.marks.Mark.{Mark}
-use Rattle.object_history.specs.declared.steps.HistoryFault.{HistoryFault}
+use Rattle.repository_draft.specs.Effect.{Effect}
+use Rattle.repository_draft.specs.Mark.{Mark}
+use Rattle.repository_draft.specs.HistoryFault.{HistoryFault}
 use Rattle.repository_core.specs.declared.books.Books.{Books}
 use Rattle.repository_core.specs.Hands.{Hand}
 use Rattle.repository_core.specs.Calls.{Since, IsCaused, WentOn}

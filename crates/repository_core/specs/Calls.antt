@@ -1,9 +1,9 @@
 -- A repository's histories in a call.
 use Rattle.std.specs.Prelude.{◌≡◌, ℕ, ◌≤◌, Bool, IsTrue, List, ◌++◌, Result, IfErr}
 use Rattle.stream_port.specs.Causes.{Rose}
-use Rattle.object_history.specs.declared.marks.Mark.{Mark}
-use Rattle.object_history.specs.declared.steps.HistoryFault.{HistoryFault}
-use Rattle.object_history.specs.declared.steps.HistoryFault.TheVariants as fault
+use Rattle.repository_draft.specs.Mark.{Mark}
+use Rattle.repository_draft.specs.HistoryFault.{HistoryFault}
+use Rattle.repository_draft.specs.HistoryFault.TheVariants as fault
 
 -- the content goes on from the old one
 pub record Begins (old new : List Mark) : Type 0 where

@@ -1,11 +1,11 @@
 -- A repository's core, as callers see it.
 use Rattle.std.specs.Prelude.{◌≡◌, ℕ, Bool, IsTrue, List, ◌++◌, Result, IfOk, OnOk, IfErr, is_err}
-use Rattle.effect_form.specs.declared.effects.Effect.{Effect}
-use Rattle.object_history.specs.declared.marks.Mark.{Mark}
-use Rattle.object_history.specs.declared.steps.HistoryFault.{HistoryFault}
-use Rattle.object_history.specs.Causes.{HasHistoryCause, IsNotDamage}
-use Rattle.message_form.specs.declared.turns.Turn.{Turn}
-use Rattle.message_form.specs.Ranges.{AreEffects, AreOuts}
+use Rattle.repository_draft.specs.Effect.{Effect}
+use Rattle.repository_draft.specs.Mark.{Mark}
+use Rattle.repository_draft.specs.HistoryFault.{HistoryFault}
+use Rattle.repository_draft.specs.Causes.{HasHistoryCause, IsNotDamage}
+use Rattle.repository_draft.specs.Turn.{Turn}
+use Rattle.repository_draft.specs.TurnRanges.{AreEffects, AreOuts}
 use Rattle.repository_core.specs.Hands.{Mind}
 pub use Rattle.repository_log.specs.Logs.{HasMarks}
 use Rattle.repository_core.specs.Calls.{Begins}

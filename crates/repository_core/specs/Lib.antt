@@ -4,10 +4,14 @@ pub mod Cores
 pub mod Hands
 pub mod Hearing
 pub mod Logs
-pub mod Ranges
 pub mod Rows
 pub mod Turns
-pub use Rattle.message_form.specs.Posts
-pub use Rattle.object_history.specs.History
-pub use Rattle.object_history.specs.Answers
-pub use Rattle.object_history.specs.Causes
+pub use Rattle.repository_draft.specs.Answers
+pub use Rattle.repository_draft.specs.Causes
+pub use Rattle.repository_draft.specs.History
+pub use Rattle.repository_draft.specs.Posts
+pub use Rattle.repository_draft.specs.contracts.drafts.Draft as DraftContracts
+pub use Rattle.repository_draft.specs.contracts.waits.AskerPartialEq
+pub use Rattle.repository_draft.specs.contracts.waits.AskerPartialOrd
+pub use Rattle.repository_draft.specs.declared.waits.Asker
+pub use Rattle.repository_draft.specs.declared.waits.HeldRead

@@ -1,14 +1,14 @@
 -- What a repository's answers make of its log. Logs stand newest first.
 use Rattle.std.specs.Prelude.{true, false, List, ◌∷◌}
 use Rattle.pseudo_time.specs.TimeParts.{TimeParts}
-use Rattle.effect_form.specs.declared.effects.Effect.{Effect}
-use Rattle.effect_form.specs.declared.effects.Effect.TheVariants.{Put, Stretch}
-use Rattle.value_form.specs.declared.objects.ObjectId.{ObjectId}
-use Rattle.value_form.specs.declared.values.Value.{Value}
-use Rattle.object_history.specs.declared.steps.ReadStep.{ReadStep}
-use Rattle.object_history.specs.declared.steps.ReadStep.TheVariants as read
-use Rattle.object_history.specs.declared.steps.WriteStep.{WriteStep}
-use Rattle.object_history.specs.declared.steps.WriteStep.TheVariants as write
+use Rattle.repository_draft.specs.Effect.{Effect}
+use Rattle.repository_draft.specs.Effect.TheVariants.{Put, Stretch}
+use Rattle.repository_draft.specs.ObjectId.{ObjectId}
+use Rattle.repository_draft.specs.Value.{Value}
+use Rattle.repository_draft.specs.ReadStep.{ReadStep}
+use Rattle.repository_draft.specs.ReadStep.TheVariants as read
+use Rattle.repository_draft.specs.WriteStep.{WriteStep}
+use Rattle.repository_draft.specs.WriteStep.TheVariants as write
 pub use Rattle.repository_log.specs.Logs.{is_commit, as_decision, marks, known, record_from, record_of, begun, HasSameRecords, IsUnknown, began_by, began}
 unfoldable pub use Rattle.repository_log.specs.Logs.{knows, first_begin, decision_of}
 

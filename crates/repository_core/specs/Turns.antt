@@ -2,9 +2,9 @@
 use Rattle.std.specs.Prelude.{ℕ, Bool, List, [], reverse}
 use Rattle.pseudo_time.specs.StampParts.{StampParts}
 use Rattle.pseudo_time.specs.declared.nodes.NodeId.{NodeId}
-use Rattle.effect_form.specs.declared.effects.Effect.{Effect}
-use Rattle.message_form.specs.declared.messages.Message.{Message}
-use Rattle.message_form.specs.declared.turns.Out.{Out}
+use Rattle.repository_draft.specs.Effect.{Effect}
+use Rattle.repository_draft.specs.Message.{Message}
+use Rattle.repository_draft.specs.Out.{Out}
 use Rattle.repository_core.specs.Hands.{Mind, Hand}
 use Rattle.repository_core.specs.Rows.{on_message, on_learn}
 use Rattle.repository_core.specs.Hearing.{on_moment}

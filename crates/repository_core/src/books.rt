@@ -1,29 +1,28 @@
 ghost use Rattle.std.specs.Prelude.{◌≡◌, ℕ, ◌∷◌, List, Some, None, IsTrue, IfOk, OnOk, IfErr};
 ghost use Rattle.pseudo_time.specs.StampParts.{StampParts};
 ghost use Rattle.pseudo_time.specs.declared.decisions.Decision.{Decision};
-ghost use Rattle.value_form.specs.ObjectBytes.{IsObject};
-ghost use Rattle.value_form.specs.ValueBytes.{IsValue};
-ghost use Rattle.effect_form.specs.declared.effects.Effect.{Effect};
-ghost use Rattle.effect_form.specs.declared.effects.Effect.TheVariants as effect;
+ghost use Rattle.repository_draft.specs.ObjectBytes.{IsObject};
+ghost use Rattle.repository_draft.specs.ValueBytes.{IsValue};
+ghost use Rattle.repository_draft.specs.Effect.{Effect};
+ghost use Rattle.repository_draft.specs.Effect.TheVariants as effect;
 ghost use Rattle.commit_record.specs.States.{begin_step, listed_at};
 ghost use Rattle.commit_record.specs.declared.states.RecordState.TheVariants as record_state;
-ghost use Rattle.object_history.specs.declared.marks.Mark.TheVariants as mark;
-ghost use Rattle.object_history.specs.History.{settle_of};
-ghost use Rattle.object_history.specs.Answers.{read_step, after_read, write_step, after_write, stands_written};
-ghost use Rattle.object_history.specs.Ranges.{IsReadStep};
+ghost use Rattle.repository_draft.specs.Mark.TheVariants as mark;
+ghost use Rattle.repository_draft.specs.History.{settle_of};
+ghost use Rattle.repository_draft.specs.Answers.{read_step, after_read, write_step, after_write, stands_written};
+ghost use Rattle.repository_draft.specs.StepRanges.{IsReadStep};
 ghost use Rattle.repository_core.specs.Logs.{wrote, read_by};
 ghost use Rattle.repository_log.specs.Logs.{is_commit, known, as_decision, record_of, began};
 ghost use Rattle.repository_log.specs.Lookups.{early_or, restored};
 ghost use Rattle.repository_log.specs.Expiries.{expiries};
 
 use commit_record::{BeginStep, RecordState, Records};
-use object_history::{Histories, HistoryFault, ReadStep, WriteStep};
 use pseudo_time::{Decision, PseudoTime, Stamp};
+use repository_draft::{Histories, HistoryFault, ObjectId, ReadStep, Value, WriteStep};
 use repository_log::{is_commit, learned};
 use std::alloc::AllocError;
 use std::collections::BTreeMap;
 use std::snapshot::Snapshot;
-use value_form::{ObjectId, Value};
 
 /// What a repository looks up: its histories and commit records.
 #[derive(Drop)]

@@ -3,13 +3,9 @@
 #![tactic(auto)]
 
 mod books;
-mod drafts;
 mod openings;
-mod replies;
 mod repositories;
-mod waits;
 mod works;
 
-pub use message_form::{Out, Turn};
 pub use repositories::{CoreFault, Repository, RepositoryRest};
-pub use waits::{Asker, HeldRead};
+pub use repository_draft::{Asker, HeldRead, Out, Turn};

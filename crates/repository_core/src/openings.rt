@@ -2,10 +2,9 @@ ghost use Rattle.std.specs.Prelude.{◌≡◌, ◌≤◌, ◌^◌, [], IfOk, rev
 ghost use Rattle.repository_log.specs.Logs.{marks};
 ghost use Rattle.repository_log.specs.Lookups.{BooksShow};
 
-use crate::drafts::Draft;
 use commit_record::Records;
-use effect_form::Effect;
 use pseudo_time::{Decision, Stamp};
+use repository_draft::{Draft, Effect};
 use repository_log::records_of;
 use std::alloc::{AllocError, Global};
 use std::collections::BTreeMap;

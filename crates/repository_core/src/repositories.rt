@@ -1,18 +1,15 @@
 ghost use Rattle.std.specs.Prelude.{◌≡◌, ◌≤◌, ◌^◌, false, IsTrue, IfOk, IfErr, reverse};
-ghost use Rattle.message_form.specs.Messages.{IsMessage};
+ghost use Rattle.repository_draft.specs.Messages.{IsMessage};
 ghost use Rattle.repository_core.specs.Cores.{HasMarks, IsByRules, IsCalled};
 ghost use Rattle.repository_log.specs.Logs.{known};
 ghost use Rattle.repository_core.specs.Turns.{opened_mind, Taking, Learning, Hearing};
 
 use crate::books::Books;
-use crate::drafts::Draft;
 use crate::openings::open_books;
 use crate::works::Work;
 use commit_record::Records;
-use effect_form::Effect;
-use message_form::{Message, Turn};
-use object_history::{Histories, HistoryFault};
 use pseudo_time::{Decision, NodeId, Stamp};
+use repository_draft::{Draft, Effect, Histories, HistoryFault, Message, Turn};
 use std::alloc::{AllocError, Global};
 use std::collections::BTreeMap;
 use std::marker::Model;

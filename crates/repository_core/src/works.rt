@@ -1,16 +1,16 @@
 ghost use Rattle.std.specs.Prelude.{◌≡◌, ◌≤◌, ◌^◌, Some, None, IsTrue, OnOk, List, ◌∷◌, true, false};
 ghost use Rattle.pseudo_time.specs.StampParts.{StampParts};
 ghost use Rattle.pseudo_time.specs.declared.decisions.Decision.{Decision};
-ghost use Rattle.value_form.specs.ObjectBytes.{IsObject};
-ghost use Rattle.value_form.specs.ValueBytes.{IsValue};
-ghost use Rattle.effect_form.specs.declared.effects.Effect.{Effect};
-ghost use Rattle.effect_form.specs.declared.effects.Effect.TheVariants as effect;
-ghost use Rattle.message_form.specs.declared.messages.Message.TheVariants as message;
-ghost use Rattle.message_form.specs.Messages.{IsMessage};
+ghost use Rattle.repository_draft.specs.ObjectBytes.{IsObject};
+ghost use Rattle.repository_draft.specs.ValueBytes.{IsValue};
+ghost use Rattle.repository_draft.specs.Effect.{Effect};
+ghost use Rattle.repository_draft.specs.Effect.TheVariants as effect;
+ghost use Rattle.repository_draft.specs.Message.TheVariants as message;
+ghost use Rattle.repository_draft.specs.Messages.{IsMessage};
 ghost use Rattle.commit_record.specs.declared.states.RecordState.TheVariants as record_state;
 ghost use Rattle.commit_record.specs.States.{listed_at};
-ghost use Rattle.object_history.specs.History.{settle_of};
-ghost use Rattle.object_history.specs.Answers.{read_step, write_step, stands_written};
+ghost use Rattle.repository_draft.specs.History.{settle_of};
+ghost use Rattle.repository_draft.specs.Answers.{read_step, write_step, stands_written};
 ghost use Rattle.repository_log.specs.Logs.{is_commit, marks, record_of, HasSameRecords, IsUnknown};
 ghost use Rattle.repository_core.specs.Hands.{now, note, send, HasSameLog};
 ghost use Rattle.repository_core.specs.Rows as rows;
@@ -18,15 +18,12 @@ ghost use Rattle.repository_log.specs.Expiries.{expiries};
 ghost use Rattle.repository_core.specs.Hearing as hearing;
 
 use crate::books::Books;
-use crate::drafts::Draft;
 use commit_record::{BeginStep, RecordState};
-use message_form::Message;
-use object_history::{Histories, HistoryFault};
 use pseudo_time::{Decision, NodeId, NodeKind, PseudoTime, Stamp};
+use repository_draft::{Draft, Histories, HistoryFault, Message, ObjectId, Value};
 use repository_log::is_commit;
 use std::alloc::Global;
 use std::snapshot::Snapshot;
-use value_form::{ObjectId, Value};
 
 /// A repository at work in a call: the turn in hand, and what it looks up.
 #[derive(Drop)]

@@ -36,8 +36,8 @@ pub use Rattle.repository_core.specs.Rows.{accepts, ask_as, ask_for, begin_as, c
 unfoldable pub use Rattle.repository_core.specs.Rows.{on_ask, on_begin, on_close, on_learn, on_message, on_read, on_write, release, tell_askers}
 pub use Rattle.repository_core.specs.Turns.{Input, hand_at, hand_turn}
 pub use Rattle.repository_core.specs.Turns.Input.{Hearing, Learning, Taking}
-pub use Rattle.repository_core.specs.declared.waits.Asker.{Asker}
-pub use Rattle.repository_core.specs.declared.waits.HeldRead.{HeldRead}
+pub use Rattle.repository_core.specs.Asker.{Asker}
+pub use Rattle.repository_core.specs.HeldRead.{HeldRead}
 pub use Rattle.repository_laws.specs.Facts.{FitsLog, HandHolds, HasCome, HeldHolds, IsBacked, IsDecidedAt, IsTidy, IsTimely, Once, PostHolds, ReadSent, RestsOn, WasClosed, WasReadLater, WriteSent}
 pub use Rattle.repository_laws.specs.Served.{GetsAnswer, IsAnswer, IsHeld, IsServed}
 pub use Rattle.repository_laws.specs.Waits.{AreOf, AreOpen, IsKeptOrTold, IsOf, KeepsReads, Waits, ask_of, tell_of}

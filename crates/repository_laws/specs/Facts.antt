@@ -23,7 +23,7 @@ use Rattle.object_history.specs.declared.steps.ReadStep.TheVariants as read
 use Rattle.object_history.specs.declared.steps.WriteStep.TheVariants as write
 use Rattle.object_history.specs.Answers.{read_step, write_step}
 use Rattle.object_history.specs.Views.{Starts, Viewed, Fits, IsOnFloor}
-use Rattle.repository_core.specs.declared.waits.HeldRead.{HeldRead}
+use Rattle.repository_core.specs.HeldRead.{HeldRead}
 use Rattle.repository_core.specs.Logs.{is_commit, marks, known, record_of}
 use Rattle.repository_core.specs.Hands.{Hand, now}
 use Rattle.pseudo_time.specs.Nodes.{repository, broker}

@@ -14,8 +14,8 @@ use Rattle.effect_form.specs.declared.effects.Effect.TheVariants as effect
 use Rattle.message_form.specs.declared.messages.Message.TheVariants as message
 use Rattle.message_form.specs.declared.turns.Out.{Out}
 use Rattle.repository_log.specs.Logs.{known}
-use Rattle.repository_core.specs.declared.waits.Asker.{Asker}
-use Rattle.repository_core.specs.declared.waits.HeldRead.{HeldRead}
+use Rattle.repository_core.specs.Asker.{Asker}
+use Rattle.repository_core.specs.HeldRead.{HeldRead}
 use Rattle.repository_core.specs.Hands.{Hand, now}
 use Rattle.repository_core.specs.Rows.{waits_for}
 use Rattle.repository_core.specs.Turns.{Input}

@@ -12,7 +12,7 @@ ghost use Rattle.message_form.specs.Posts.{Post, WasSent};
 ghost use Rattle.message_form.specs.Growth.{Grew};
 ghost use Rattle.object_history.specs.History.{floor_of};
 ghost use Rattle.object_history.specs.Views.{Distinct};
-ghost use Rattle.repository_core.specs.declared.waits.HeldRead.{HeldRead};
+ghost use Rattle.repository_core.specs.HeldRead.{HeldRead};
 ghost use Rattle.repository_core.specs.Logs.{marks};
 ghost use Rattle.repository_core.specs.Hands.{Hand, Mind};
 ghost use Rattle.pseudo_time.specs.Nodes.{repository};

@@ -8,7 +8,7 @@ ghost use Rattle.pseudo_time.specs.declared.nodes.NodeId.{NodeId};
 ghost use Rattle.value_form.specs.declared.objects.ObjectId.{ObjectId};
 ghost use Rattle.message_form.specs.declared.messages.Message.TheVariants as message;
 ghost use Rattle.repository_log.specs.Logs.{known, record_of};
-ghost use Rattle.repository_core.specs.declared.waits.Asker.{Asker};
+ghost use Rattle.repository_core.specs.Asker.{Asker};
 ghost use Rattle.repository_core.specs.Hands.{Hand, now};
 ghost use Rattle.repository_core.specs.Rows.{on_learn, on_message};
 ghost use Rattle.repository_core.specs.Turns.{Input, hand_turn};

@@ -5,7 +5,7 @@ use Rattle.pseudo_time.specs.declared.decisions.Decision.{Decision}
 use Rattle.pseudo_time.proofs.ListLemmas.{every-append, every-map, has-right}
 use Rattle.effect_form.specs.declared.effects.Effect.{Effect}
 use Rattle.effect_form.specs.declared.effects.Effect.TheVariants as effect
-use Rattle.repository_core.specs.Logs.{is_commit}
+use Rattle.world_core.specs.Nodes.{is_commit}
 use Rattle.wire_lock.proofs.SightLemmas.{up-known, life-own}
 
 -- ---- no two decisions have the same number

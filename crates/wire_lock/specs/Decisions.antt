@@ -6,7 +6,7 @@ use Rattle.pseudo_time.specs.declared.nodes.NodeId.{NodeId}
 use Rattle.pseudo_time.specs.Nodes.{repository, same_node}
 use Rattle.effect_form.specs.declared.effects.Effect.{Effect}
 use Rattle.effect_form.specs.declared.effects.Effect.TheVariants as effect
-use Rattle.repository_core.specs.Logs.{is_commit}
+use Rattle.world_core.specs.Nodes.{is_commit}
 use Rattle.wire_core.specs.Boards.{place_of, number_of}
 
 -- a stamp with whether it is committed

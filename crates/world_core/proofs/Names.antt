@@ -25,7 +25,7 @@ pub use Rattle.repository_core.specs.Hands.{Hand, asker_cmp, note, now, send}
 pub use Rattle.repository_core.specs.Logs.{is_commit, known, marks, record_of}
 pub use Rattle.repository_core.specs.Rows.{accepts, ask_as, ask_for, begin_as, close_as, hold, is_broker_of, learn_as, read_as, read_known, reread, row, tells, unhold, waits_for, write_as}
 unfoldable pub use Rattle.repository_core.specs.Rows.{on_ask, on_begin, on_close, on_learn, on_message, on_read, on_write, release, tell_askers}
-pub use Rattle.repository_core.specs.declared.waits.HeldRead.{HeldRead}
+pub use Rattle.repository_core.specs.HeldRead.{HeldRead}
 pub use Rattle.serial_model.specs.Questions.{Tree}
 pub use Rattle.std.proofs.Common.{Bool, Err, List, None, Ok, Option, Result, Some, [], ap, append_assoc, arith, cond, false, if◌then◌else◌, is_some, length, map, nat_le, not, refl, slice_get, subst, suc, sym, take, true, zero, ℕ, ◌&&◌, ◌++◌, ◌+◌, ◌==◌, ◌||◌, ◌∙◌, ◌∷◌, ◌≡◌, ◌≢◌, ◌≤◌}
 pub use Rattle.std.proofs.lemmas.Bool.{eqb-true, true≢false}

@@ -16,7 +16,7 @@ use Rattle.object_history.specs.declared.steps.WriteStep.TheVariants as write
 use Rattle.object_history.specs.declared.marks.Mark.{Mark}
 use Rattle.repository_log.proofs.MarkLemmas.{floor-other}
 use Rattle.repository_core.proofs.HeldLemmas.{every-filter, every-remove, every-put}
-use Rattle.repository_core.specs.declared.waits.Asker.{Asker}
+use Rattle.repository_core.specs.Asker.{Asker}
 use Rattle.pseudo_time.specs.Nodes.{repository}
 use Rattle.repository_core.specs.Hearing.{expire_as, expire, expire_all, waited, asks, ask_again, on_moment}
 use Rattle.repository_log.specs.Expiries.{due}

@@ -1,5 +1,5 @@
 use Rattle.repository_core.proofs.Names.{[], ◌∷◌, ap, ◌∙◌, Settle, settled, is_commit, agree-decide}
-use Rattle.effect_form.specs.declared.effects.Effect.TheVariants as effect
+use Rattle.repository_draft.specs.Effect.TheVariants as effect
 use Rattle.repository_core.proofs.BookLemmas.{agree-same}
 use Rattle.repository_core.proofs.books.Books.decide.Goals as goal
 

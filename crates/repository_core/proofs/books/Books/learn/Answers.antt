@@ -1,5 +1,5 @@
 use Rattle.repository_core.proofs.Names.{[], ◌∷◌, ap, ◌∙◌, Settle, settled, as_decision, agree-learn}
-use Rattle.effect_form.specs.declared.effects.Effect.TheVariants as effect
+use Rattle.repository_draft.specs.Effect.TheVariants as effect
 use Rattle.repository_core.proofs.BookLemmas.{agree-same}
 use Rattle.repository_core.proofs.books.Books.learn.Goals as goal
 

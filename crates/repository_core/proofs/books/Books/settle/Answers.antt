@@ -1,4 +1,4 @@
-use Rattle.object_history.specs.declared.marks.Mark.TheVariants.{Settle}
+use Rattle.repository_draft.specs.Mark.TheVariants.{Settle}
 use Rattle.repository_core.proofs.BookLemmas.{since_settle}
 use Rattle.repository_core.proofs.books.Books.settle.Goals as goal
 

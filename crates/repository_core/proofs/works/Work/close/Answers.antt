@@ -1,5 +1,5 @@
 use Rattle.repository_core.proofs.Names.{List, [], subst, sym, ap, ◌∙◌, Effect, AgreeBut, Hand, now, send, is_commit, release, tell_askers}
-use Rattle.message_form.specs.declared.messages.Message.TheVariants as message
+use Rattle.repository_draft.specs.Message.TheVariants as message
 use Rattle.repository_core.proofs.RowLemmas.{tell-now, tell-log}
 use Rattle.repository_core.proofs.works.Work.close.Goals as goal
 

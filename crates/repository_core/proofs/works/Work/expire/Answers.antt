@@ -1,5 +1,5 @@
 use Rattle.repository_core.proofs.Names.{◌≡◌, ◌∷◌, false, List, subst, sym, ap, ◌∙◌, None, StampParts, Decision, Effect, listed_at, AgreeBut, Hand, now, note, record_of, IsUnknown, release}
-use Rattle.effect_form.specs.declared.effects.Effect.TheVariants as effect
+use Rattle.repository_draft.specs.Effect.TheVariants as effect
 use Rattle.repository_core.proofs.RowLemmas.{tell-now, tell-log}
 use Rattle.repository_core.proofs.works.Work.expire.Goals as goal
 

@@ -1,5 +1,5 @@
 use Rattle.repository_core.proofs.Names.{◌≡◌, [], subst, sym, OnOk, row}
-use Rattle.message_form.specs.declared.messages.Message.{Message}
+use Rattle.repository_draft.specs.Message.{Message}
 use Rattle.repository_core.proofs.works.Work.on_row.Goals as goal
 
 pub returns-in-Read-clause-gives : goal.returns-in-Read-clause-gives

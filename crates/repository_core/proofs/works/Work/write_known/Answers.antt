@@ -1,5 +1,5 @@
 use Rattle.repository_core.proofs.Names.{List, [], subst, sym, ap, ◌∙◌, Effect, AgreeBut, Hand, now, HasSameLog}
-use Rattle.object_history.specs.declared.steps.WriteStep.TheVariants.{Again}
+use Rattle.repository_draft.specs.WriteStep.TheVariants.{Again}
 use Rattle.repository_core.proofs.RowLemmas.{now-known, log-known}
 use Rattle.repository_core.proofs.works.Work.write_known.Goals as goal
 

@@ -1,6 +1,0 @@
-use Rattle.repository_core.proofs.Names.{◌≡◌, [], waited}
-use Rattle.repository_core.proofs.drafts.Draft.waited.Given as goal
-
--- those that are left are added to those so far
-abbrev pub invariant-loop-held : goal.invariant-loop-held
-invariant-loop-held l = waited l.self.number l.held-iterator l.waited.keys ≡ waited l.self.number l.initial.held-iterator []
