@@ -1,5 +1,19 @@
 -- What entries leave of nodes and messages.
-use Rattle.world_core.proofs.Names.{Has, StampParts, NodeId, has-left, Effect, Post, Entry, Take, Go, Learn, Hear, Gate, Crash, Down, Tick, repository, Going, Taking, Learning, Hearing, Base, Life, Sending, World, numbered, sent_by, names, own, after_input, took, hears, lives_on, leaving, step, start_world, walk_from, walk, ◌≡◌, ℕ, Bool, true, false, ◌&&◌, List, [], ◌∷◌, ◌++◌, map, take, cond, if◌then◌else◌, refl, sym, ap, subst, ◌∙◌, Option, Some, None, append_assoc, append-nil, map-append, filter-append, IsDecidedAs}
+use Rattle.effect_form.specs.declared.effects.Effect.{Effect}
+use Rattle.message_form.specs.Posts.{Post}
+use Rattle.pseudo_time.proofs.ListLemmas.{has-left}
+use Rattle.pseudo_time.specs.Lists.{Has}
+use Rattle.pseudo_time.specs.StampParts.{StampParts}
+use Rattle.pseudo_time.specs.declared.nodes.NodeId.{NodeId}
+use Rattle.std.proofs.Common.{◌≡◌, ℕ, Bool, true, false, ◌&&◌, List, [], ◌∷◌, ◌++◌, map, take, cond, if◌then◌else◌, refl, sym, ap, subst, ◌∙◌, Option, Some, None, append_assoc}
+use Rattle.std.proofs.lemmas.List.{append-nil, map-append}
+use Rattle.std.proofs.lemmas.List.Elements.{filter-append}
+use Rattle.world_core.specs.Legal.{IsDecidedAs}
+use Rattle.world_core.specs.Nodes.{repository}
+use Rattle.world_core.specs.Nodes.Input.{Going, Taking, Learning, Hearing}
+use Rattle.world_core.specs.Walks.{Base, Life, Sending, World, numbered, sent_by, names, own, after_input, took, hears, lives_on, leaving, step, start_world, walk_from, walk}
+use Rattle.world_core.specs.declared.entries.Entry.{Entry}
+use Rattle.world_core.specs.declared.entries.Entry.TheVariants.{Take, Go, Learn, Hear, Gate, Crash, Down, Tick}
 use Rattle.effect_form.specs.declared.effects.Effect.TheVariants as effect
 
 module _ (b : Base) where
