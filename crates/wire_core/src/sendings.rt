@@ -1,4 +1,4 @@
-ghost use Rattle.std.specs.Prelude.{◌≡◌, ◌++◌, ◌∷◌, [], ◌+◌, ◌<◌, ◌^◌, List, map, length, IfOk};
+ghost use Rattle.std.specs.Prelude.{◌≡◌, ◌++◌, ◌∷◌, [], ◌+◌, List, map, IfOk, IfSome};
 ghost use Rattle.message_form.specs.Messages.{IsMessage};
 ghost use Rattle.message_form.specs.Posts.{posts};
 ghost use Rattle.message_form.specs.Ranges.{AreOuts};
@@ -46,8 +46,18 @@ fn send(
     })
 }
 
+// The number of the message behind so many. None where numbers end.
+fn number_behind(first: u32, count: usize) -> Option<u32>
+    ensures { IfSome result (λ n. n ≡ first + count) }
+{
+    match u32::try_from(count) {
+        Ok(count) => first.checked_add(count),
+        Err(_) => None,
+    }
+}
+
 /// Asks for the fate of each message, in order, and puts it on its way. The messages are numbered
-/// from `first`.
+/// from `first`, and an error is answered too where numbers end.
 pub fn send_all<F: Fates>(
     alloc: Global,
     fates: &mut F,
@@ -56,7 +66,6 @@ pub fn send_all<F: Fates>(
     from: NodeId,
     outs: Vec<Out>,
 ) -> Result<Vec<Sent>, AllocError>
-    requires numbers { first + length outs.items < 2 ^ 32 }
     requires outs { AreOuts outs.items }
     ensures asked { IfOk result (λ news. F.asked fates.new ≡ F.asked fates.old ++ map asked_of news.items) }
     ensures posted { IfOk result (λ news. map post_of news.items ≡ posts from outs.items) }
@@ -66,12 +75,13 @@ pub fn send_all<F: Fates>(
         IsTied (state_of flight.new) w (sent ++ news.items) (marks ++ all_marked w.ticks news.items)) }
 {
     let mut news = Vec::new(alloc);
-    let mut number = first;
     for out in outs {
+        let Some(number) = number_behind(first, news.len()) else {
+            return Err(AllocError);
+        };
         let fate = fates.fate(number, out.message.tag())?;
         let sent = send(flight, number, from, out, fate)?;
         news.push(sent)?;
-        number += 1;
     }
     Ok(news)
 }
