@@ -50,21 +50,19 @@ fn leaves<K: StoredCore<M>, M: Medium>(node: NodeId, core: &K, out: &Out) -> boo
 
 // Adds a message, where it leaves.
 fn add_leaving<K: StoredCore<M>, M: Medium>(
-    alloc: Global,
     node: NodeId,
     core: &K,
-    out: &Out,
+    out: Out,
     all: &mut Vec<Out>,
 ) -> Result<(), AllocError>
     requires able { (K.parts core.now).able ≡ true }
     requires node { (K.parts core.now).node ≡ node }
     ensures leaving { IsTrue M.tells → (b : Base) (l : Life) → K.lives b core.now l →
-        (is_broker node.kind ≡ true → AsksNobody out.now.message) →
-        OnOk result (all.new.items ≡ all.old.items ++ filter (leaves (all_effects l)) (out.now ∷ [])) }
-    ensures in_range { IsMessage out.now.message → AreOuts all.old.items → OnOk result (AreOuts all.new.items) }
+        (is_broker node.kind ≡ true → AsksNobody out.message) →
+        OnOk result (all.new.items ≡ all.old.items ++ filter (leaves (all_effects l)) (out ∷ [])) }
+    ensures in_range { IsMessage out.message → AreOuts all.old.items → OnOk result (AreOuts all.new.items) }
 {
-    if leaves(node, core, out) {
-        let out = out.copy(alloc)?;
+    if leaves(node, core, &out) {
         all.push(out)?;
     }
     Ok(())
@@ -75,19 +73,19 @@ fn leaving<K: StoredCore<M>, M: Medium>(
     alloc: Global,
     node: NodeId,
     core: &K,
-    outs: &[Out],
+    outs: Vec<Out>,
 ) -> Result<Vec<Out>, AllocError>
     requires able { (K.parts core.now).able ≡ true }
     requires node { (K.parts core.now).node ≡ node }
-    requires in_range { AreOuts outs.now }
+    requires in_range { AreOuts outs.items }
     ensures leaving { IsTrue M.tells → (b : Base) (l : Life) → K.lives b core.now l →
-        (is_broker node.kind ≡ true → AskNobody outs.now) →
-        IfOk result (λ all. all.items ≡ filter (leaves (all_effects l)) outs.now) }
+        (is_broker node.kind ≡ true → AskNobody outs.items) →
+        IfOk result (λ all. all.items ≡ filter (leaves (all_effects l)) outs.items) }
     ensures in_range { IfOk result (λ all. AreOuts all.items) }
 {
     let mut all = Vec::new(alloc);
     for out in outs {
-        add_leaving(alloc, node, core, out, &mut all)?;
+        add_leaving(node, core, out, &mut all)?;
     }
     Ok(all)
 }
@@ -131,16 +129,16 @@ pub fn close<K: StoredCore<M>, F: Fates, C: Clock, M: Medium, R: Wait>(
     node: NodeId,
     gone: bool,
     core: K,
-    draft: &TurnDraft,
+    draft: TurnDraft,
     pass: WirePass<F, C, M>,
 ) -> (WirePass<F, C, M>, K, Result<usize, StoreFault>)
     requires pass { IsWirePass wire.now.lock pass }
-    requires up { IsUp M.Medium K.Meanings core (knows pass) node gone true draft.now }
+    requires up { IsUp M.Medium K.Meanings core (knows pass) node gone true draft }
     ensures pass { IsWirePass wire.now.lock result.0 }
     ensures up { IfOk result.2 (λ durable. IsUp M.Medium K.Meanings result.1 (knows result.0) node gone false
         (no_draft durable)) }
     ensures err { IfErr result.2 (λ f. IsAfterAppend M.Medium K.Meanings f result.1
-        (knows result.0) node draft.now.durable) }
+        (knows result.0) node draft.durable) }
     ensures sent { OnOk result.2 (Trail node (knows pass) (knows result.0)
         (owed (world_at (knows pass)) node) [] [] 0) }
     ensures unsent { OnErr result.2 (Trail node (knows pass) (knows result.0) [] [] [] 0) }
@@ -154,20 +152,22 @@ pub fn close<K: StoredCore<M>, F: Fates, C: Clock, M: Medium, R: Wait>(
     ensures passes { IsTrue M.tells → PassesOn node (knows pass) (knows result.0)
         (M.stages (K.parts core).medium) (M.stages (K.parts result.1).medium) }
 {
-    let Ok(outs) = leaving(alloc, node, &core, draft.outs()) else {
+    let before = draft.durable();
+    let (effects, outs) = draft.into_parts();
+    let Ok(outs) = leaving(alloc, node, &core, outs) else {
         return (pass, core, Err(StoreFault::NoMemory));
     };
-    let Ok(decides) = decisions(alloc, node, draft.effects()) else {
+    let Ok(decides) = decisions(alloc, node, effects.as_slice()) else {
         return (pass, core, Err(StoreFault::NoMemory));
     };
-    let Some(durable) = draft.durable().checked_add(draft.effects().len()) else {
+    let Some(durable) = before.checked_add(effects.len()) else {
         return (pass, core, Err(StoreFault::NoMemory));
     };
-    let (core, appended) = core.append(draft.effects());
+    let (core, appended) = core.append(effects.as_slice());
     match appended {
         Err(fault) => (pass, core, Err(fault)),
         Ok(()) => {
-            let (pass, gated) = wire.gate(rt, node, pass, outs.as_slice(), decides.as_slice());
+            let (pass, gated) = wire.gate(rt, node, pass, outs, decides.as_slice());
             match gated {
                 Err(_) => (pass, core, Err(StoreFault::NoMemory)),
                 Ok(()) => (pass, core, Ok(durable)),

@@ -72,4 +72,17 @@ impl TurnDraft {
     {
         self.outs.as_slice()
     }
+
+    /// The effects that aren't durable yet, and the messages that wait for the gate.
+    pub fn into_parts(self) -> (Vec<Effect>, Vec<Out>)
+        ensures effects { result.0.items ≡ self.effects }
+        ensures outs { result.1.items ≡ self.outs }
+    {
+        let TurnDraft {
+            durable: _,
+            effects,
+            outs,
+        } = self;
+        (effects, outs)
+    }
 }

@@ -92,11 +92,11 @@ fn end<K: StoredCore<M>, F: Fates, C: Clock, M: Medium, R: Wait>(
     node: NodeId,
     gone: bool,
     core: K,
-    draft: &TurnDraft,
+    draft: TurnDraft,
     pass: WirePass<F, C, M>,
 ) -> (WirePass<F, C, M>, Hand<K>)
     requires pass { IsWirePass wire.now.lock pass }
-    requires up { IsUp M.Medium K.Meanings core (knows pass) node gone true draft.now }
+    requires up { IsUp M.Medium K.Meanings core (knows pass) node gone true draft }
     ensures pass { IsWirePass wire.now.lock result.0 }
     ensures keeps { Keeps M.Medium K.Meanings result.1.condition result.1.core
         (knows result.0) node result.1.gone result.1.durable }
@@ -189,7 +189,7 @@ fn finish<K: StoredCore<M>, F: Fates, C: Clock, M: Medium, R: Wait>(
     if let Err(fault) = sought {
         return give_up(alloc, rt, wire, node, durable, fault, core, pass);
     }
-    end(alloc, rt, wire, node, gone, core, &draft, pass)
+    end(alloc, rt, wire, node, gone, core, draft, pass)
 }
 
 // Whether a node that was at work for a visit has gone, if it is a broker.

@@ -47,6 +47,7 @@ fn decides_of(alloc: Global, pair: Pair) -> Result<Vec<(Stamp, bool)>, AllocErro
 // The broker goes, and its gate posts these.
 fn posts(
     rt: &impl Wait,
+    alloc: Global,
     wire: &TestShared,
     pass: TestPass,
     decides: &[(Stamp, bool)],
@@ -55,7 +56,7 @@ fn posts(
     ensures { IfOk result (IsAt wire.now.lock (broker 1) true false) }
 {
     let pass = goes(rt, wire, pass)?;
-    sends(rt, wire, BROKER, pass, &[], decides)
+    sends(rt, wire, BROKER, pass, Vec::new(alloc), decides)
 }
 
 // What the board tells of these stamps.
@@ -87,7 +88,7 @@ fn tells(rt: &impl Wait, alloc: Global, posted: Pair, told: Pair) -> Result<bool
         conductor,
     } = start(alloc)?;
     let before = wire.decided(&mut home, first);
-    let mut pass = posts(rt, &wire, broker, decides.as_slice())?;
+    let mut pass = posts(rt, alloc, &wire, broker, decides.as_slice())?;
     let here = told_of(&wire, &mut pass, first, later);
     let there = told_of(&wire, &mut home, first, later);
     let closed = end(alloc, wire, home, pass, conductor)?;

@@ -116,7 +116,7 @@ fn answers(
     let pass = awaits(rt, wire, pass)?;
     let message = begun()?;
     let outs = out_of(alloc, BROKER, message)?;
-    sends(rt, wire, HOME, pass, outs.as_slice(), &[(attempt()?, true)])
+    sends(rt, wire, HOME, pass, outs, &[(attempt()?, true)])
 }
 
 // Tests until the decision stands on the board.
@@ -147,7 +147,7 @@ fn asks(
     let pass = goes(rt, wire, pass)?;
     let message = begin()?;
     let outs = out_of(alloc, HOME, message)?;
-    let pass = sends(rt, wire, BROKER, pass, outs.as_slice(), &[])?;
+    let pass = sends(rt, wire, BROKER, pass, outs, &[])?;
     let pass = tests(rt, wire, pass, attempt()?);
     // The decision was posted after the repository's gate: the answer is due by now.
     let (pass, taken) = takes(rt, wire, BROKER, pass)?;
@@ -157,7 +157,7 @@ fn asks(
     if arrival.message != begun()? {
         return Err(AllocError);
     }
-    sends(rt, wire, BROKER, pass, &[], &[])
+    sends(rt, wire, BROKER, pass, Vec::new(alloc), &[])
 }
 
 /// What happens, however the threads take turns.

@@ -142,11 +142,11 @@ pub fn sends(
     wire: &TestShared,
     node: NodeId,
     pass: TestPass,
-    outs: &[Out],
+    outs: Vec<Out>,
     decides: &[(Stamp, bool)],
 ) -> Result<TestPass, AllocError>
     requires at { IsAt wire.now.lock node (is_broker node.kind) true pass }
-    requires outs { AreOuts outs.now }
+    requires outs { AreOuts outs.items }
     ensures { IfOk result (IsAt wire.now.lock node (is_broker node.kind) false) }
 {
     let (pass, gated) = wire.gate(rt, node, pass, outs, decides);

@@ -128,9 +128,9 @@ impl<F: Fates, C: Clock> Courier<F, C> {
 
     /// The node's new effects are durable. Sends the messages, in order, and asks the fates once for
     /// each.
-    pub fn gate(&mut self, node: NodeId, outs: &[Out]) -> Result<(), AllocError>
-        requires { AreOuts outs.now }
-        ensures { OnOk result (HasSent node outs.now self.old self.new) }
+    pub fn gate(&mut self, node: NodeId, outs: Vec<Out>) -> Result<(), AllocError>
+        requires { AreOuts outs.items }
+        ensures { OnOk result (HasSent node outs.items self.old self.new) }
     {
         if self.sent.len() + outs.len() >= u32::MAX as usize {
             return Err(AllocError);

@@ -18,7 +18,7 @@ pub fn poll_goes<F: Fates, C: Clock>(
 {
     courier.go(node)?;
     let turn = poll.go()?;
-    courier.gate(node, turn.outs.as_slice())
+    courier.gate(node, turn.outs.into_vec())
 }
 
 // The poll hears the last tick.
@@ -32,7 +32,7 @@ fn poll_hears<F: Fates, C: Clock>(
 {
     courier.hear(node)?;
     let turn = poll.hear(moment)?;
-    courier.gate(node, turn.outs.as_slice())
+    courier.gate(node, turn.outs.into_vec())
 }
 
 // The poll takes a copy, if one is due.
@@ -47,7 +47,7 @@ fn poll_takes<F: Fates, C: Clock>(
         return Ok(());
     };
     let turn = poll.take(arrival.from, &arrival.message)?;
-    courier.gate(node, turn.outs.as_slice())
+    courier.gate(node, turn.outs.into_vec())
 }
 
 /// The poll's turn. Behind the last tick, whose moment this is, it hears; else it takes a copy.

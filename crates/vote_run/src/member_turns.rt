@@ -74,10 +74,10 @@ fn gate<F: Fates, C: Clock, M: Medium>(
     member: Member,
     store: Store<M>,
     count: Option<usize>,
-    outs: &[Out],
+    outs: Vec<Out>,
 ) -> Seat<M>
-    requires outs { AreOuts outs.now }
-    ensures { Sends M.Medium node outs.now courier.old courier.new member store count result }
+    requires outs { AreOuts outs.items }
+    ensures { Sends M.Medium node outs.items courier.old courier.new member store count result }
 {
     let Some(count) = count else {
         return Seat::Wanting(store.release());
@@ -98,14 +98,14 @@ pub fn end<F: Fates, C: Clock, M: Medium>(
     member: Member,
     store: Store<M>,
     effects: &[Effect],
-    outs: &[Out],
+    outs: Vec<Out>,
 ) -> Seat<M>
     requires number { member.number ≡ number }
     requires sound { M.is_failed (medium_of store) ≡ false }
     requires effects { AreEffects effects.now }
-    requires outs { AreOuts outs.now }
+    requires outs { AreOuts outs.items }
     ensures { EndsAs M.Medium (repository number) durable courier.old courier.new store effects.now
-        outs.now member result }
+        outs.items member result }
 {
     let node = NodeId::repository(number);
     let behind = courier.has_ticked();
@@ -150,16 +150,19 @@ fn act<F: Fates, C: Clock, M: Medium>(
     match begin(courier, node, &mut member, behind, moment) {
         Err(_) => Seat::Wanting(store.release()),
         Ok(None) => Seat::Up(member, store, durable, behind),
-        Ok(Some(turn)) => end(
-            alloc,
-            courier,
-            number,
-            durable,
-            member,
-            store,
-            turn.effects.as_slice(),
-            turn.outs.as_slice(),
-        ),
+        Ok(Some(turn)) => {
+            let Turn { effects, outs } = turn;
+            end(
+                alloc,
+                courier,
+                number,
+                durable,
+                member,
+                store,
+                effects.as_slice(),
+                outs.into_vec(),
+            )
+        }
     }
 }
 

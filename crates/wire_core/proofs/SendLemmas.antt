@@ -1,16 +1,14 @@
 -- Messages of a gate, one after another.
-use Rattle.wire_core.proofs.Names.{NodeId, Asked, Out, post, posts, State, Sent, World, Numbered, post_of, asked_of, Marked, IsTied, all_marked, ◌≡◌, ℕ, suc, ◌+◌, ◌<◌, List, [], ◌∷◌, ◌++◌, map, length, take, slice_index_or, sym, ap, subst, ◌∙◌, append_assoc, add-zero, arith, map-append, take_more}
+use Rattle.wire_core.proofs.Names.{NodeId, Asked, Out, post, posts, State, Sent, World, Numbered, post_of, asked_of, Marked, IsTied, all_marked, ◌≡◌, ℕ, suc, ◌+◌, List, [], ◌∷◌, ◌++◌, map, length, sym, ap, subst, ◌∙◌, append_assoc, add-zero, arith, map-append}
 
 pub asked-more : (l0 l1 l2 : List Asked) (all now : List Sent) (s : Sent) → l1 ≡ l0 ++ map asked_of all → l2 ≡ l1 ++ asked_of s ∷ [] → now ≡ all ++ s ∷ [] → l2 ≡ l0 ++ map asked_of now
 asked-more l0 l1 l2 all now s e1 e2 e3 =
     e2 ∙ (ap (λ (l : List Asked). l ++ asked_of s ∷ []) e1 ∙ (append_assoc l0 (map asked_of all) (asked_of s ∷ [])
     ∙ (ap (λ (l : List Asked). l0 ++ l) (sym (map-append asked_of all (s ∷ []))) ∙ ap (λ (ss : List Sent). l0 ++ map asked_of ss) (sym e3))))
 
-pub posted-more : (n : NodeId) (outs : List Out) (i : ℕ) (d : Out) (all now : List Sent) (s : Sent) → i < length outs → map post_of all ≡ posts n (take i outs) → now ≡ all ++ s ∷ [] → post_of s ≡ post n (slice_index_or outs i d)
-    → map post_of now ≡ posts n (take (i + 1) outs)
-posted-more n outs i d all now s within e1 e2 e3 =
-    ap (map post_of) e2 ∙ map-append post_of all (s ∷ []) ∙ ap (λ l. l ++ post_of s ∷ []) e1 ∙ ap (λ p. posts n (take i outs) ++ p ∷ []) e3
-    ∙ sym (map-append (post n) (take i outs) (slice_index_or outs i d ∷ [])) ∙ ap (posts n) (sym (take_more outs i d within))
+pub posted-more : (n : NodeId) (outs : List Out) (out : Out) (all now : List Sent) (s : Sent) → map post_of all ≡ posts n outs → now ≡ all ++ s ∷ [] → post_of s ≡ post n out → map post_of now ≡ posts n (outs ++ out ∷ [])
+posted-more n outs out all now s e1 e2 e3 =
+    ap (map post_of) e2 ∙ map-append post_of all (s ∷ []) ∙ ap (λ l. l ++ post_of s ∷ []) e1 ∙ ap (λ p. posts n outs ++ p ∷ []) e3 ∙ sym (map-append (post n) outs (out ∷ []))
 
 numbered-last : (k : ℕ) (xs : List Sent) (s : Sent) → Numbered k xs → s.number ≡ k + length xs → Numbered k (xs ++ s ∷ [])
 numbered-last k [] s all is = (is ∙ add-zero k, tt)

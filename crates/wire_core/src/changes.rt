@@ -142,12 +142,12 @@ impl<F: Fates, C: Clock, M: Medium> Wire<F, C, M> {
 
     /// The node's new effects are durable. Sends the messages, in order, and asks the fates once for
     /// each.
-    pub fn gate(&mut self, node: NodeId, outs: &[Out]) -> Result<(), AllocError>
+    pub fn gate(&mut self, node: NodeId, outs: Vec<Out>) -> Result<(), AllocError>
         requires up { ((world_of self.old).flags node).up ≡ true }
         requires due { ((world_of self.old).flags node).due ≡ true }
-        requires in_range { AreOuts outs.now }
-        requires owed { IsTrue M.tells → outs.now ≡ owed (world_of self.old) node }
-        ensures ok { OnOk result (HasGated self.old self.new node outs.now) }
+        requires in_range { AreOuts outs.items }
+        requires owed { IsTrue M.tells → outs.items ≡ owed (world_of self.old) node }
+        ensures ok { OnOk result (HasGated self.old self.new node outs.items) }
         ensures err { OnErr result (IsBroken self.old self.new) }
     {
         if self.broken {

@@ -1,4 +1,4 @@
-ghost use Rattle.std.specs.Prelude.{◌≡◌, ◌++◌, ◌∷◌, [], ◌+◌, ◌<◌, ◌^◌, List, map, length, IfOk};
+ghost use Rattle.std.specs.Prelude.{◌≡◌, ◌++◌, ◌∷◌, [], ◌+◌, List, map, IfOk, IfSome};
 ghost use Rattle.message_form.specs.Messages.{IsMessage};
 ghost use Rattle.message_form.specs.Posts.{posts};
 ghost use Rattle.message_form.specs.Ranges.{AreOuts};
@@ -17,62 +17,71 @@ use world_core::Sent;
 
 // Puts a message with its fate on its way.
 fn send(
-    alloc: Global,
     flight: &mut Flight,
     number: u32,
     from: NodeId,
-    out: &Out,
+    out: Out,
     fate: Fate,
 ) -> Result<Sent, AllocError>
-    requires { IsMessage out.now.message }
+    requires { IsMessage out.message }
     ensures sent { IfOk result (λ s. s ≡ record {
       number = number;
       from = from;
-      to = out.now.to;
-      message = out.now.message;
+      to = out.to;
+      message = out.message;
       fate = fate;
     }) }
     ensures tied { IfOk result (λ s. (w : World) (sent : List Sent) (marks : List Marked) →
         IsTied (state_of flight.old) w sent marks →
         IsTied (state_of flight.new) w (sent ++ s ∷ []) (marks ++ all_marked w.ticks (s ∷ []))) }
 {
-    let message = out.message.copy(alloc)?;
-    flight.send(from, out.to, &out.message, fate)?;
+    let Out { to, message } = out;
+    flight.send(from, to, &message, fate)?;
     Ok(Sent {
         number,
         from,
-        to: out.to,
+        to,
         message,
         fate,
     })
 }
 
+// The number of the message behind so many. None where numbers end.
+fn number_behind(first: u32, count: usize) -> Option<u32>
+    ensures { IfSome result (λ n. n ≡ first + count) }
+{
+    match u32::try_from(count) {
+        Ok(count) => first.checked_add(count),
+        Err(_) => None,
+    }
+}
+
 /// Asks for the fate of each message, in order, and puts it on its way. The messages are numbered
-/// from `first`.
+/// from `first`, and an error is answered too where numbers end.
 pub fn send_all<F: Fates>(
     alloc: Global,
     fates: &mut F,
     flight: &mut Flight,
     first: u32,
     from: NodeId,
-    outs: &[Out],
+    outs: Vec<Out>,
 ) -> Result<Vec<Sent>, AllocError>
-    requires numbers { first + length outs.now < 2 ^ 32 }
-    requires outs { AreOuts outs.now }
+    requires outs { AreOuts outs.items }
     ensures asked { IfOk result (λ news. F.asked fates.new ≡ F.asked fates.old ++ map asked_of news.items) }
-    ensures posted { IfOk result (λ news. map post_of news.items ≡ posts from outs.now) }
+    ensures posted { IfOk result (λ news. map post_of news.items ≡ posts from outs.items) }
     ensures numbered { IfOk result (λ news. Numbered first news.items) }
     ensures tied { IfOk result (λ news. (w : World) (sent : List Sent) (marks : List Marked) →
         IsTied (state_of flight.old) w sent marks →
         IsTied (state_of flight.new) w (sent ++ news.items) (marks ++ all_marked w.ticks news.items)) }
 {
     let mut news = Vec::new(alloc);
-    let mut number = first;
     for out in outs {
+        let Some(number) = number_behind(first, news.len()) else {
+            return Err(AllocError);
+        };
         let fate = fates.fate(number, out.message.tag())?;
-        let sent = send(alloc, flight, number, from, out, fate)?;
+        let sent = send(flight, number, from, out, fate)?;
         news.push(sent)?;
-        number += 1;
     }
     Ok(news)
 }

@@ -51,15 +51,15 @@ impl<F: Fates, C: Clock, M: Medium> SharedWire<F, C, M> {
         rt: &R,
         node: NodeId,
         pass: WirePass<F, C, M>,
-        outs: &[Out],
+        outs: Vec<Out>,
         decides: &[(Stamp, bool)],
     ) -> (WirePass<F, C, M>, Result<(), AllocError>)
         requires pass { IsWirePass self.now.lock pass }
         requires node { IsOf node (knows pass) }
         requires up { (flags_at (knows pass) node).up ≡ true }
         requires due { (flags_at (knows pass) node).due ≡ true }
-        requires in_range { AreOuts outs.now }
-        requires owed { IsTrue M.tells → outs.now ≡ owed (world_at (knows pass)) node }
+        requires in_range { AreOuts outs.items }
+        requires owed { IsTrue M.tells → outs.items ≡ owed (world_at (knows pass)) node }
         requires decides { IsTrue M.tells → decides.now ≡ decided_by node (life_at (knows pass) node).fresh }
         ensures pass { IsWirePass self.now.lock result.0 }
         ensures ok { OnOk result.1 (Gates M.tells node (knows pass) (knows result.0) decides.now) }
