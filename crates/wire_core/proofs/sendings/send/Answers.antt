@@ -1,4 +1,4 @@
-use Rattle.wire_core.proofs.Names.{State, sent, state_of, Sent, IsTied, all_marked, subst, sym, ◌∷◌, [], ◌++◌}
+use Rattle.wire_core.proofs.Names.{State, state_of, Sent, IsTied, all_marked, subst, sym, ◌∷◌, [], ◌++◌}
 use Rattle.wire_core.proofs.CopyLemmas.{tied-send}
 use Rattle.wire_core.proofs.sendings.send.Goals as goal
 

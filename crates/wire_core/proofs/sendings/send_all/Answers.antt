@@ -1,4 +1,4 @@
-use Rattle.wire_core.proofs.Names.{post, Asked, Sent, post_of, asked_of, ℕ, ◌++◌, ◌∷◌, [], sym, ap, ◌∙◌, arith}
+use Rattle.wire_core.proofs.Names.{Asked, Sent, post_of, asked_of, ℕ, ◌++◌, ◌∷◌, [], sym, ap, ◌∙◌, arith}
 use Rattle.wire_core.proofs.SendLemmas.{asked-more, posted-more, numbered-more, tied-more}
 use Rattle.wire_core.proofs.sendings.send_all.Goals as goal
 
