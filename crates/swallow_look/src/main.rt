@@ -5,8 +5,9 @@
 mod options;
 
 use crate::options::{command, look_of};
-use folder_look::page_of;
+use folder_look::{Choice, page_of};
 use folder_reader::media_of;
+use std::alloc::{AllocError, Global};
 use std::env;
 use std::io::{self, ErrorKind, Write};
 use std::process::ExitCode;
@@ -20,53 +21,62 @@ const NO_OUTPUT: u8 = 4;
 /// The status where memory runs out.
 const NO_MEMORY: u8 = 7;
 
-// Ends a look whose memory ran out.
-fn without_memory(rt: HostRuntime) -> ExitCode {
-    let _said = eprintln!(rt; "swallow_look: out of memory");
-    ExitCode::from(NO_MEMORY)
-}
-
-fn main(rt: HostRuntime) -> ExitCode {
-    let alloc = rt.alloc();
+// The words of the command line. A word that isn't UTF-8 is a faulty command line, as no word is.
+fn words_of(rt: &HostRuntime, alloc: Global) -> Result<Vec<String>, AllocError> {
     let mut words = Vec::new(alloc);
-    match env::args(&rt) {
+    match env::args(rt) {
         Ok(args) => {
             for word in args.skip(1) {
-                if words.push(word).is_err() {
-                    return without_memory(rt);
-                }
+                words.push(word)?;
             }
+            Ok(words)
         }
-        Err(error) if error.kind() == ErrorKind::OutOfMemory => return without_memory(rt),
-        // A word that isn't UTF-8 is a faulty command line, as no word is.
-        Err(_) => {}
+        Err(error) if error.kind() == ErrorKind::OutOfMemory => Err(AllocError),
+        Err(_) => Ok(words),
     }
-    let Ok(command) = command(alloc) else {
-        return without_memory(rt);
+}
+
+// Writes the page of a folder to standard output. Gives the status.
+fn show(rt: &HostRuntime, alloc: Global, folder: &str, choice: &Choice) -> Result<u8, AllocError> {
+    let Ok(media) = media_of(alloc, rt, folder) else {
+        return Err(AllocError);
     };
+    let page = page_of(alloc, choice, media.as_slice())?;
+    let mut out = io::writer(rt);
+    match out.write_all(page.as_slice()) {
+        Ok(()) => Ok(0),
+        Err(error) => {
+            let _said = eprintln!(rt; "swallow_look: {}", error);
+            Ok(NO_OUTPUT)
+        }
+    }
+}
+
+// Shows what the words ask for. Gives the status.
+fn look(rt: &HostRuntime, alloc: Global) -> Result<u8, AllocError> {
+    let words = words_of(rt, alloc)?;
+    let command = command(alloc)?;
     let matches = match command.try_get_matches_from(words.as_slice()) {
         Ok(matches) => matches,
         Err(error) => {
-            let _said = error.print(&rt);
-            return ExitCode::from(if error.use_stderr() { NO_COMMAND } else { 0 });
+            let _said = error.print(rt);
+            return Ok(if error.use_stderr() { NO_COMMAND } else { 0 });
         }
     };
     let Some((folder, choice)) = look_of(&matches) else {
         let _said = eprintln!(rt; "swallow_look: an object is REPOSITORY.NUMBER");
-        return ExitCode::from(NO_COMMAND);
+        return Ok(NO_COMMAND);
     };
-    let Ok(media) = media_of(alloc, &rt, folder) else {
-        return without_memory(rt);
-    };
-    let Ok(page) = page_of(alloc, &choice, media.as_slice()) else {
-        return without_memory(rt);
-    };
-    let mut out = io::writer(&rt);
-    match out.write_all(page.as_slice()) {
-        Ok(()) => ExitCode::from(0),
-        Err(error) => {
-            let _said = eprintln!(rt; "swallow_look: {}", error);
-            ExitCode::from(NO_OUTPUT)
+    show(rt, alloc, folder, &choice)
+}
+
+fn main(rt: HostRuntime) -> ExitCode {
+    let alloc = rt.alloc();
+    match look(&rt, alloc) {
+        Ok(status) => ExitCode::from(status),
+        Err(_) => {
+            let _said = eprintln!(rt; "swallow_look: out of memory");
+            ExitCode::from(NO_MEMORY)
         }
     }
 }

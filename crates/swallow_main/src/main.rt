@@ -6,9 +6,12 @@ mod progress;
 
 use medium_port::FileShelf;
 use progress::ToldFates;
+use std::alloc::{AllocError, Global};
 use std::fs::{self, File};
 use std::io::ErrorKind;
 use std::process::ExitCode;
+use std::sync::Wait;
+use std::thread::Threads;
 use std::{env, io};
 use stream_port::{MemoryFates, ReadSource, SecondsClock, WriteSink};
 use swallow_top::swallow;
@@ -43,14 +46,90 @@ fn is_look(words: &[String]) -> bool {
     }
 }
 
-// Ends a run that hasn't begun.
-fn without_memory(rt: HostRuntime) -> ExitCode {
-    let _said = eprintln!(rt; "swallow: out of memory, and nothing was run");
-    ExitCode::from(NO_MEMORY)
+// The folder that the command line names, and the words behind it. A word that isn't UTF-8 is a faulty
+// command line, as no word is.
+fn words_of(rt: &HostRuntime, alloc: Global) -> Result<(Option<String>, Vec<String>), AllocError> {
+    let mut words = Vec::new(alloc);
+    match env::args(rt) {
+        Ok(args) => {
+            let mut args = args.skip(1);
+            let folder = args.next();
+            for word in args {
+                words.push(word)?;
+            }
+            Ok((folder, words))
+        }
+        Err(error) if error.kind() == ErrorKind::OutOfMemory => Err(AllocError),
+        Err(_) => Ok((None, words)),
+    }
+}
+
+// The words as the top call takes them.
+fn shown_of(alloc: Global, words: &[String]) -> Result<Vec<&str>, AllocError> {
+    let mut shown = Vec::new(alloc);
+    for word in words {
+        shown.push(word.as_str())?;
+    }
+    Ok(shown)
+}
+
+// The top call over the files of a folder. Gives its status. `threads` is the runtime too: the one that
+// may make threads and wait.
+fn run<R: Threads + Wait + Sync>(
+    threads: &R,
+    rt: &HostRuntime,
+    alloc: Global,
+    folder: &str,
+    words: &[String],
+) -> Result<u8, AllocError> {
+    let shown = shown_of(alloc, words)?;
+    let made = if is_look(words) {
+        FileShelf::for_a_look(alloc, rt, rt.stderr(), folder)
+    } else {
+        FileShelf::new(alloc, rt, rt.stderr(), folder)
+    };
+    let Ok(mut shelf) = made else {
+        return Err(AllocError);
+    };
+    let mut source = ReadSource::new(rt.reader());
+    let mut sink = WriteSink::new(io::writer(rt));
+    let ended = swallow(
+        threads,
+        alloc,
+        shown.as_slice(),
+        &mut source,
+        &mut sink,
+        &mut shelf,
+        ToldFates::new(MemoryFates::new(alloc, Vec::new(alloc)), rt, rt.stderr()),
+        SecondsClock::new(rt),
+    );
+    Ok(ended.status)
+}
+
+// The program behind the standard streams. Gives its status.
+fn status_of<R: Threads + Wait + Sync>(threads: &R, rt: &HostRuntime) -> u8 {
+    let alloc = rt.alloc();
+    let Ok((folder, words)) = words_of(rt, alloc) else {
+        let _said = eprintln!(rt; "swallow: out of memory, and nothing was run");
+        return NO_MEMORY;
+    };
+    let folder = match &folder {
+        Some(folder) => folder.as_str(),
+        None => NO_FOLDER,
+    };
+    let Ok(status) = run(threads, rt, alloc, folder, words.as_slice()) else {
+        let _said = eprintln!(rt; "swallow: out of memory, and nothing was run");
+        return NO_MEMORY;
+    };
+    if status == NO_MEMORY {
+        let _said = eprintln!(rt;
+            "swallow: out of memory, so the report is missing; acts that were committed stand"
+        );
+    }
+    status
 }
 
 fn main(rt: HostRuntime) -> ExitCode {
-    let alloc = rt.alloc();
     let _streams = match hold_streams(&rt) {
         Ok(streams) => streams,
         Err(error) => {
@@ -58,57 +137,5 @@ fn main(rt: HostRuntime) -> ExitCode {
             return ExitCode::from(NO_OUTPUT);
         }
     };
-    let mut source = ReadSource::new(rt.reader());
-    let mut sink = WriteSink::new(io::writer(&rt));
-    let mut folder = None;
-    let mut words = Vec::new(alloc);
-    match env::args(&rt) {
-        Ok(args) => {
-            let mut args = args.skip(1);
-            folder = args.next();
-            for word in args {
-                if words.push(word).is_err() {
-                    return without_memory(rt);
-                }
-            }
-        }
-        Err(error) if error.kind() == ErrorKind::OutOfMemory => return without_memory(rt),
-        // A word that isn't UTF-8 is a faulty command line, as no word is.
-        Err(_) => {}
-    }
-    let mut shown = Vec::new(alloc);
-    for word in &words {
-        if shown.push(word.as_str()).is_err() {
-            return without_memory(rt);
-        }
-    }
-    let folder = match &folder {
-        Some(folder) => folder.as_str(),
-        None => NO_FOLDER,
-    };
-    let made = if is_look(words.as_slice()) {
-        FileShelf::for_a_look(alloc, &rt, rt.stderr(), folder)
-    } else {
-        FileShelf::new(alloc, &rt, rt.stderr(), folder)
-    };
-    let Ok(mut shelf) = made else {
-        return without_memory(rt);
-    };
-    let fates = ToldFates::new(MemoryFates::new(alloc, Vec::new(alloc)), &rt, rt.stderr());
-    let ended = swallow(
-        &rt,
-        alloc,
-        shown.as_slice(),
-        &mut source,
-        &mut sink,
-        &mut shelf,
-        fates,
-        SecondsClock::new(&rt),
-    );
-    if ended.status == NO_MEMORY {
-        let _said = eprintln!(rt;
-            "swallow: out of memory, so the report is missing; acts that were committed stand"
-        );
-    }
-    ExitCode::from(ended.status)
+    ExitCode::from(status_of(&rt, &rt))
 }

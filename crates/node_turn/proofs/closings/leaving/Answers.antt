@@ -1,4 +1,4 @@
-use Rattle.node_turn.proofs.Names.{Out, leaves, all_effects, AskNobody, ◌++◌, ◌∷◌, [], List, ◌∙◌, sym, ap, filter}
+use Rattle.node_turn.proofs.Names.{Out, leaves, all_effects, ◌++◌, ◌∷◌, [], List, ◌∙◌, sym, ap, filter}
 use Rattle.std.proofs.lemmas.List.Elements.{filter-append}
 use Rattle.pseudo_time.proofs.ListLemmas.{every-left, every-right}
 use Rattle.broker_laws.specs.Works.{AsksNobody}
@@ -12,5 +12,5 @@ loop-out-preserved g c = record {
       c.in_ok-add_leaving.ensures.leaving t b x h (λ broker. (every-right (λ (o : Out). AsksNobody o.message) before (out ∷ []) (asks broker)).0)
       ∙ ap (λ (l : List Out). l ++ filter (leaves (all_effects x)) (out ∷ [])) (c.loop-out.invariant.leaving t b x h (λ broker. every-left (λ (o : Out). AsksNobody o.message) before (out ∷ []) (asks broker)))
       ∙ sym (filter-append (leaves (all_effects x)) before (out ∷ []));
-  in_range = c.in_ok-add_leaving.ensures.in_range ? c.loop-out.invariant.in_range;
+  in_range = c.in_ok-add_leaving.ensures.in_range c.loop-out.invariant.in_range;
 }
