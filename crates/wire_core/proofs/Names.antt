@@ -8,7 +8,7 @@ pub use Rattle.message_core.specs.Parts.{FlightParts, state_of}
 pub use Rattle.message_core.specs.Senders.{AllInRange, letter_of}
 pub use Rattle.message_core.specs.Tallies.{IsDue, blank_tally, count, noted}
 pub use Rattle.message_core.specs.declared.letters.Arrival.{Arrival}
-pub use Rattle.message_form.specs.Messages.{IsMessage}
+pub use Rattle.message_form.specs.Messages.{IsMessage, message_bytes}
 pub use Rattle.message_form.specs.Posts.{Post, post, posts}
 pub use Rattle.message_form.specs.declared.turns.Out.{Out}
 pub use Rattle.plan_form.specs.declared.plans.Plan.{Plan}
@@ -19,8 +19,8 @@ pub use Rattle.pseudo_time.specs.declared.down_causes.DownCause.{DownCause}
 pub use Rattle.pseudo_time.specs.declared.nodes.NodeId.{NodeId}
 pub use Rattle.pseudo_time.specs.declared.nodes.NodeKind.{NodeKind}
 pub use Rattle.pseudo_time.specs.declared.nodes.NodeKind.TheVariants.{Broker, Repository}
-pub use Rattle.std.proofs.Common.{Bool, IsTrue, List, None, Option, Some, [], add-zero, ap, append_assoc, arith, cond, false, get_or, if◌then◌else◌, inl, inr, is_some, length, length-append, map, not, refl, rules, slice_get, subst, suc, sym, take, true, zero, ℕ, ◌&&◌, ◌++◌, ◌+◌, ◌-◌, ◌<◌, ◌==◌, ◌^◌, ◌||◌, ◌∙◌, ◌∷◌, ◌≡◌, ◌≤◌, ◌⊎◌}
-pub use Rattle.std.proofs.lemmas.List.{append-nil, length-map, map-append}
+pub use Rattle.std.proofs.Common.{Bool, IsTrue, List, None, Option, Some, [], add-zero, ap, append_assoc, arith, cond, false, get_or, if◌then◌else◌, inl, inr, is_some, length, length-append, map, not, refl, rules, slice_get, slice_index_or, subst, suc, sym, take, true, zero, ℕ, ◌&&◌, ◌++◌, ◌+◌, ◌-◌, ◌<◌, ◌==◌, ◌^◌, ◌||◌, ◌∙◌, ◌∷◌, ◌≡◌, ◌≤◌, ◌⊎◌}
+pub use Rattle.std.proofs.lemmas.List.{append-nil, length-map, map-append, take_more}
 pub use Rattle.std.specs.List.{filter, list_any}
 pub use Rattle.std.specs.Option.{option_map, unwrap_or}
 pub use Rattle.std.specs.Prelude.{◌↔◌}
