@@ -1,4 +1,5 @@
 pub mod PlaceLemmas
+pub mod SentLemmas
 pub mod StationLemmas
 pub use Rattle.vote_wire.proofs.CarryLemmas
 pub use Rattle.vote_wire.proofs.CauseLemmas
