@@ -20,7 +20,7 @@ use stream_port::{Clock, Fates};
 
 // How many turns nodes have in a round, where several threads give them: a thread is made and waited for each
 // round, which costs as much as some turns. One thread gives one turn each, in the order of nodes.
-const TURNS: u32 = 16;
+const TURNS: u32 = 64;
 
 // Whether memory ran out for a node of a share.
 fn is_any_wanting<F: Fates, C: Clock, M: Medium>(nodes: &[RunNode<F, C, M>]) -> bool

@@ -4,7 +4,7 @@ ghost use Rattle.std.specs.List.{AllZip};
 ghost use Rattle.node_rounds.specs.Turns.{GoesFurther, HadSome};
 
 use std::sync::Wait;
-use std::thread::{Threads, join_mut};
+use std::thread::{self, Threads, join_mut};
 
 /// One that has turns, beside others with which it shares an L.
 pub trait Turns<L> {
@@ -73,19 +73,35 @@ fn share_again<L, S: Turns<L>, R: Wait>(rt: &R, shared: &L, nodes: &mut Vec<S>) 
     before | worked
 }
 
+// How often in a row the nodes of a share find nothing to do before its part of a round ends. What the nodes
+// of another thread send comes within a few of these, and then costs no round more, which makes as many
+// threads as there are shares.
+const PATIENCE: u32 = 16;
+
+// How often in a row nothing was found, behind one time more. Where nothing was, another thread may go on.
+fn idle_behind(idle: u32, worked: bool) -> u32 {
+    if worked {
+        return 0;
+    }
+    thread::yield_now();
+    idle.saturating_add(1)
+}
+
 // A share's part of a round: its nodes have so many turns, one at least, or fewer where none of them does
-// anything in one. Takes no memory.
+// anything in several that follow one another. Takes no memory.
 fn share_often<L, S: Turns<L>, R: Wait>(rt: &R, shared: &L, turns: u32, nodes: &mut Vec<S>)
     requires ready { All (S.ready shared.now) nodes.old.items }
     ensures does { AllZip (S.does shared.now) nodes.old.items nodes.new.items }
     ensures room { (vec_len nodes.new ≡ vec_len nodes.old) × (vec_capacity nodes.new ≡ vec_capacity nodes.old) }
 {
-    let mut worked = share(rt, shared, nodes);
+    let worked = share(rt, shared, nodes);
+    let mut idle = idle_behind(0, worked);
     for _ in 1..turns {
-        if !worked {
+        if idle >= PATIENCE {
             return;
         }
-        worked = share_again(rt, shared, nodes);
+        let worked = share_again(rt, shared, nodes);
+        idle = idle_behind(idle, worked);
     }
 }
 

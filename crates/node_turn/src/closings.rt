@@ -57,11 +57,10 @@ fn add_leaving<K: StoredCore<M>, M: Medium>(
 ) -> Result<(), AllocError>
     requires able { (K.parts core.now).able ≡ true }
     requires node { (K.parts core.now).node ≡ node }
-    requires message { IsMessage out.message }
     ensures leaving { IsTrue M.tells → (b : Base) (l : Life) → K.lives b core.now l →
         (is_broker node.kind ≡ true → AsksNobody out.message) →
         OnOk result (all.new.items ≡ all.old.items ++ filter (leaves (all_effects l)) (out ∷ [])) }
-    ensures in_range { AreOuts all.old.items → OnOk result (AreOuts all.new.items) }
+    ensures in_range { IsMessage out.message → AreOuts all.old.items → OnOk result (AreOuts all.new.items) }
 {
     if leaves(node, core, &out) {
         all.push(out)?;
