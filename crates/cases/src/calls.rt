@@ -1,27 +1,19 @@
 //! Calls of the top call and of the laboratory over media in memory.
 
-use crate::faults::CaseFault;
-use crate::setups::{Pace, Setup, name_of};
+use case_setups::{Left, Pace, Said, Setup};
+use case_words::CaseFault;
 use laboratory::{Kept, LabFates, lab, swallow};
 use medium_port::{MediumName, MeetShelf, MemoryMedium, MemoryShelf, Shelf};
-use pseudo_time::NodeId;
 use std::alloc::{AllocError, Global};
 use std::sync::Wait;
 use std::thread::Threads;
 use stream_port::{FixedClock, MemoryFates, MemorySink, MemorySource};
 
-/// What a call answers, and what it wrote.
-#[derive(Drop)]
-pub struct Said {
-    pub status: u8,
-    pub text: String,
-}
-
 /// What came of a call over a shelf.
 #[derive(Drop)]
 pub struct Called {
     pub said: Said,
-    pub media: Vec<Kept<MemoryMedium>>,
+    pub media: Vec<Left>,
 }
 
 fn source_of(alloc: Global, pace: &Pace, plan: &[u8]) -> Result<MemorySource, CaseFault> {
@@ -46,37 +38,72 @@ fn answered(alloc: Global, status: u8, sink: &MemorySink) -> Result<Said, CaseFa
     }
 }
 
-// The media of these names that the call didn't take, behind those that it handed back.
-fn untaken(
+// A medium that was handed back, by its name.
+fn left_of(kept: Kept<MemoryMedium>) -> Left {
+    let Kept {
+        node,
+        volume,
+        medium,
+    } = kept;
+    Left {
+        name: MediumName {
+            kind: node.kind,
+            number: node.number,
+            volume,
+        },
+        medium,
+    }
+}
+
+// The media that the call handed back, and behind them those of these names that it didn't take.
+fn all_left(
+    alloc: Global,
     mut shelf: MemoryShelf,
     names: Vec<MediumName>,
     media: Vec<Kept<MemoryMedium>>,
-) -> Result<Vec<Kept<MemoryMedium>>, CaseFault> {
-    let mut media = media;
+) -> Result<Vec<Left>, AllocError> {
+    let mut left = Vec::new(alloc);
+    for kept in media {
+        left.push(left_of(kept))?;
+    }
     for name in names {
-        let MediumName {
-            kind,
-            number,
-            volume,
-        } = name;
-        if let Ok(medium) = shelf.take(kind, number, volume) {
-            media.push(Kept {
-                node: NodeId { kind, number },
-                volume,
-                medium,
-            })?;
+        if let Ok(medium) = shelf.take(name.kind, name.number, name.volume) {
+            left.push(Left { name, medium })?;
         }
     }
-    Ok(media)
+    Ok(left)
 }
 
 // The names of the media that were left.
-fn names_of(alloc: Global, left: &[Kept<MemoryMedium>]) -> Result<Vec<MediumName>, AllocError> {
+fn names_of(alloc: Global, left: &[Left]) -> Result<Vec<MediumName>, AllocError> {
     let mut names = Vec::new(alloc);
-    for kept in left {
-        names.push(name_of(kept))?;
+    for one in left {
+        names.push(one.name)?;
     }
     Ok(names)
+}
+
+// The status of a call, and the media that it handed back. What else is left of it is let go.
+fn swallowed<R: Threads + Wait + Sync>(
+    rt: &R,
+    alloc: Global,
+    words: &[&str],
+    source: &mut MemorySource,
+    sink: &mut MemorySink,
+    shelf: &mut MemoryShelf,
+    fates: MemoryFates,
+) -> (u8, Vec<Kept<MemoryMedium>>) {
+    let finish = swallow(
+        rt,
+        alloc,
+        words,
+        source,
+        sink,
+        shelf,
+        fates,
+        FixedClock::new(0),
+    );
+    (finish.status, finish.media.into_vec())
 }
 
 /// The call with these words and this plan, over what was set up.
@@ -86,27 +113,17 @@ pub fn call<R: Threads + Wait + Sync>(
     setup: &Setup,
     plan: &[u8],
     words: &[&str],
-    left: Vec<Kept<MemoryMedium>>,
+    left: Vec<Left>,
 ) -> Result<Called, CaseFault> {
     let mut source = source_of(alloc, &setup.source, plan)?;
     let mut sink = sink_of(alloc, &setup.sink)?;
     let fates = MemoryFates::new(alloc, setup.rules.to_vec(alloc)?);
     let names = names_of(alloc, left.as_slice())?;
     let mut shelf = setup.shelf(alloc, left)?;
-    let finish = swallow(
-        rt,
-        alloc,
-        words,
-        &mut source,
-        &mut sink,
-        &mut shelf,
-        fates,
-        FixedClock::new(0),
-    );
-    Ok(Called {
-        said: answered(alloc, finish.status, &sink)?,
-        media: untaken(shelf, names, finish.media.into_vec())?,
-    })
+    let (status, media) = swallowed(rt, alloc, words, &mut source, &mut sink, &mut shelf, fates);
+    let said = answered(alloc, status, &sink)?;
+    let media = all_left(alloc, shelf, names, media)?;
+    Ok(Called { said, media })
 }
 
 /// The call with these words over media that look so often for one another.

@@ -1,16 +1,12 @@
 //! Cases are carried out line by line.
 
-use crate::calls::{Called, Said, call, in_lab, meet};
-use crate::faults::CaseFault;
+use crate::calls::{Called, call, in_lab, meet};
 use crate::labs::{barred, lost_text, words_text};
-use crate::lines::{fate, number, stream_named};
-use crate::media::set_call;
-use crate::plans::add;
 use crate::series::{Series, fails_each, fates_each, stops_each};
-use crate::setups::Setup;
-use crate::shows::{Part, Shown, acts_of, show, show_medium};
-use laboratory::Kept;
-use medium_port::MemoryMedium;
+use case_setups::{
+    Left, Part, Said, Setup, Shown, acts_of, add, fate, set_call, show, show_medium, stream_named,
+};
+use case_words::{CaseFault, joined, number};
 use std::alloc::{AllocError, Global};
 use std::mem;
 use std::sync::Wait;
@@ -24,7 +20,7 @@ pub struct Case {
     plan: Vec<u8>,
     in_plan: bool,
     /// The media that the last call left.
-    left: Vec<Kept<MemoryMedium>>,
+    left: Vec<Left>,
     shown: Vec<Shown>,
 }
 
@@ -36,16 +32,6 @@ fn shown_call(alloc: Global, said: &Said, is_whole: bool) -> Result<String, Allo
         said.status,
         if is_whole { text } else { acts_of(text) },
     )
-}
-
-// The words, one behind the other.
-fn joined(alloc: Global, words: &[&str]) -> Result<String, AllocError> {
-    let mut all = String::new(alloc);
-    for word in words {
-        all.push_str(*word)?;
-        all.push(' ')?;
-    }
-    Ok(all)
 }
 
 // What the laboratory is to do by the words of a line.
@@ -133,8 +119,8 @@ impl Case {
     fn media(&mut self, part: Part) -> Result<String, CaseFault> {
         let left = mem::replace(&mut self.left, Vec::new(self.alloc));
         let mut shown = String::new(self.alloc);
-        for kept in left {
-            shown.push_str(show_medium(self.alloc, kept, part)?.as_str())?;
+        for one in left {
+            shown.push_str(show_medium(self.alloc, one, part)?.as_str())?;
         }
         Ok(shown)
     }

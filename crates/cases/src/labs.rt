@@ -1,6 +1,6 @@
 //! The words of the laboratory and what it loses.
 
-use crate::faults::CaseFault;
+use case_words::CaseFault;
 use laboratory::{Lab, LabFates, LabFault, lab_words};
 use std::alloc::{AllocError, Global};
 use stream_port::Fates;

@@ -4,32 +4,16 @@
 
 mod calls;
 mod cases;
-mod faults;
 mod labs;
-mod lines;
-mod media;
-mod plans;
 mod series;
-mod setups;
-mod shows;
-mod tables;
 
 use cases::Case;
-use faults::CaseFault;
 use std::alloc::{AllocError, Global};
 use std::process::ExitCode;
 use std::rt::Files;
 use std::sync::Wait;
 use std::thread::Threads;
 use std::{fs, io};
-
-// What is printed of a fault. Want of memory is none of the line's.
-fn fault_text(alloc: Global, fault: CaseFault) -> Result<String, AllocError> {
-    match fault {
-        CaseFault::NoMemory => Err(AllocError),
-        fault => format!(in alloc; "  fault {fault:?}\n"),
-    }
-}
 
 // What came of a line, or its fault.
 fn come_of<R: Threads + Wait + Sync>(
@@ -40,7 +24,7 @@ fn come_of<R: Threads + Wait + Sync>(
 ) -> Result<String, AllocError> {
     match case.carry_out(rt, line) {
         Ok(said) => Ok(said),
-        Err(fault) => fault_text(alloc, fault),
+        Err(fault) => fault.text(alloc),
     }
 }
 

@@ -1,13 +1,11 @@
 //! A call again and again, with one thing that moves.
 
-use crate::calls::{Called, Said, call};
-use crate::faults::CaseFault;
-use crate::lines::Stream;
-use crate::setups::{Pace, Setup, restarted};
-use crate::shows::{Shown, acts_of, crashes_of, is_down, lines_of};
-use crate::tables::{Ending, Table};
-use laboratory::Kept;
-use medium_port::MemoryMedium;
+use crate::calls::{Called, call};
+use case_setups::{
+    Ending, Left, Pace, Said, Setup, Shown, Stream, Table, acts_of, crashes_of, is_down, lines_of,
+    restarted,
+};
+use case_words::CaseFault;
 use std::alloc::{AllocError, Global};
 use std::sync::Wait;
 use std::thread::Threads;
@@ -103,21 +101,12 @@ fn ending_of(
 }
 
 // The media of a call, once the whole system began anew behind so many calls.
-fn restarted_all(
-    alloc: Global,
-    media: Vec<Kept<MemoryMedium>>,
-    calls: u64,
-) -> Result<Vec<Kept<MemoryMedium>>, AllocError> {
+fn restarted_all(alloc: Global, media: Vec<Left>, calls: u64) -> Result<Vec<Left>, AllocError> {
     let mut left = Vec::new(alloc);
-    for kept in media {
-        let Kept {
-            node,
-            volume,
-            medium,
-        } = kept;
-        left.push(Kept {
-            node,
-            volume,
+    for one in media {
+        let Left { name, medium } = one;
+        left.push(Left {
+            name,
             medium: restarted(medium, calls),
         })?;
     }
@@ -130,7 +119,7 @@ fn called_again<R: Threads + Wait + Sync>(
     series: &Series<'_>,
     setup: &Setup,
     before: &Said,
-    media: Vec<Kept<MemoryMedium>>,
+    media: Vec<Left>,
 ) -> Result<String, CaseFault> {
     let Series {
         alloc,

@@ -1,6 +1,6 @@
 //! Forms in bytes: what is read from them, and the bytes that it is written as.
 
-use crate::faults::CaseFault;
+use case_words::CaseFault;
 use effect_form::EffectFault;
 use field_form::time_of;
 use message_form::MessageFault;

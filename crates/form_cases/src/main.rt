@@ -10,13 +10,11 @@
 //! `run` reads a script as `script` does, and performs it over the objects of the lines `hold 1.7 10`.
 #![tactic(auto)]
 
-mod faults;
 mod forms;
 mod lines;
 mod performances;
 mod readings;
 mod texts;
-mod words;
 
 use readings::carry_all;
 use std::alloc::{AllocError, Global};

@@ -2,7 +2,7 @@
 ghost use Rattle.std.specs.Prelude.{IfOk};
 ghost use Rattle.value_form.specs.Ranges.{IsScript};
 
-use crate::faults::CaseFault;
+use case_words::CaseFault;
 use script_form::{law_of_lines, parse};
 use script_run::{Next, Run};
 use serial_model::{Ending, ObjectMap, Performed, perform};

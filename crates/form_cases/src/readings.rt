@@ -1,9 +1,8 @@
 //! Cases of what is read: forms in bytes, forms in text, and scripts that are performed.
 
-use crate::faults::CaseFault;
 use crate::lines::{Form, form_of};
-use crate::words::{byte, bytes, number, object, signed, size, small};
 use crate::{forms, performances, texts};
+use case_words::{CaseFault, bytes, number, object};
 use std::alloc::{AllocError, Global};
 use std::mem;
 use value_form::ObjectId;
@@ -67,7 +66,7 @@ impl Reading {
                 return self.read(open, text.as_slice());
             }
             ["\\bytes", words @ ..] => self.add(1, words)?,
-            ["\\times", times, words @ ..] => self.add(size(times)?, words)?,
+            ["\\times", times, words @ ..] => self.add(number(times)?, words)?,
             _ => {
                 self.text.extend_from_slice(line.as_bytes())?;
                 self.text.push(b'\n')?;
@@ -98,9 +97,9 @@ impl Reading {
             return Ok(said);
         }
         match (verb, words) {
-            ("hold", [name, number]) => self.held.push((object(name)?, signed(number)?))?,
-            ("repositories", [greatest]) => self.repositories = byte(greatest)?,
-            ("made", [seed, count]) => return texts::made(alloc, number(seed)?, small(count)?),
+            ("hold", [name, held]) => self.held.push((object(name)?, number(held)?))?,
+            ("repositories", [greatest]) => self.repositories = number(greatest)?,
+            ("made", [seed, count]) => return texts::made(alloc, number(seed)?, number(count)?),
             _ => return Err(CaseFault::Line),
         }
         Ok(String::new(alloc))
@@ -138,8 +137,7 @@ fn tell(
 ) -> Result<(), AllocError> {
     match told {
         Ok(more) => said.push_str(more.as_str()),
-        Err(CaseFault::NoMemory) => Err(AllocError),
-        Err(fault) => said.push_str(format!(in alloc; "  fault {fault:?}\n")?.as_str()),
+        Err(fault) => said.push_str(fault.text(alloc)?.as_str()),
     }
 }
 

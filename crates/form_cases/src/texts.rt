@@ -1,7 +1,7 @@
 //! Forms in text: what is read from it, and its canonical text.
 
-use crate::faults::CaseFault;
 use crate::forms::push_text;
+use case_words::CaseFault;
 use expression_form::{ReadFault, print_expression, read_expression};
 use plan_form::{Plan, PlanFault, make};
 use script_form::{ParseFault, print_row, read_row};

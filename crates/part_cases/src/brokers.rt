@@ -6,11 +6,9 @@ ghost use Rattle.effect_form.specs.Effects.{AreEffects};
 ghost use Rattle.script_form.specs.Printable.{IsPrintable};
 ghost use Rattle.broker_core.specs.Ledgers.{IsBrokerAct};
 
-use crate::faults::CaseFault;
-use crate::subjects::Subject;
 use crate::turns::turn_text;
-use crate::words::{arrival, joined, log_of, number};
 use broker_core::{Broker, ResumeFault};
+use case_words::{CaseFault, Subject, arrival, joined, log_of, number};
 use effect_form::Effect;
 use pseudo_time::LAST_CLOCK;
 use script_form::{law_of_lines, parse};

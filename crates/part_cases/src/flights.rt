@@ -1,8 +1,6 @@
 //! Messages on their way between nodes.
 
-use crate::faults::CaseFault;
-use crate::subjects::Subject;
-use crate::words::{byte, message, node, small};
+use case_words::{CaseFault, Subject, message, node, number};
 use message_core::{Arrival, Flight};
 use pseudo_time::NodeId;
 use std::alloc::{AllocError, Global};
@@ -24,9 +22,9 @@ fn one_node(words: &[&str]) -> Result<NodeId, CaseFault> {
 // What comes of a message, from `COPIES OVERTAKE HOLD`.
 fn fate(copies: &str, overtake: &str, hold: &str) -> Result<Fate, CaseFault> {
     Ok(Fate {
-        copies: byte(copies)?,
-        overtake: small(overtake)?,
-        hold: small(hold)?,
+        copies: number(copies)?,
+        overtake: number(overtake)?,
+        hold: number(hold)?,
     })
 }
 

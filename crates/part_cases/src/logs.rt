@@ -1,8 +1,6 @@
 //! Logs, and what a retirement makes of them.
 
-use crate::faults::CaseFault;
-use crate::subjects::{Subject, told};
-use crate::words::{decision, number, object, small, stamp, time};
+use case_words::{CaseFault, Subject, decision, number, object, stamp, time, told};
 use effect_form::Effect;
 use forward_copy::{Forward, forward};
 use pseudo_time::PseudoTime;
@@ -13,7 +11,7 @@ fn put(name: &str, start: &str, value: &str) -> Result<Effect, CaseFault> {
     Ok(Effect::Put {
         object: object(name)?,
         start: time(start)?,
-        value: Value::Number(i64::from(small(value)?)),
+        value: Value::Number(i64::from(number::<u32>(value)?)),
     })
 }
 

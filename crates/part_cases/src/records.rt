@@ -1,8 +1,6 @@
 //! Commit records.
 
-use crate::faults::CaseFault;
-use crate::subjects::{Subject, told};
-use crate::words::{decision, number, stamp};
+use case_words::{CaseFault, Subject, decision, number, stamp, told};
 use commit_record::Records;
 use std::alloc::Global;
 

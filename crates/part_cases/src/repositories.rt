@@ -1,10 +1,8 @@
 //! The core of a repository.
 ghost use Rattle.std.specs.Prelude.{◌≡◌, false, OnOk};
 
-use crate::faults::CaseFault;
-use crate::subjects::Subject;
 use crate::turns::turn_text;
-use crate::words::{arrival, byte, number, stamp};
+use case_words::{CaseFault, Subject, arrival, number, stamp};
 use message_form::Turn;
 use object_history::PlainHistories;
 use repository_core::Repository;
@@ -53,7 +51,7 @@ fn hear(core: &mut Repository<PlainHistories>, moment: &str) -> Result<Turn, Cas
     requires { core.old.is_failed ≡ false }
     ensures { OnOk result (core.new.is_failed ≡ false) }
 {
-    Ok(core.hear(number(moment)?.min(1_000_000))?)
+    Ok(core.hear(number::<u64>(moment)?.min(1_000_000))?)
 }
 
 // The call that a line says.
@@ -92,8 +90,8 @@ impl Subject for Option<Core> {
         _line: &str,
         words: &[&str],
     ) -> Result<String, CaseFault> {
-        if let ["repository", number] = words {
-            *self = Some(repository(alloc, byte(number)?)?);
+        if let ["repository", place] = words {
+            *self = Some(repository(alloc, number(place)?)?);
             return Ok(String::new(alloc));
         }
         let Some(core) = mem::replace(self, None) else {

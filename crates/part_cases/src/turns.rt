@@ -1,6 +1,6 @@
 //! What a turn of a node gives.
 
-use crate::faults::CaseFault;
+use case_words::CaseFault;
 use effect_form::Effect;
 use message_form::{Out, Turn};
 use pseudo_time::NodeKind;

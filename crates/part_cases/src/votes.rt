@@ -2,10 +2,8 @@
 ghost use Rattle.effect_form.specs.Effects.{AreEffects};
 ghost use Rattle.message_form.specs.Messages.{IsMessage};
 
-use crate::faults::CaseFault;
-use crate::subjects::{Subject, told};
 use crate::turns::turn_text;
-use crate::words::{arrival, joined, log_of, node, number, stamp};
+use case_words::{CaseFault, Subject, arrival, joined, log_of, node, number, stamp, told};
 use effect_form::Effect;
 use message_form::{Message, Turn};
 use pseudo_time::{NodeId, NodeKind, Stamp};

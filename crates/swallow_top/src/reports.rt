@@ -21,7 +21,7 @@ use stream_port::Sink;
 use world_core::{Entry, Trace};
 
 /// Which text tells of a run.
-#[derive(Clone, Copy, Debug, PartialEq, Eq)]
+#[derive(Clone, Copy)]
 pub enum Wanted {
     Report,
     /// The summary of a load with this seed.

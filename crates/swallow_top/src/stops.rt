@@ -2,7 +2,7 @@ use plan_form::PlanKind;
 use std::alloc::{AllocError, AllocFailed};
 
 /// Why no plan is run.
-#[derive(Clone, Copy, Debug, PartialEq, Eq)]
+#[derive(Clone, Copy)]
 pub enum Stop {
     /// Memory ran out.
     NoMemory,

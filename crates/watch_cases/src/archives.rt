@@ -1,11 +1,10 @@
 //! What is asked of an archive.
 
 use crate::cases::Case;
-use crate::faults::CaseFault;
 use crate::plain::scanned;
 use crate::shows;
-use crate::words::{number, object, time};
 use archive_store::{Archive, AsOfFault};
+use case_words::{CaseFault, number, object, time};
 use pseudo_time::{PseudoTime, Stamp};
 use std::alloc::Global;
 

@@ -1,9 +1,9 @@
 //! Cases are carried out line by line.
 
 use crate::archives;
-use crate::faults::CaseFault;
-use crate::words::{mark, number};
+use crate::words::mark;
 use archive_store::Archive;
+use case_words::{CaseFault, number};
 use object_history::Mark;
 use std::alloc::{AllocError, Global};
 use std::mem;
@@ -31,8 +31,7 @@ pub fn tell_end(
 ) -> Result<(), AllocError> {
     match end {
         Ok(()) => Ok(()),
-        Err(CaseFault::NoMemory) => Err(AllocError),
-        Err(fault) => said.push_str(format!(in alloc; "  fault {fault:?}\n")?.as_str()),
+        Err(fault) => said.push_str(fault.text(alloc)?.as_str()),
     }
 }
 

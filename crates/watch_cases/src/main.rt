@@ -17,7 +17,6 @@
 
 mod archives;
 mod cases;
-mod faults;
 mod plain;
 mod shows;
 mod watches;

@@ -3,9 +3,9 @@ ghost use Rattle.std.specs.Prelude.{◌≡◌, None, false};
 ghost use Rattle.commit_watch.specs.Lists.{moved_at};
 
 use crate::cases::{Case, tell_end, tell_line};
-use crate::faults::CaseFault;
 use crate::shows;
-use crate::words::{number, object, time, value};
+use crate::words::value;
+use case_words::{CaseFault, number, object, time};
 use commit_watch::{
     Callback, Count, Last, Latest, Moved, Sum, Version, WatchFault, WatchRule, Watches, count_next,
     last_next, sum_next,
