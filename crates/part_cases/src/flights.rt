@@ -88,9 +88,15 @@ fn carry_out(alloc: Global, flight: &mut Flight, words: &[&str]) -> Result<Strin
     }
 }
 
-impl Subject for Option<Flight> {
-    fn nothing(_alloc: Global) -> Option<Flight> {
-        None
+/// Cases of a flight.
+#[derive(Drop)]
+pub struct FlightCases {
+    flight: Option<Flight>,
+}
+
+impl Subject for FlightCases {
+    fn nothing(_alloc: Global) -> FlightCases {
+        FlightCases { flight: None }
     }
 
     fn carry_out(
@@ -100,10 +106,10 @@ impl Subject for Option<Flight> {
         words: &[&str],
     ) -> Result<String, CaseFault> {
         if let ["flight"] = words {
-            *self = Some(flight(alloc)?);
+            self.flight = Some(flight(alloc)?);
             return Ok(String::new(alloc));
         }
-        match self {
+        match &mut self.flight {
             Some(flight) => carry_out(alloc, flight, words),
             None => Err(CaseFault::Subject),
         }

@@ -93,9 +93,17 @@ fn add(alloc: Global, log: &mut Vec<Effect>, words: &[&str]) -> Result<String, C
     Ok(String::new(alloc))
 }
 
-impl Subject for Vec<Effect> {
-    fn nothing(alloc: Global) -> Vec<Effect> {
-        Vec::new(alloc)
+/// Cases of a log.
+#[derive(Drop)]
+pub struct LogCases {
+    log: Vec<Effect>,
+}
+
+impl Subject for LogCases {
+    fn nothing(alloc: Global) -> LogCases {
+        LogCases {
+            log: Vec::new(alloc),
+        }
     }
 
     fn carry_out(
@@ -106,11 +114,11 @@ impl Subject for Vec<Effect> {
     ) -> Result<String, CaseFault> {
         match words {
             ["log"] => {
-                *self = Vec::new(alloc);
+                self.log = Vec::new(alloc);
                 Ok(String::new(alloc))
             }
-            ["forward", at] => retired(alloc, self.as_slice(), time(at)?),
-            _ => add(alloc, self, words),
+            ["forward", at] => retired(alloc, self.log.as_slice(), time(at)?),
+            _ => add(alloc, &mut self.log, words),
         }
     }
 }

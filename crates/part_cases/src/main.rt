@@ -25,10 +25,10 @@ mod votes;
 
 use brokers::Brokers;
 use case_words::{Cases, carry_all, carry_out_files};
-use commit_record::Records;
-use effect_form::Effect;
-use message_core::Flight;
-use repositories::Core;
+use flights::FlightCases;
+use logs::LogCases;
+use records::RecordCases;
+use repositories::RepositoryCases;
 use std::alloc::{AllocError, Global};
 use std::io;
 use std::process::ExitCode;
@@ -45,10 +45,10 @@ impl Cases for Parts {
         said: &mut String,
     ) -> Result<(), AllocError> {
         match about {
-            "records" => carry_all::<Records>(alloc, text, said),
-            "logs" => carry_all::<Vec<Effect>>(alloc, text, said),
-            "flights" => carry_all::<Option<Flight>>(alloc, text, said),
-            "repositories" => carry_all::<Option<Core>>(alloc, text, said),
+            "records" => carry_all::<RecordCases>(alloc, text, said),
+            "logs" => carry_all::<LogCases>(alloc, text, said),
+            "flights" => carry_all::<FlightCases>(alloc, text, said),
+            "repositories" => carry_all::<RepositoryCases>(alloc, text, said),
             "votes" => carry_all::<Votes>(alloc, text, said),
             "brokers" => carry_all::<Brokers>(alloc, text, said),
             _ => said.push_str("  no cases\n"),

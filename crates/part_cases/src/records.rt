@@ -71,9 +71,17 @@ fn on_moment(
     }
 }
 
-impl Subject for Records {
-    fn nothing(alloc: Global) -> Records {
-        Records::new(alloc)
+/// Cases of records.
+#[derive(Drop)]
+pub struct RecordCases {
+    records: Records,
+}
+
+impl Subject for RecordCases {
+    fn nothing(alloc: Global) -> RecordCases {
+        RecordCases {
+            records: Records::new(alloc),
+        }
     }
 
     fn carry_out(
@@ -85,12 +93,13 @@ impl Subject for Records {
         let [verb, rest @ ..] = words else {
             return Err(CaseFault::Line);
         };
+        let records = &mut self.records;
         match *verb {
-            "records" => anew(alloc, self),
-            "begin" => begin(alloc, self, rest),
-            "restore" => restore(alloc, self, rest),
-            "due" | "hear" => on_moment(alloc, self, verb, rest),
-            verb => on_record(alloc, self, verb, rest),
+            "records" => anew(alloc, records),
+            "begin" => begin(alloc, records, rest),
+            "restore" => restore(alloc, records, rest),
+            "due" | "hear" => on_moment(alloc, records, verb, rest),
+            verb => on_record(alloc, records, verb, rest),
         }
     }
 }

@@ -79,9 +79,15 @@ fn carry_out(alloc: Global, core: Core, words: &[&str]) -> Result<(Core, String)
     Ok((Core { core }, turn_text(alloc, &turn)?))
 }
 
-impl Subject for Option<Core> {
-    fn nothing(_alloc: Global) -> Option<Core> {
-        None
+/// Cases of a repository.
+#[derive(Drop)]
+pub struct RepositoryCases {
+    core: Option<Core>,
+}
+
+impl Subject for RepositoryCases {
+    fn nothing(_alloc: Global) -> RepositoryCases {
+        RepositoryCases { core: None }
     }
 
     fn carry_out(
@@ -91,14 +97,14 @@ impl Subject for Option<Core> {
         words: &[&str],
     ) -> Result<String, CaseFault> {
         if let ["repository", place] = words {
-            *self = Some(repository(alloc, number(place)?)?);
+            self.core = Some(repository(alloc, number(place)?)?);
             return Ok(String::new(alloc));
         }
-        let Some(core) = mem::replace(self, None) else {
+        let Some(core) = mem::replace(&mut self.core, None) else {
             return Err(CaseFault::Subject);
         };
         let (core, said) = carry_out(alloc, core, words)?;
-        *self = Some(core);
+        self.core = Some(core);
         Ok(said)
     }
 }

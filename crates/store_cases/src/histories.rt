@@ -150,9 +150,15 @@ impl Pair {
     }
 }
 
-impl Subject for Option<Pair> {
-    fn nothing(_alloc: Global) -> Option<Pair> {
-        None
+/// Cases of both kinds of histories.
+#[derive(Drop)]
+pub struct HistoryCases {
+    pair: Option<Pair>,
+}
+
+impl Subject for HistoryCases {
+    fn nothing(_alloc: Global) -> HistoryCases {
+        HistoryCases { pair: None }
     }
 
     fn carry_out(
@@ -162,10 +168,10 @@ impl Subject for Option<Pair> {
         words: &[&str],
     ) -> Result<String, CaseFault> {
         if let ["histories"] = words {
-            *self = Some(Pair::new(alloc)?);
+            self.pair = Some(Pair::new(alloc)?);
             return Ok(String::new(alloc));
         }
-        match self {
+        match &mut self.pair {
             Some(pair) => pair.carry_out(alloc, words),
             None => Err(CaseFault::Subject),
         }

@@ -19,7 +19,7 @@ mod stores;
 mod tables;
 
 use case_words::{Cases, carry_all, carry_out_files};
-use histories::Pair;
+use histories::HistoryCases;
 use std::alloc::{AllocError, Global};
 use std::io;
 use std::process::ExitCode;
@@ -37,7 +37,7 @@ impl Cases for Storages {
     ) -> Result<(), AllocError> {
         match about {
             "media" | "tables" => carry_all::<Tables>(alloc, text, said),
-            "histories" => carry_all::<Option<Pair>>(alloc, text, said),
+            "histories" => carry_all::<HistoryCases>(alloc, text, said),
             _ => said.push_str("  no cases\n"),
         }
     }
