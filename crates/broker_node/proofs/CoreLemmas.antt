@@ -3,7 +3,7 @@ use Rattle.broker_node.proofs.Names.{◌≡◌, ℕ, true, false, List, reverse,
 use Rattle.std.proofs.lemmas.List.{append-nil}
 use Rattle.value_form.specs.declared.acts.ActSpec.{ActSpec}
 use Rattle.message_form.specs.declared.turns.Turn.{Turn}
-use Rattle.serial_model.specs.Questions.{Tree}
+use Rattle.node_turn.specs.Questions.{Tree}
 use Rattle.version_store.specs.Storage.{storage}
 use Rattle.version_store.specs.declared.faults.OpenFault.{OpenFault}
 use Rattle.version_store.specs.declared.faults.OpenFault.TheVariants as opening
@@ -15,9 +15,9 @@ use Rattle.broker_core.specs.Fits.{keep, resume_fault}
 use Rattle.broker_core.specs.Owed.{done}
 use Rattle.broker_core.specs.Parts.{BrokerParts}
 use Rattle.broker_core.specs.Turns as desks
-use Rattle.world_core.specs.Cores.{IsBroker, BrokerGave}
-use Rattle.world_core.specs.Nodes.{Input, broker_gives, with_desk, desk_after, acts_of, is_ready, opened_mind}
-use Rattle.world_core.proofs.CoreTurns.{gives-broker, broker-gave}
+use Rattle.node_turn.specs.WorldCores.{IsBroker, BrokerGave}
+use Rattle.node_turn.specs.WorldNodes.{Input, broker_gives, with_desk, desk_after, acts_of, is_ready, opened_mind}
+use Rattle.node_turn.proofs.CoreTurns.{gives-broker, broker-gave}
 
 -- ---- turns
 

@@ -10,5 +10,5 @@ pub use Rattle.pseudo_time.specs.Nodes.{broker}
 pub use Rattle.pseudo_time.specs.declared.nodes.NodeId.{NodeId}
 pub use Rattle.std.proofs.Common.{Err, List, Ok, Option, Some, ap, append_assoc, arith, false, inr, is_none, refl, reverse, subst, sym, true, ℕ, ◌++◌, ◌∙◌, ◌≡◌, ◌≤◌}
 pub use Rattle.version_store.specs.StoreWords.{medium_of}
-pub use Rattle.world_core.specs.Nodes.Input.{Going, Hearing, Taking}
-pub use Rattle.world_core.specs.Walks.{Base, Life, after_input, all_effects, gated_life, opened_life, opened_log}
+pub use Rattle.node_turn.specs.WorldNodes.Input.{Going, Hearing, Taking}
+pub use Rattle.node_turn.specs.Walks.{Base, Life, after_input, all_effects, gated_life, opened_life, opened_log}

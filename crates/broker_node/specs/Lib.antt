@@ -12,4 +12,4 @@ pub use Rattle.node_turn.specs.Wires
 pub use Rattle.node_turn.specs.contracts.nodes.Node as NodeContracts
 pub use Rattle.node_turn.specs.declared.conditions.Condition
 pub use Rattle.node_turn.specs.declared.conditions.Turned
-pub use Rattle.node_turn.specs.declared.cores.StoredCore
+pub use Rattle.node_turn.specs.StoredCore

@@ -11,8 +11,8 @@ use Rattle.broker_core.specs.Book.{book}
 use Rattle.broker_core.specs.Fits.{keep}
 use Rattle.broker_core.specs.Owed.{done}
 use Rattle.broker_core.specs.Tasks.{tasks}
-use Rattle.world_core.specs.Nodes.{acts_of}
-use Rattle.world_core.specs.Walks.{Base, Life, all_effects}
+use Rattle.node_turn.specs.WorldNodes.{acts_of}
+use Rattle.node_turn.specs.Walks.{Base, Life, all_effects}
 use Rattle.broker_node.specs.declared.logs.Log.{Log}
 use Rattle.broker_node.specs.declared.logs.Log.TheVariants.{Open, Shut}
 

@@ -1,8 +1,8 @@
 //! A broker's core with its log.
 ghost use Rattle.std.specs.Prelude.{◌≡◌, ◌≤◌, false};
 ghost use Rattle.pseudo_time.specs.Nodes.{broker};
-ghost use Rattle.world_core.specs.Cores.{IsBroker};
-ghost use Rattle.world_core.specs.Walks.{Base, Life, all_effects};
+ghost use Rattle.node_turn.specs.WorldCores.{IsBroker};
+ghost use Rattle.node_turn.specs.Walks.{Base, Life, all_effects};
 ghost use Rattle.broker_node.specs.Logs.{as_damage, has_failed, is_over, medium_in};
 
 use crate::acts::OwnActs;
@@ -35,9 +35,9 @@ impl<M: Medium> Meanings<M> for BrokerCore<M> {
     ghost use Rattle.std.specs.Prelude.{◌≡◌};
     ghost use Rattle.pseudo_time.specs.Nodes.{broker};
     ghost use Rattle.broker_core.specs.Tasks.{Scripted};
-    ghost use Rattle.world_core.specs.Nodes.{acts_of};
-    ghost use Rattle.world_core.specs.Walks.{all_effects};
-    ghost use Rattle.world_core.specs.Cores.{IsBroker};
+    ghost use Rattle.node_turn.specs.WorldNodes.{acts_of};
+    ghost use Rattle.node_turn.specs.Walks.{all_effects};
+    ghost use Rattle.node_turn.specs.WorldCores.{IsBroker};
     ghost use Rattle.broker_node.specs.Logs.{is_open, medium_in, HasEffects};
 
     ghost parts = { λ c. record { node = broker c.number; able = is_open c.log; medium = medium_in c.log } };

@@ -1,10 +1,10 @@
 -- What an append leaves of a node, and the gate after it.
 use Rattle.node_turn.proofs.Names.{is_blank, NodeId, Rose, Image, Effect, Out, AreEffects, StoreFault, HasPrefix, filling, storage, Gate, leaves, Base, Life, Flags, all_effects, gated_life, owed, Decided, Sight, base_at, world_at, life_at, flags_at, Gated, closed, LeavesLog, IsAppended, IsFull, DraftParts, no_draft, IsKept, HasLife, IsUp, IsStored, IsStruck, IsCause, ◌≡◌, ◌≢◌, ℕ, ◌+◌, ◌≤◌, Bool, true, false, List, [], ◌++◌, length, take, Result, Ok, Err, IsTrue, refl, sym, ap, subst, ◌∙◌, arith, filter, count_by, ◌<◌, Media, Meanings, IsAfterAppend}
 use Rattle.std.proofs.lemmas.List.{length-append, take_all}
-use Rattle.pseudo_time.specs.declared.down_causes.DownCause.TheVariants as down
-use Rattle.version_store.specs.declared.faults.StoreFault.TheVariants as adding
-use Rattle.node_turn.proofs.ReadyLemmas.{ready-whole, ready-durable}
-use Rattle.node_turn.proofs.LifeLemmas.{Follows, follows-of, on-ok, if-err, kept-none}
+use Rattle.node_inputs.specs.DownCause.TheVariants as down
+use Rattle.node_inputs.specs.StoreFault.TheVariants as adding
+use Rattle.node_inputs.proofs.ReadyLemmas.{ready-whole, ready-durable}
+use Rattle.node_inputs.proofs.LifeLemmas.{Follows, follows-of, on-ok, if-err, kept-none}
 
 -- an image of a log that a beginning of these effects was added to
 pub kept-prefix : (l : Life) (log es : List Effect) (c : Image) → log ≡ l.gated → es ≡ l.fresh → HasPrefix log es c → IsKept l c

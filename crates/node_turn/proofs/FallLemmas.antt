@@ -1,11 +1,11 @@
 -- What a node has after it went down, or after it was opened anew.
 use Rattle.node_turn.proofs.Names.{NodeId, DownCause, Effect, OpenFault, Entry, Base, Life, Flags, opened_life, Sight, base_at, life_at, flags_at, Owns, Looked, Added, Falls, Crashes, IsReady, HasFound, IsReopened, no_draft, IsKept, HasLife, up_flags, IsUp, IsStored, IsStruck, IsCause, IsDown, storage, cost_of_cause, PaysFor, ◌≡◌, ℕ, ◌+◌, ◌-◌, ◌≤◌, ◌<◌, Bool, true, false, List, [], ◌++◌, length, take, Option, Some, Result, Ok, Err, IsTrue, refl, sym, ap, subst, ◌∙◌, arith, length-append, ⊎_elim, append-nil, length-take-le, Media, HadNothing, crashed, looked-of, Meanings, IsFullFor}
-use Rattle.pseudo_time.specs.declared.down_causes.DownCause.TheVariants as down
-use Rattle.version_store.specs.declared.faults.OpenFault.TheVariants as opening
-use Rattle.version_store.specs.Causes.{down_of_opening}
+use Rattle.node_inputs.specs.DownCause.TheVariants as down
+use Rattle.node_inputs.specs.OpenFault.TheVariants as opening
+use Rattle.node_inputs.specs.StoreCauses.{down_of_opening}
 use Rattle.node_turn.proofs.CostLemmas.{pays-none, pays-one}
-use Rattle.node_turn.proofs.ReadyLemmas.{ready-durable}
-use Rattle.node_turn.proofs.LifeLemmas.{Follows, follows-added, on-ok, if-ok}
+use Rattle.node_inputs.proofs.ReadyLemmas.{ready-durable}
+use Rattle.node_inputs.proofs.LifeLemmas.{Follows, follows-added, on-ok, if-ok}
 use Rattle.node_turn.proofs.DueLemmas.{due-moved}
 
 -- a node with something to close is no node that had nothing

@@ -1,7 +1,7 @@
 -- What a node has that was just opened.
 use Rattle.std.specs.Option.{unwrap_or}
 use Rattle.node_turn.proofs.Names.{NodeId, Effect, Base, opened_life, walk, walk_from, Sight, base_at, life_at, flags_at, IsOf, LeavesLog, IsReady, HasLife, IsUp, no_draft, up_flags, ◌≡◌, ℕ, true, false, List, [], length, Option, Some, IsTrue, refl, sym, ap, subst, ◌∙◌, is_some, Media, opened_log, opened_flags, origin_at, Meanings}
-use Rattle.node_turn.proofs.ReadyLemmas.{ready-durable}
+use Rattle.node_inputs.proofs.ReadyLemmas.{ready-durable}
 
 -- ---- where nothing has happened yet
 

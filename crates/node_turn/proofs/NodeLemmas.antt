@@ -1,17 +1,17 @@
 -- What a node keeps while others move on, at rest, and over a turn.
 use Rattle.node_turn.proofs.Names.{NodeId, is_broker, DownCause, Image, LeftNow, knows, Entry, Flags, WireParts, Sight, life_at, Looked, no_draft, IsUp, IsDown, costs, PaysFor, HasTested, PassesOn, Adds, Grew, ◌≡◌, ◌≢◌, ℕ, Bool, false, Result, Ok, Err, IsTrue, IfOk, OnOk, refl, sym, ap, subst, ◌∙◌, MatchBool, Media, Meanings, Keeps, NodeParts, IsCondition, IsQuiet, Answers, Does, StaysWhole, TurnsTo, IsAtRest}
-use Rattle.atomic_table.specs.declared.shared.Seat.{Seat}
-use Rattle.seat_lock.specs.declared.views.View.{View}
+use Rattle.node_inputs.specs.Seat.{Seat}
+use Rattle.node_inputs.specs.View.{View}
 use Rattle.node_turn.specs.declared.conditions.Condition.{Condition}
 use Rattle.node_turn.specs.declared.conditions.Condition.TheVariants as condition
 use Rattle.node_turn.specs.declared.conditions.Turned.{Turned}
 use Rattle.node_turn.specs.declared.conditions.Turned.TheVariants.{Worked, Quiet, Stopped}
-use Rattle.node_turn.proofs.LifeLemmas.{Follows, follows-looked, flags-seen, life-looked, up-looked, up-stored, stored-looked}
+use Rattle.node_inputs.proofs.LifeLemmas.{Follows, follows-looked, flags-seen, life-looked, up-looked, up-stored, stored-looked}
 use Rattle.node_turn.proofs.FallLemmas.{cause-same}
 use Rattle.node_turn.proofs.PageLemmas.{whole-same}
 use Rattle.node_turn.proofs.PhaseLemmas.{passes-stored}
 use Rattle.node_turn.proofs.SeekLemmas.{tested-none}
-use Rattle.node_turn.proofs.TrailLemmas.{trail-none, adds-none}
+use Rattle.node_inputs.proofs.TrailLemmas.{trail-none, adds-none}
 
 -- a node's pass
 abbrev Pass : Type 0

@@ -1,8 +1,8 @@
 -- An image against itself.
 use Rattle.std.proofs.Common.{◌≡◌, Bool, true, ◌==◌, List, [], ℕ, Ok, drop, refl, sym, ap, ◌∙◌, if◌then◌else◌, append-nil, arith}
 use Rattle.node_turn.proofs.Names.{Image, is_blank, Effect, IsIntact, slice_index, page_of, state_of}
-use Rattle.page_gate.specs.declared.pages.PageState.{PageState}
-use Rattle.page_gate.specs.declared.pages.PageState.TheVariants.{Blank, Spoiled, Gated}
+use Rattle.node_inputs.specs.PageState.{PageState}
+use Rattle.node_inputs.specs.PageState.TheVariants.{Blank, Spoiled, Gated}
 
 blank-is : (p : List ℕ) → is_blank p ≡ true → state_of p ≡ Blank
 blank-is p h = ap (λ (t : Bool). if t then Blank else if slice_index p 0 == 165 then Gated (drop 1 p) else Spoiled) h

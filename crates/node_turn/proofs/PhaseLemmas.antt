@@ -1,7 +1,7 @@
 -- The windows of a node in the parts of its turn: what a crash at any moment of each leaves of its medium.
 use Rattle.node_turn.proofs.Names.{NodeId, same_node-refl, Image, Stage, LeftNow, Goes, goes_nowhere, Effect, Out, HistoryFault, StoreFault, OpenFault, HasPrefix, storage, Entry, Gate, Base, Life, Flags, gated_life, names, walk, WireParts, base_from, Decided, Sight, origin_in, base_at, life_at, flags_at, IsOf, Owns, Looked, Visited, Gated, Crashes, closed, LeavesLog, HasFound, IsAppended, IsReopened, DraftParts, IsKept, HasLife, IsUp, IsStored, IsStruck, IsAfter, Trail, Passes, PassesOn, ◌≡◌, ◌≢◌, ℕ, suc, ◌+◌, ◌-◌, ◌≤◌, Bool, true, false, List, [], ◌∷◌, ◌++◌, length, take, cond, Option, Result, Ok, IsTrue, refl, sym, ap, subst, ◌∙◌, arith, append_assoc, length-append, append-nil, widens, Media, gated-grows, Meanings}
-use Rattle.object_history.specs.declared.steps.HistoryFault.TheVariants as fault
-use Rattle.node_turn.proofs.LifeLemmas.{Follows, follows-of, follows-added, if-ok, kept-none}
+use Rattle.node_inputs.specs.HistoryFault.TheVariants as fault
+use Rattle.node_inputs.proofs.LifeLemmas.{Follows, follows-of, follows-added, if-ok, kept-none}
 use Rattle.node_turn.proofs.StepLemmas.{kept-prefix, kept-whole, kept-gated, kept-crashed, kept-found, passes-between, passes-visit}
 use Rattle.node_turn.proofs.SightSteps.{passes-found, passes-looked}
 use Rattle.node_turn.proofs.WindowLemmas.{passes-then, passes-last}

@@ -1,10 +1,10 @@
 -- What the tests of a turn found.
-use Rattle.pseudo_time.specs.Lists.{Has}
+use Rattle.node_inputs.specs.Lists.{Has}
 use Rattle.node_turn.proofs.Names.{StampParts, NodeId, Effect, Out, is_for, decided_by, leaves, place_of, Decided, Sight, AreSought, stamp_asked, Trail, Seeks, HasTested, ◌≡◌, ℕ, ◌+◌, ◌<◌, ◌==◌, ◌||◌, not, Bool, true, false, List, [], ◌∷◌, ◌++◌, length, take, Option, Some, None, Result, Ok, Err, OnOk, IfSome, filter, refl, ap, sym, ◌∙◌, subst, cond, arith, inl, inr, ⊎_elim, get_or, eqb-true, append-nil, take_more, take-append-le, has-left, has-right, has-either, number_of, answer_of, IsMissed, IsFound, IsSought}
-use Rattle.message_form.specs.declared.messages.Message.{Message}
-use Rattle.message_form.specs.declared.messages.Message.TheVariants as message
-use Rattle.repository_log.specs.Logs.{knows}
-use Rattle.node_turn.proofs.TrailLemmas.{trail-none, trail-joins}
+use Rattle.node_inputs.specs.Message.{Message}
+use Rattle.node_inputs.specs.Message.TheVariants as message
+use Rattle.node_inputs.specs.Logs.{knows}
+use Rattle.node_inputs.proofs.TrailLemmas.{trail-none, trail-joins}
 
 -- ---- one test
 

@@ -1,5 +1,5 @@
 -- Runs of windows, one after another, and the window of a place.
-use Rattle.node_turn.proofs.Names.{NodeId, Image, Stage, LeftNow, Goes, Entry, Base, Life, names, own, walk, IsKept, IsNext, Mark, KeptAlong, Passes, ◌≡◌, ◌⊎◌, inl, inr, ⊎_elim, suc, ◌+◌, List, [], ◌∷◌, ◌++◌, length, refl, sym, ap, subst, ◌∙◌, append_assoc, cond, append-nil, filter-append, goes_on, goes_to, same-life, entries_in, cuts_of, cut_at}
+use Rattle.node_turn.proofs.Names.{NodeId, Image, Stage, LeftNow, Goes, Entry, Base, Life, names, own, walk, IsKept, IsNext, Mark, KeptAlong, Passes, ◌≡◌, ◌⊎◌, inl, inr, ⊎_elim, suc, List, [], ◌∷◌, ◌++◌, length, refl, sym, ap, subst, ◌∙◌, append_assoc, cond, append-nil, filter-append, goes_on, goes_to, same-life, entries_in, cuts_of, cut_at}
 
 own-append : (n : NodeId) (xs ys : List Entry) → own n (xs ++ ys) ≡ own n xs ++ own n ys
 own-append n xs ys = filter-append (names n) xs ys

@@ -1,27 +1,27 @@
 -- A node between its turns, and what a turn does.
 use Rattle.std.specs.Prelude.{◌≡◌, ℕ, Bool, true, false, List, [], ◌∷◌, ◌++◌, Result, Ok, Err, IsTrue, IfOk, OnOk}
-use Rattle.pseudo_time.specs.declared.nodes.NodeId.{NodeId}
-use Rattle.pseudo_time.specs.Nodes.{is_broker}
-use Rattle.pseudo_time.specs.declared.down_causes.DownCause.{DownCause}
-use Rattle.medium_port.specs.Image.{Image}
-use Rattle.medium_port.specs.declared.media.Medium.{Ghosts as Media}
-use Rattle.atomic_table.specs.declared.shared.Seat.{Seat}
-use Rattle.seat_lock.specs.declared.views.View.{View}
-use Rattle.seat_lock.specs.Words.{knows}
-use Rattle.seat_lock.specs.Story.{longer}
-use Rattle.world_core.specs.declared.entries.Entry.{Entry}
-use Rattle.world_core.specs.declared.entries.Entry.TheVariants.{Down}
-use Rattle.world_core.specs.Legal.{HasGone, is_behind}
-use Rattle.wire_core.specs.Wires.{WireParts}
-use Rattle.wire_lock.specs.Sights.{Sight, IsOf, Looked, world_at, life_at, flags_at}
+use Rattle.node_inputs.specs.NodeId.{NodeId}
+use Rattle.node_inputs.specs.NodeNames.{is_broker}
+use Rattle.node_inputs.specs.DownCause.{DownCause}
+use Rattle.node_inputs.specs.Image.{Image}
+use Rattle.node_inputs.specs.Medium.{Ghosts as Media}
+use Rattle.node_inputs.specs.Seat.{Seat}
+use Rattle.node_inputs.specs.View.{View}
+use Rattle.node_inputs.specs.Words.{knows}
+use Rattle.node_inputs.specs.Story.{longer}
+use Rattle.node_inputs.specs.Entry.{Entry}
+use Rattle.node_inputs.specs.Entry.TheVariants.{Down}
+use Rattle.node_inputs.specs.Wires.{WireParts}
+use Rattle.node_inputs.specs.Sights.{Sight, IsOf, Looked, life_at, flags_at}
 use Rattle.node_turn.specs.declared.conditions.Condition.{Condition}
 use Rattle.node_turn.specs.declared.conditions.Condition.TheVariants as condition
 use Rattle.node_turn.specs.declared.conditions.Turned.{Turned}
 use Rattle.node_turn.specs.declared.conditions.Turned.TheVariants.{Worked, Quiet, Stopped}
-use Rattle.node_turn.specs.Lives.{IsKept, IsCause}
-use Rattle.node_turn.specs.Cores.{IsIntact}
-use Rattle.node_turn.specs.Costs.{costs, PaysFor}
-use Rattle.node_turn.specs.Trails.{HasTested}
+pub use Rattle.node_inputs.specs.Entries.{Adds, Grew, IsQuiet}
+use Rattle.node_inputs.specs.Lives.{IsKept, IsCause}
+use Rattle.node_inputs.specs.Cores.{IsIntact}
+use Rattle.node_inputs.specs.Costs.{costs, PaysFor}
+use Rattle.node_turn.specs.Seeks.{HasTested}
 use Rattle.node_turn.specs.Windows.{PassesOn}
 
 -- a node, as contracts see it
@@ -39,14 +39,6 @@ sight p = knows p.pass
 abbrev pub new_node : {M : Type 0} → NodeId → Seat WireParts (View WireParts Entry) → M → NodeParts M
 new_node n pass medium = record { node = n; condition = condition.AtWork; pass = pass; medium = medium }
 
--- nothing is lost
-abbrev pub Adds : {E : Type 0} → List E → List E → Type 0
-Adds old new = (more : List _) × (new ≡ old ++ more)
-
--- there is more
-abbrev pub Grew : {E : Type 0} → List E → List E → Type 0
-Grew old new = (e : _) × (rest : List _) × (new ≡ old ++ e ∷ rest)
-
 -- the condition that a turn's answer tells
 abbrev pub IsCondition : {E : Type 0} → Result Turned E → Condition → Type 0
 IsCondition (Ok Worked) c = c ≡ condition.AtWork
@@ -59,12 +51,6 @@ abbrev pub Answers : Bool → Turned → Type 0
 Answers quiet Worked = quiet ≡ false
 Answers quiet Quiet = quiet ≡ true
 Answers quiet Stopped = Unit {0}
-
--- No entry was added, and the node has nothing to do but to take copies: none was due.
-pub record IsQuiet (n : NodeId) (old new : Sight) : Type 0 where
-  pub same : new.own ≡ old.own
-  pub heard : is_behind (world_at new) n ≡ false
-  pub gone : HasGone (world_at new) n
 
 -- What a turn that answers this does: Worked adds entries, and leaves the node up; Quiet adds none; Stopped leaves it down.
 abbrev pub Does : Turned → NodeId → Sight → Sight → Type 0

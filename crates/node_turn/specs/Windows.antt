@@ -1,11 +1,11 @@
 -- What crashes leave of a node's medium between its own entries.
-use Rattle.std.specs.Prelude.{◌≡◌, ◌≤◌, ℕ, true, List, [], ◌∷◌, ◌++◌, length, map, take, slice_index_or, Ok}
-use Rattle.pseudo_time.specs.declared.nodes.NodeId.{NodeId}
-use Rattle.medium_port.specs.Moment.{Stage, Goes}
-use Rattle.node_turn.specs.Lives.{IsKept}
-use Rattle.world_core.specs.declared.entries.Entry.{Entry}
-use Rattle.world_core.specs.Walks.{Base, Life, names, own, walk}
-use Rattle.wire_lock.specs.Sights.{Sight, base_at}
+use Rattle.std.specs.Prelude.{◌≡◌, ℕ, true, List, [], ◌∷◌, ◌++◌, map, slice_index_or}
+use Rattle.node_inputs.specs.NodeId.{NodeId}
+use Rattle.node_inputs.specs.Moment.{Stage, Goes}
+use Rattle.node_inputs.specs.Lives.{IsKept}
+use Rattle.node_inputs.specs.Entry.{Entry}
+use Rattle.node_inputs.specs.Walks.{Base, names, own, walk}
+use Rattle.node_inputs.specs.Sights.{Sight, base_at}
 
 -- an entry of the node's own, behind entries of others
 pub record IsNext (n : NodeId) (es : List Entry) : Type 0 where

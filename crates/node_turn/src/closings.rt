@@ -1,35 +1,30 @@
 //! How a turn is closed: the effects are made durable, and then the gate sends what waits for them.
 ghost use Rattle.std.specs.Prelude.{◌≡◌, ◌≤◌, ◌++◌, ◌∷◌, [], true, false, ℕ, IsTrue, IfOk, IfErr, OnOk, OnErr, IsErrOf};
-ghost use Rattle.message_form.specs.Messages.{IsMessage};
+ghost use Rattle.node_inputs.specs.Messages.{IsMessage};
 ghost use Rattle.std.specs.List.{filter};
-ghost use Rattle.pseudo_time.specs.Nodes.{is_broker};
-ghost use Rattle.stream_port.specs.Causes.{Rose};
-ghost use Rattle.message_form.specs.Ranges.{AreOuts};
-ghost use Rattle.version_store.specs.declared.faults.StoreFault.TheVariants as adding;
-ghost use Rattle.seat_lock.specs.Words.{knows};
-ghost use Rattle.world_core.specs.Nodes.{leaves};
-ghost use Rattle.world_core.specs.Walks.{Base, Life, all_effects};
-ghost use Rattle.wire_core.specs.Changes.{owed};
-ghost use Rattle.wire_lock.specs.Decisions.{decided_by, decision_in};
-ghost use Rattle.wire_lock.specs.Sights.{IsWirePass, world_at};
-ghost use Rattle.broker_laws.specs.Works.{AsksNobody};
-ghost use Rattle.node_turn.specs.Cores.{IsIntact};
-ghost use Rattle.node_turn.specs.Lives.{AskNobody, IsUp, IsAfterAppend, no_draft};
-ghost use Rattle.node_turn.specs.Trails.{Trail};
+ghost use Rattle.node_inputs.specs.NodeNames.{is_broker};
+ghost use Rattle.node_inputs.specs.Causes.{Rose};
+ghost use Rattle.node_inputs.specs.TurnRanges.{AreOuts};
+ghost use Rattle.node_inputs.specs.StoreFault.TheVariants as adding;
+ghost use Rattle.node_inputs.specs.Words.{knows};
+ghost use Rattle.node_inputs.specs.WorldNodes.{leaves};
+ghost use Rattle.node_inputs.specs.Walks.{Base, Life, all_effects};
+ghost use Rattle.node_inputs.specs.Changes.{owed};
+ghost use Rattle.node_inputs.specs.Decisions.{decided_by, decision_in};
+ghost use Rattle.node_inputs.specs.Sights.{IsWirePass, world_at};
+ghost use Rattle.node_inputs.specs.Works.{AsksNobody};
+ghost use Rattle.node_inputs.specs.Cores.{IsIntact};
+ghost use Rattle.node_inputs.specs.Lives.{AskNobody, IsUp, IsAfterAppend, no_draft};
+ghost use Rattle.node_inputs.specs.Trails.{Trail};
 ghost use Rattle.node_turn.specs.Windows.{PassesOn};
 
-use crate::cores::StoredCore;
-use crate::drafts::TurnDraft;
 use crate::lookups::stamp_asked;
-use effect_form::Effect;
-use medium_port::Medium;
-use message_form::Out;
-use pseudo_time::{Decision, NodeId, NodeKind, Stamp};
+use node_inputs::{
+    Clock, Decision, Effect, Fates, Medium, NodeId, NodeKind, Out, SharedWire, Stamp, StoreFault,
+    StoredCore, TurnDraft, WirePass,
+};
 use std::alloc::{AllocError, Global};
 use std::sync::Wait;
-use stream_port::{Clock, Fates};
-use version_store::StoreFault;
-use wire_lock::{SharedWire, WirePass};
 
 // Whether a message leaves at the gate: all but a repository's Ask for an attempt that its log knows.
 fn leaves<K: StoredCore<M>, M: Medium>(node: NodeId, core: &K, out: &Out) -> bool

@@ -1,4 +1,4 @@
-use pseudo_time::DownCause;
+use node_inputs::DownCause;
 
 /// How a node stands between two turns.
 #[derive(Clone, Copy, Debug, PartialEq, Eq)]

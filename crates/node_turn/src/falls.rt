@@ -1,22 +1,19 @@
 //! What follows a fault in a turn.
 ghost use Rattle.std.specs.Prelude.{◌≡◌, ◌≢◌, ◌≤◌, ◌<◌, ◌+◌, ◌-◌, [], true, ℕ, length, IsTrue, OnOk, OnErr};
-ghost use Rattle.seat_lock.specs.Words.{knows};
-ghost use Rattle.wire_lock.specs.Sights.{IsWirePass, IsOf, Looked, Crashes, life_at, flags_at};
-ghost use Rattle.node_turn.specs.Lives.{IsStruck, IsCause, Keeps};
-ghost use Rattle.node_turn.specs.Costs.{costs, PaysFor, cost_of_cause};
-ghost use Rattle.node_turn.specs.Trails.{Trail};
-ghost use Rattle.node_turn.specs.Nodes.{Grew};
+ghost use Rattle.node_inputs.specs.Words.{knows};
+ghost use Rattle.node_inputs.specs.Sights.{IsWirePass, IsOf, Looked, Crashes, life_at, flags_at};
+ghost use Rattle.node_inputs.specs.Lives.{IsStruck, IsCause};
+ghost use Rattle.node_turn.specs.Conditions.{Keeps};
+ghost use Rattle.node_inputs.specs.Costs.{costs, PaysFor, cost_of_cause};
+ghost use Rattle.node_inputs.specs.Trails.{Trail};
+ghost use Rattle.node_inputs.specs.Entries.{Grew};
 ghost use Rattle.node_turn.specs.Windows.{PassesOn};
 
 use crate::conditions::Condition;
-use crate::cores::StoredCore;
 use crate::hands::Hand;
-use medium_port::Medium;
-use pseudo_time::{DownCause, NodeId};
+use node_inputs::{Clock, DownCause, Fates, Medium, NodeId, SharedWire, StoredCore, WirePass};
 use std::alloc::{AllocError, Global};
 use std::sync::Wait;
-use stream_port::{Clock, Fates};
-use wire_lock::{SharedWire, WirePass};
 
 /// The node goes down. It is Wanting where the wire finds no memory for that.
 pub fn go_down<K: StoredCore<M>, F: Fates, C: Clock, M: Medium, R: Wait>(

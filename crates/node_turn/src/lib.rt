@@ -3,21 +3,14 @@
 
 mod closings;
 mod conditions;
-mod core_meanings;
-mod cores;
-mod drafts;
 mod falls;
 mod hands;
-mod inputs;
 mod lookups;
 mod nodes;
 mod openings;
 mod turns;
 
 pub use conditions::{Condition, Turned};
-pub use core_meanings::Meanings;
-pub use cores::StoredCore;
+pub use node_inputs::{Closed, Meanings, SharedWire, StoredCore, Told, Wire, WirePass};
 pub use nodes::Node;
 pub use openings::open_again;
-pub use wire_core::Wire;
-pub use wire_lock::{Closed, SharedWire, Told, WirePass};

@@ -1,25 +1,20 @@
 //! What a repository learns from the board before it asks.
 ghost use Rattle.std.specs.Prelude.{◌≡◌, ◌++◌, List, true, false, IsTrue, IfErr, IfSome, OnOk, IsErrOf};
-ghost use Rattle.pseudo_time.specs.Nodes.{is_broker};
-ghost use Rattle.stream_port.specs.Causes.{Rose};
-ghost use Rattle.effect_form.specs.declared.effects.Effect.{Effect};
-ghost use Rattle.object_history.specs.declared.steps.HistoryFault.TheVariants as fault;
-ghost use Rattle.seat_lock.specs.Words.{knows};
-ghost use Rattle.world_core.specs.Walks.{all_effects};
-ghost use Rattle.wire_lock.specs.Sights.{IsWirePass, life_at};
-ghost use Rattle.node_turn.specs.Lives.{IsUp, IsAfter, IsUnwritten};
-ghost use Rattle.node_turn.specs.Trails.{Seeks, IsSought, AreSought, stamp_asked};
+ghost use Rattle.node_inputs.specs.NodeNames.{is_broker};
+ghost use Rattle.node_inputs.specs.Causes.{Rose};
+ghost use Rattle.node_inputs.specs.Effect.{Effect};
+ghost use Rattle.node_inputs.specs.HistoryFault.TheVariants as fault;
+ghost use Rattle.node_inputs.specs.Words.{knows};
+ghost use Rattle.node_inputs.specs.Walks.{all_effects};
+ghost use Rattle.node_inputs.specs.Sights.{IsWirePass, life_at};
+ghost use Rattle.node_inputs.specs.Lives.{IsUp, IsAfter, IsUnwritten};
+ghost use Rattle.node_turn.specs.Seeks.{Seeks, IsSought, AreSought, stamp_asked};
 
-use crate::cores::StoredCore;
-use crate::drafts::TurnDraft;
-use crate::inputs::added;
-use medium_port::Medium;
-use message_form::{Message, Out};
-use object_history::HistoryFault;
-use pseudo_time::{NodeId, NodeKind, Stamp};
+use node_inputs::{
+    Clock, Fates, HistoryFault, Medium, Message, NodeId, NodeKind, Out, SharedWire, Stamp,
+    StoredCore, TurnDraft, WirePass, added,
+};
 use std::sync::Wait;
-use stream_port::{Clock, Fates};
-use wire_lock::{SharedWire, WirePass};
 
 // Whether the node is a broker.
 pub fn is_broker(node: NodeId) -> bool

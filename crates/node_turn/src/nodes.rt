@@ -1,21 +1,17 @@
 //! A node: its core with its medium, and its pass.
 ghost use Rattle.std.specs.Prelude.{◌≡◌, [], false, IsTrue, IfOk};
-ghost use Rattle.seat_lock.specs.Words.{knows};
-ghost use Rattle.wire_lock.specs.Sights.{IsOf, IsWirePass, Looked, base_at, life_at};
-ghost use Rattle.node_turn.specs.Lives.{IsUp, no_draft};
+ghost use Rattle.node_inputs.specs.Words.{knows};
+ghost use Rattle.node_inputs.specs.Sights.{IsOf, IsWirePass, Looked, base_at, life_at};
+ghost use Rattle.node_inputs.specs.Lives.{IsUp, no_draft};
 ghost use Rattle.node_turn.specs.Nodes.{TurnsTo, MeetsWith, IsAtRest, IsCondition, Answers, new_node, sight};
 
 use crate::conditions::{Condition, Turned};
-use crate::cores::StoredCore;
 use crate::hands::Hand;
 use crate::turns::work;
-use medium_port::Medium;
-use pseudo_time::NodeId;
+use node_inputs::{Clock, Fates, Medium, NodeId, SharedWire, StoredCore, WirePass};
 use std::alloc::{AllocError, Global};
 use std::marker::Model;
 use std::sync::Wait;
-use stream_port::{Clock, Fates};
-use wire_lock::{SharedWire, WirePass};
 
 /// A node of a run: its core, its medium and its pass.
 ///
@@ -30,9 +26,9 @@ pub struct Node<K: StoredCore<M>, F: Fates, C: Clock, M: Medium> {
 
 impl<K: StoredCore<M>, F: Fates, C: Clock, M: Medium> Model for Node<K, F, C, M> {
     ghost use Rattle.std.specs.Coded.{codes};
-    ghost use Rattle.value_form.specs.contracts.scripts.Stmt as stmt;
-    ghost use Rattle.seat_lock.specs.Words.{knows};
-    ghost use Rattle.node_turn.specs.Lives.{Keeps};
+    ghost use Rattle.node_inputs.specs.StmtContracts as stmt;
+    ghost use Rattle.node_inputs.specs.Words.{knows};
+    ghost use Rattle.node_turn.specs.Conditions.{Keeps};
     ghost use Rattle.node_turn.specs.Nodes.{NodeParts};
 
     ghost Value = { NodeParts M };

@@ -1,16 +1,14 @@
 //! A medium that is opened anew.
 ghost use Rattle.std.specs.Prelude.{◌≡◌, ◌≤◌, ◌↔◌, false, Ok, Err, List, ℕ, IsTrue, IfOk, IfErr, length};
-ghost use Rattle.stream_port.specs.Causes.{Rose};
-ghost use Rattle.medium_port.specs.Image.{Image, Only, NoMore};
-ghost use Rattle.medium_port.specs.Moment.{LeavesOnly};
-ghost use Rattle.effect_form.specs.Effects.{AreEffects};
-ghost use Rattle.version_store.specs.Storage.{storage};
-ghost use Rattle.version_store.specs.StoreWords.{medium_of, effects_in, opened};
+ghost use Rattle.node_inputs.specs.Causes.{Rose};
+ghost use Rattle.node_inputs.specs.Image.{Image, Only, NoMore};
+ghost use Rattle.node_inputs.specs.Moment.{LeavesOnly};
+ghost use Rattle.node_inputs.specs.Effects.{AreEffects};
+ghost use Rattle.node_inputs.specs.Storage.{storage};
+ghost use Rattle.node_inputs.specs.StoreWords.{medium_of, effects_in, opened};
 
-use effect_form::Effect;
-use medium_port::Medium;
+use node_inputs::{Effect, Medium, OpenFault, Store};
 use std::alloc::Global;
-use version_store::{OpenFault, Store};
 
 /// Opens a medium anew, and its store with the effects that are found.
 pub fn open_again<M: Medium>(

@@ -1,33 +1,31 @@
 //! The turn of a node that is up.
 ghost use Rattle.std.specs.Prelude.{◌≡◌, ◌≢◌, ◌||◌, ◌≤◌, ◌<◌, ◌++◌, [], true, false, ℕ, List, IsTrue, MatchBool};
-ghost use Rattle.stream_port.specs.Causes.{Rose};
-ghost use Rattle.pseudo_time.specs.Lists.{Has};
-ghost use Rattle.pseudo_time.specs.Nodes.{is_broker};
-ghost use Rattle.seat_lock.specs.Words.{knows};
-ghost use Rattle.wire_core.specs.Changes.{owed};
-ghost use Rattle.wire_lock.specs.Sights.{IsWirePass, world_at};
-ghost use Rattle.node_turn.specs.Lives.{IsUp, IsAfter, Keeps, NamesPage, no_draft};
-ghost use Rattle.node_turn.specs.Costs.{costs, PaysFor};
-ghost use Rattle.node_turn.specs.Trails.{Trail, HasTested};
-ghost use Rattle.node_turn.specs.Nodes.{Adds, Grew, StaysWhole, IsQuiet};
+ghost use Rattle.node_inputs.specs.Causes.{Rose};
+ghost use Rattle.node_inputs.specs.Lists.{Has};
+ghost use Rattle.node_inputs.specs.NodeNames.{is_broker};
+ghost use Rattle.node_inputs.specs.Words.{knows};
+ghost use Rattle.node_inputs.specs.Changes.{owed};
+ghost use Rattle.node_inputs.specs.Sights.{IsWirePass, world_at};
+ghost use Rattle.node_inputs.specs.Lives.{IsUp, IsAfter, no_draft};
+ghost use Rattle.node_turn.specs.Conditions.{Keeps, NamesPage};
+ghost use Rattle.node_inputs.specs.Costs.{costs, PaysFor};
+ghost use Rattle.node_inputs.specs.Trails.{Trail};
+ghost use Rattle.node_turn.specs.Seeks.{HasTested};
+ghost use Rattle.node_turn.specs.Nodes.{StaysWhole};
+ghost use Rattle.node_inputs.specs.Entries.{Adds, Grew, IsQuiet};
 ghost use Rattle.node_turn.specs.Windows.{PassesOn};
 
 use crate::closings::close;
 use crate::conditions::Condition;
-use crate::cores::StoredCore;
-use crate::drafts::TurnDraft;
 use crate::falls::{go_down, open_anew};
 use crate::hands::Hand;
-use crate::inputs::{begin, take_more};
 use crate::lookups::{is_broker, look_up_all};
-use medium_port::Medium;
-use object_history::HistoryFault;
-use pseudo_time::{DownCause, NodeId};
+use node_inputs::{
+    Clock, DownCause, Fates, HistoryFault, Medium, NodeId, SharedWire, StoreFault, StoredCore,
+    TurnDraft, WirePass, begin, take_more,
+};
 use std::alloc::Global;
 use std::sync::Wait;
-use stream_port::{Clock, Fates};
-use version_store::StoreFault;
-use wire_lock::{SharedWire, WirePass};
 
 // What follows a fault of the core.
 fn give_up<K: StoredCore<M>, F: Fates, C: Clock, M: Medium, R: Wait>(

@@ -8,9 +8,9 @@ use Rattle.object_history.specs.declared.steps.HistoryFault.{HistoryFault}
 use Rattle.repository_log.proofs.MarkLemmas.{knows-known}
 use Rattle.repository_core.specs.Cores.{Core, CoreState, given}
 use Rattle.repository_core.specs.Turns as turns
-use Rattle.world_core.specs.Cores.{IsRepository, RepositoryGave}
-use Rattle.world_core.specs.Nodes.{Input, repository_gives, with_hands, opened_mind, is_ready}
-use Rattle.world_core.proofs.CoreTurns.{repository-answers}
+use Rattle.node_turn.specs.WorldCores.{IsRepository, RepositoryGave}
+use Rattle.node_turn.specs.WorldNodes.{Input, repository_gives, with_hands, opened_mind, is_ready}
+use Rattle.node_turn.proofs.CoreTurns.{repository-answers}
 use Rattle.trace_logs.proofs.MarkLemmas.{knows-reverse}
 
 -- ---- turns

@@ -12,5 +12,5 @@ pub use Rattle.std.proofs.Common.{Bool, Err, IfOk, IsTrue, List, Ok, OnOk, Optio
 pub use Rattle.std.proofs.lemmas.List.{append-nil}
 pub use Rattle.stream_port.specs.Causes.{Rose}
 pub use Rattle.version_store.specs.StoreWords.{medium_of}
-pub use Rattle.world_core.specs.Nodes.Input.{Hearing, Learning, Taking}
-pub use Rattle.world_core.specs.Walks.{Base, Life, after_input, all_effects, gated_life, opened_life, opened_log}
+pub use Rattle.node_turn.specs.WorldNodes.Input.{Hearing, Learning, Taking}
+pub use Rattle.node_turn.specs.Walks.{Base, Life, after_input, all_effects, gated_life, opened_life, opened_log}

@@ -7,8 +7,8 @@ use Rattle.object_history.specs.declared.marks.Mark.{Mark}
 use Rattle.object_header.specs.Ledgers.{content}
 use Rattle.object_header.specs.Tables.{ledger_of, store_of}
 use Rattle.repository_core.specs.Cores.{HasMarks}
-use Rattle.world_core.specs.Cores.{IsRepository}
-use Rattle.world_core.specs.Walks.{Life, all_effects}
+use Rattle.node_turn.specs.WorldCores.{IsRepository}
+use Rattle.node_turn.specs.Walks.{Life, all_effects}
 use Rattle.repository_node.specs.declared.kept_cores.KeptCore.{KeptCore}
 use Rattle.repository_node.specs.declared.kept_cores.KeptCore.TheVariants.{Open, Shut}
 

@@ -4,7 +4,7 @@ ghost use Rattle.pseudo_time.specs.Nodes.{repository};
 ghost use Rattle.effect_form.specs.Effects.{AreEffects};
 ghost use Rattle.version_store.specs.StoreWords.{medium_of, effects_in};
 ghost use Rattle.seat_lock.specs.Words.{knows};
-ghost use Rattle.world_core.specs.Walks.{opened_log};
+ghost use Rattle.node_turn.specs.Walks.{opened_log};
 ghost use Rattle.node_turn.specs.Sights.{IsOf, origin_at};
 ghost use Rattle.node_turn.specs.Nodes.{new_node};
 

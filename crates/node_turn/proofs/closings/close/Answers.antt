@@ -1,7 +1,7 @@
 use Rattle.node_turn.proofs.Names.{Effect, AskNobody, knows, base_at, life_at, ◌∙◌, sym, ap, subst, arith, List, length}
-use Rattle.wire_lock.specs.Decisions.{decided_by}
-use Rattle.node_turn.proofs.LifeLemmas.{on-ok, on-err, up-stored, stored-looked}
-use Rattle.node_turn.proofs.TrailLemmas.{trail-none, trail-looked, trail-gated}
+use Rattle.node_inputs.specs.Decisions.{decided_by}
+use Rattle.node_inputs.proofs.LifeLemmas.{on-ok, on-err, up-stored, stored-looked}
+use Rattle.node_inputs.proofs.TrailLemmas.{trail-none, trail-looked, trail-gated}
 use Rattle.node_turn.proofs.AppendLemmas.{appended-at, full-same, cause-append, after-append, stored-appended, up-gated, owed-is}
 use Rattle.node_turn.proofs.PhaseLemmas.{passes-stored, passes-appended, passes-ungated, passes-closed}
 use Rattle.node_turn.proofs.closings.close.Goals as goal

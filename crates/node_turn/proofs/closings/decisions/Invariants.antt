@@ -1,5 +1,5 @@
 use Rattle.std.proofs.Common.{◌≡◌, take}
-use Rattle.wire_lock.specs.Decisions.{decided_by}
+use Rattle.node_inputs.specs.Decisions.{decided_by}
 use Rattle.node_turn.proofs.closings.decisions.Given as goal
 
 abbrev pub invariant-loop-effect : goal.invariant-loop-effect

@@ -1,7 +1,7 @@
 use Rattle.node_turn.proofs.Names.{Out, AreOuts, leaves, all_effects, ◌++◌, ◌∷◌, [], List, ◌∙◌, sym, ap, subst, filter}
 use Rattle.std.proofs.lemmas.List.Elements.{filter-append}
-use Rattle.pseudo_time.proofs.ListLemmas.{every-left, every-right}
-use Rattle.broker_laws.specs.Works.{AsksNobody}
+use Rattle.node_inputs.proofs.ListLemmas.{every-left, every-right}
+use Rattle.node_inputs.specs.Works.{AsksNobody}
 use Rattle.node_turn.proofs.closings.leaving.Goals as goal
 
 pub loop-out-preserved : goal.loop-out-preserved

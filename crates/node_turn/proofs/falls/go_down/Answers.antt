@@ -1,6 +1,6 @@
 use Rattle.node_turn.proofs.Names.{knows, cost_of_cause, same_node-refl, refl, [], arith, ◌+◌}
-use Rattle.node_turn.proofs.LifeLemmas.{on-ok, on-err, stored-looked}
-use Rattle.node_turn.proofs.TrailLemmas.{trail-looked, trail-added}
+use Rattle.node_inputs.proofs.LifeLemmas.{on-ok, on-err, stored-looked}
+use Rattle.node_inputs.proofs.TrailLemmas.{trail-looked, trail-added}
 use Rattle.node_turn.proofs.FallLemmas.{had-nothing, down-fallen}
 use Rattle.node_turn.proofs.PhaseLemmas.{passes-seen, passes-fallen}
 use Rattle.node_turn.proofs.falls.go_down.Goals as goal

@@ -1,7 +1,7 @@
 use Rattle.node_turn.proofs.Names.{knows, base_at, costs, PaysFor, ◌<◌, ◌+◌, ◌∙◌, ℕ, refl, sym, subst, arith, [], up-known}
 use Rattle.node_turn.proofs.CostLemmas.{pays-none}
-use Rattle.node_turn.proofs.LifeLemmas.{on-ok, on-err, stored-looked}
-use Rattle.node_turn.proofs.TrailLemmas.{trail-none, trail-looked, trail-added, trail-cost, grew-added}
+use Rattle.node_inputs.proofs.LifeLemmas.{on-ok, on-err, stored-looked}
+use Rattle.node_inputs.proofs.TrailLemmas.{trail-none, trail-looked, trail-added, trail-cost, grew-added}
 use Rattle.node_turn.proofs.PhaseLemmas.{passes-on, passes-reopened, passes-unnoted, passes-crashed}
 use Rattle.node_turn.proofs.FallLemmas.{crash-few, up-crashed, stored-reopened, struck-reopened, opening-cause, opening-pays, opening-dear}
 use Rattle.node_turn.proofs.falls.open_anew.Goals as goal

@@ -1,8 +1,8 @@
 use Rattle.node_turn.proofs.Names.{is_broker, NodeId, knows, Life, all_effects, Learning, place_of, Decided, base_at, life_at, flags_at, ◌≡◌, ◌∙◌, ap, refl, sym, subst, [], ◌∷◌, inl, inr, true, is_known}
-use Rattle.node_turn.proofs.LifeLemmas.{on-ok, on-err, learned-up, up-added, after-added, cause-added, up-tested, up-stored, stored-looked, life-tested, life-looked, log-same, log-told, log-joins}
-use Rattle.node_turn.proofs.TrailLemmas.{trail-looked, trail-added, trail-tested, trail-joins}
+use Rattle.node_inputs.proofs.LifeLemmas.{on-ok, on-err, learned-up, up-added, after-added, cause-added, up-tested, up-stored, stored-looked, life-tested, life-looked, log-same, log-told, log-joins}
+use Rattle.node_inputs.proofs.TrailLemmas.{trail-looked, trail-added, trail-tested, trail-joins}
 use Rattle.node_turn.proofs.SeekLemmas.{sought-learnt, seeks-none, none-found, all-found, missed-one, found-one}
-use Rattle.node_turn.proofs.KnowsLemmas.{told-knows}
+use Rattle.node_inputs.proofs.KnowsLemmas.{told-knows}
 use Rattle.node_turn.proofs.lookups.look_up.Goals as goal
 
 pub returns-then-knows-clause-seeks : goal.returns-then-knows-clause-seeks

@@ -1,5 +1,5 @@
 use Rattle.node_turn.proofs.Names.{knows, all_effects, life_at, Out, stamp_asked, ◌≡◌, ◌∙◌, refl, sym, ap, subst, true, false, List, length, ◌<◌, get_or}
-use Rattle.node_turn.proofs.LifeLemmas.{on-ok, unwritten-none, unwritten-joins}
+use Rattle.node_inputs.proofs.LifeLemmas.{on-ok, unwritten-none, unwritten-joins}
 use Rattle.node_turn.proofs.SeekLemmas.{seeks-none, seeks-joins, sought-none, sought-next}
 use Rattle.node_turn.proofs.lookups.look_up_all.Goals as goal
 

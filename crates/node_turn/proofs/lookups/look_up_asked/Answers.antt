@@ -1,4 +1,4 @@
-use Rattle.seat_lock.specs.Words.{knows}
+use Rattle.node_inputs.specs.Words.{knows}
 use Rattle.node_turn.proofs.SeekLemmas.{seeks-none, none-of}
 use Rattle.node_turn.proofs.lookups.look_up_asked.Goals as goal
 

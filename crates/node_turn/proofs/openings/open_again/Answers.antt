@@ -1,5 +1,5 @@
 use Rattle.node_turn.proofs.Names.{⊎_elim, EitherSide, joins}
-use Rattle.version_store.specs.StoreWords.{opened}
+use Rattle.node_inputs.specs.StoreWords.{opened}
 use Rattle.node_turn.proofs.openings.open_again.Goals as goal
 
 -- what the medium's reopening left, and then what opening its store left

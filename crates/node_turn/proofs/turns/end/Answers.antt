@@ -1,7 +1,7 @@
 use Rattle.node_turn.proofs.Names.{knows, owed, world_at, IsIntact, IsStruck, ◌+◌, ◌∙◌, refl, sym, ap, subst, arith, [], Err}
 use Rattle.node_turn.proofs.CostLemmas.{pays-none, pays-one}
-use Rattle.node_turn.proofs.LifeLemmas.{on-ok, if-ok, on-err, if-err}
-use Rattle.node_turn.proofs.TrailLemmas.{trail-joins, trail-cost}
+use Rattle.node_inputs.proofs.LifeLemmas.{on-ok, if-ok, on-err, if-err}
+use Rattle.node_inputs.proofs.TrailLemmas.{trail-joins, trail-cost}
 use Rattle.node_turn.proofs.PageLemmas.{whole-same}
 use Rattle.node_turn.proofs.PhaseLemmas.{passes-on}
 use Rattle.node_turn.proofs.turns.end.Goals as goal

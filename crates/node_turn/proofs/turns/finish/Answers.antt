@@ -1,9 +1,9 @@
 use Rattle.node_turn.proofs.Names.{knows, Image, Out, IsIntact, all_effects, life_at, IsAfter, AreSought, ◌+◌, ◌∙◌, List, sym, ap, subst, arith, Err}
 use Rattle.node_turn.proofs.CostLemmas.{pays-none}
-use Rattle.node_turn.proofs.LifeLemmas.{on-ok, if-err}
+use Rattle.node_inputs.proofs.LifeLemmas.{on-ok, if-err}
 use Rattle.node_turn.proofs.PhaseLemmas.{passes-on, passes-up, passes-after}
 use Rattle.node_turn.proofs.SeekLemmas.{seeks-weaker, tested-none, tested-seeks, tested-after, tested-before, tested-sent}
-use Rattle.node_turn.proofs.TrailLemmas.{trail-joins, trail-cost}
+use Rattle.node_inputs.proofs.TrailLemmas.{trail-joins, trail-cost}
 use Rattle.node_turn.proofs.turns.finish.Goals as goal
 
 pub give_up-requires-clause-after : goal.give_up-requires-clause-after

@@ -1,7 +1,7 @@
 use Rattle.node_turn.proofs.Names.{HistoryFault, knows, refl, sym, subst, arith, NamesPage}
 use Rattle.node_turn.specs.declared.conditions.Condition.TheVariants as condition
 use Rattle.node_turn.proofs.CostLemmas.{pays-none, pays-one}
-use Rattle.node_turn.proofs.TrailLemmas.{trail-none, trail-cost}
+use Rattle.node_inputs.proofs.TrailLemmas.{trail-none, trail-cost}
 use Rattle.node_turn.proofs.PhaseLemmas.{passes-stored}
 use Rattle.node_turn.proofs.turns.give_up.Goals as goal
 

@@ -1,10 +1,10 @@
 use Rattle.node_turn.proofs.Names.{knows, Image, is_broker, IsIntact, DraftParts, IsUp, IsAfter, ◌+◌, ◌∙◌, ◌||◌, Bool, refl, sym, ap, subst, arith, Ok, Err, true, false}
 use Rattle.node_turn.proofs.CostLemmas.{pays-none}
-use Rattle.node_turn.proofs.LifeLemmas.{if-ok, if-err, either-gone}
+use Rattle.node_inputs.proofs.LifeLemmas.{if-ok, if-err, either-gone}
 use Rattle.node_turn.proofs.PhaseLemmas.{passes-on, passes-up, passes-after, up-new}
 use Rattle.node_turn.proofs.PageLemmas.{whole-same}
 use Rattle.node_turn.proofs.SeekLemmas.{tested-none, tested-after}
-use Rattle.node_turn.proofs.TrailLemmas.{trail-joins, trail-cost, adds-more, grew-more, more-grew}
+use Rattle.node_inputs.proofs.TrailLemmas.{trail-joins, trail-cost, adds-more, grew-more, more-grew}
 use Rattle.node_turn.proofs.turns.work.Goals as goal
 
 pub give_up-pass-requires-clause-after : goal.give_up-pass-requires-clause-after

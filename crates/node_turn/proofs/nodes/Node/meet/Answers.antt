@@ -1,4 +1,4 @@
-use Rattle.seat_lock.specs.Words.{knows}
+use Rattle.node_inputs.specs.Words.{knows}
 use Rattle.node_turn.proofs.NodeLemmas.{keeps-looked}
 use Rattle.node_turn.proofs.nodes.Node.meet.Goals as goal
 

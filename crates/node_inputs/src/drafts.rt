@@ -1,5 +1,5 @@
 ghost use Rattle.std.specs.Prelude.{◌≡◌, ◌++◌, OnOk};
-ghost use Rattle.node_turn.specs.Lives.{no_draft};
+ghost use Rattle.node_inputs.specs.Lives.{no_draft};
 
 use effect_form::Effect;
 use message_form::{Out, Turn};
@@ -15,7 +15,7 @@ pub struct TurnDraft {
 }
 
 impl Model for TurnDraft {
-    ghost use Rattle.node_turn.specs.Lives.{DraftParts};
+    ghost use Rattle.node_inputs.specs.Lives.{DraftParts};
 
     ghost Value = { DraftParts };
 

@@ -1,5 +1,5 @@
 -- A log that knows an attempt: it does so in whatever order it stands, and after the attempt was learned.
-use Rattle.node_turn.proofs.Names.{StampParts, NodeId, NodeKind, Repository, Broker, is_broker, ActSpec, Effect, Tree, is_for, decided_by, Mind, gives, kind_gives, Learning, Base, Life, all_effects, after_input, ◌≡◌, ℕ, Bool, true, false, ◌||◌, List, [], ◌∷◌, ◌++◌, reverse, Option, Some, None, is_some, refl, sym, ap, subst, ◌∙◌, append_assoc, ◌==◌, not, if◌then◌else◌, reverse-append, reverse-reverse, filter}
+use Rattle.node_inputs.proofs.Names.{StampParts, NodeId, NodeKind, Repository, Broker, is_broker, ActSpec, Effect, Tree, is_for, decided_by, Mind, gives, kind_gives, Learning, Base, Life, all_effects, after_input, ◌≡◌, ℕ, Bool, true, false, ◌||◌, List, [], ◌∷◌, ◌++◌, reverse, Option, Some, None, is_some, refl, sym, ap, subst, ◌∙◌, append_assoc, ◌==◌, not, if◌then◌else◌, reverse-append, reverse-reverse, filter}
 use Rattle.pseudo_time.specs.TimeParts.{TimeParts}
 use Rattle.pseudo_time.specs.Order.{same_stamp}
 use Rattle.pseudo_time.proofs.OrderLemmas.{same_stamp-self}

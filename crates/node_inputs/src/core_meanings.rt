@@ -2,7 +2,7 @@
 ghost use Rattle.std.specs.Prelude.{List};
 ghost use Rattle.effect_form.specs.declared.effects.Effect.{Effect};
 ghost use Rattle.world_core.specs.Walks.{Base, Life};
-ghost use Rattle.node_turn.specs.CoreParts.{CoreParts};
+ghost use Rattle.node_inputs.specs.CoreParts.{CoreParts};
 
 use medium_port::Medium;
 

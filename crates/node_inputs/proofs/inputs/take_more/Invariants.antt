@@ -1,5 +1,5 @@
-use Rattle.node_turn.proofs.Names.{knows, IsWirePass, IsUp, IsUnwritten, Trail, ◌≡◌, [], true}
-use Rattle.node_turn.proofs.inputs.take_more.Given as goal
+use Rattle.node_inputs.proofs.Names.{knows, IsWirePass, IsUp, IsUnwritten, Trail, ◌≡◌, [], true}
+use Rattle.node_inputs.proofs.inputs.take_more.Given as goal
 
 abbrev pub invariant-loop : goal.invariant-loop
 invariant-loop g l = record {

@@ -1,5 +1,5 @@
 -- What visits and tests leave of a trail.
-use Rattle.node_turn.proofs.Names.{StampParts, NodeId, same_node-refl, Out, CarriesOn, Entry, Take, Go, Learn, Hear, Gate, Crash, Down, Tick, leaves, Base, Life, Flags, World, names, own, all_effects, start_world, step, walk_from, walk, owner_of, place_of, owed, Decided, Sight, origin_in, base_at, world_at, IsOf, Owns, Looked, Added, Gated, Tested, WireParts, base_from, own-same, costs, Adds, Grew, Trail, ◌≡◌, ℕ, ◌+◌, Bool, false, List, [], ◌∷◌, ◌++◌, Option, if◌then◌else◌, filter, refl, ap, sym, ◌∙◌, arith, append_assoc, append-nil, walk-append, cost_of, gates, sent_from, learned_by, learned_in}
+use Rattle.node_inputs.proofs.Names.{StampParts, NodeId, same_node-refl, Out, CarriesOn, Entry, Take, Go, Learn, Hear, Gate, Crash, Down, Tick, leaves, Base, Life, Flags, World, names, own, all_effects, start_world, step, walk_from, walk, owner_of, place_of, owed, Decided, Sight, origin_in, base_at, world_at, IsOf, Owns, Looked, Added, Gated, Tested, WireParts, base_from, own-same, costs, Adds, Grew, Trail, ◌≡◌, ℕ, ◌+◌, Bool, false, List, [], ◌∷◌, ◌++◌, Option, if◌then◌else◌, filter, refl, ap, sym, ◌∙◌, arith, append_assoc, append-nil, walk-append, cost_of, gates, sent_from, learned_by, learned_in}
 use Rattle.world_core.proofs.Others.{Silent, silent-more}
 
 -- ---- what is sent

@@ -6,10 +6,10 @@ ghost use Rattle.object_history.specs.declared.steps.HistoryFault.TheVariants as
 ghost use Rattle.seat_lock.specs.Words.{knows};
 ghost use Rattle.world_core.specs.Legal.{is_behind};
 ghost use Rattle.wire_lock.specs.Sights.{IsWirePass, world_at};
-ghost use Rattle.node_turn.specs.Lives.{IsUp, IsAfter, IsUnwritten};
-ghost use Rattle.node_turn.specs.Trails.{Trail};
-ghost use Rattle.node_turn.specs.Came.{arrived, Took};
-ghost use Rattle.node_turn.specs.Nodes.{Grew, IsQuiet};
+ghost use Rattle.node_inputs.specs.Lives.{IsUp, IsAfter, IsUnwritten};
+ghost use Rattle.node_inputs.specs.Trails.{Trail};
+ghost use Rattle.node_inputs.specs.Came.{arrived, Took};
+ghost use Rattle.node_inputs.specs.Entries.{Grew, IsQuiet};
 
 use crate::cores::StoredCore;
 use crate::drafts::TurnDraft;

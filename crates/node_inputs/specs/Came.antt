@@ -3,9 +3,9 @@ use Rattle.std.specs.Prelude.{◌≡◌, Bool, true, false}
 use Rattle.pseudo_time.specs.declared.nodes.NodeId.{NodeId}
 use Rattle.world_core.specs.Legal.{is_behind}
 use Rattle.wire_lock.specs.Sights.{Sight, world_at}
-use Rattle.node_turn.specs.declared.inputs.Came.{Came}
-use Rattle.node_turn.specs.declared.inputs.Came.TheVariants.{Behind, Nothing, Arrived}
-use Rattle.node_turn.specs.Nodes.{Grew}
+use Rattle.node_inputs.specs.declared.inputs.Came.{Came}
+use Rattle.node_inputs.specs.declared.inputs.Came.TheVariants.{Behind, Nothing, Arrived}
+use Rattle.node_inputs.specs.Entries.{Grew}
 
 abbrev pub arrived : Came → Bool
 arrived Behind = false

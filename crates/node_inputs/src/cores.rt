@@ -6,7 +6,7 @@ ghost use Rattle.message_form.specs.Ranges.{AreEffects};
 ghost use Rattle.repository_log.specs.Logs.{knows};
 ghost use Rattle.world_core.specs.Nodes.Input.{Going, Taking, Learning, Hearing};
 ghost use Rattle.world_core.specs.Walks.{Base, Life, all_effects};
-ghost use Rattle.node_turn.specs.Cores.{IsGiven, IsAppended, IsReopened};
+ghost use Rattle.node_inputs.specs.Cores.{IsGiven, IsAppended, IsReopened};
 
 use crate::core_meanings::Meanings;
 use effect_form::Effect;

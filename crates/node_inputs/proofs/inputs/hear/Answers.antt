@@ -1,7 +1,7 @@
-use Rattle.node_turn.proofs.Names.{refl, [], ap, with_due}
-use Rattle.node_turn.proofs.LifeLemmas.{if-ok, on-err, up-added, after-added, cause-added, up-stored, stored-looked}
-use Rattle.node_turn.proofs.TrailLemmas.{trail-looked, trail-added}
-use Rattle.node_turn.proofs.inputs.hear.Goals as goal
+use Rattle.node_inputs.proofs.Names.{refl, [], ap, with_due}
+use Rattle.node_inputs.proofs.LifeLemmas.{if-ok, on-err, up-added, after-added, cause-added, up-stored, stored-looked}
+use Rattle.node_inputs.proofs.TrailLemmas.{trail-looked, trail-added}
+use Rattle.node_inputs.proofs.inputs.hear.Goals as goal
 
 pub returns-in-Err-clause-trail : goal.returns-in-Err-clause-trail
 returns-in-Err-clause-trail g c = trail-looked c.args.node c.requires.up.own c.requires.pass.own (on-err _ _ _ c.in-Err.is c.hear-pass.ensures.err)

@@ -1,8 +1,8 @@
-use Rattle.node_turn.proofs.Names.{refl, ◌∙◌, knows}
-use Rattle.node_turn.specs.Came.{arrived}
-use Rattle.node_turn.proofs.LifeLemmas.{if-ok, unwritten-none, unwritten-joins, up-or}
-use Rattle.node_turn.proofs.TrailLemmas.{trail-none, trail-joins}
-use Rattle.node_turn.proofs.inputs.take_more.Goals as goal
+use Rattle.node_inputs.proofs.Names.{refl, ◌∙◌, knows}
+use Rattle.node_inputs.specs.Came.{arrived}
+use Rattle.node_inputs.proofs.LifeLemmas.{if-ok, unwritten-none, unwritten-joins, up-or}
+use Rattle.node_inputs.proofs.TrailLemmas.{trail-none, trail-joins}
+use Rattle.node_inputs.proofs.inputs.take_more.Goals as goal
 
 pub loop-init : goal.loop-init
 loop-init g c = record { pass = c.requires.pass; up = c.requires.up; durable = refl; trail = trail-none c.args.node (knows c.args.pass); unwritten = unwritten-none _ _ }

@@ -20,7 +20,7 @@ use Rattle.version_store.specs.Filling.{HasPrefix, KeepsPages, StaysClean, filli
 use Rattle.version_store.specs.Storage.{storage}
 use Rattle.world_core.specs.Nodes.{Input, Given, gives, is_ready}
 use Rattle.world_core.specs.Walks.{Base, Life, all_effects, opened_life, gated_life, after_input}
-use Rattle.node_turn.specs.declared.core_meanings.Meanings.{Ghosts as Meanings}
+use Rattle.node_inputs.specs.declared.core_meanings.Meanings.{Ghosts as Meanings}
 
 -- a crash leaves no image but those of this log
 abbrev pub LeavesLog : (Image → Type 0) → List Effect → Type 0

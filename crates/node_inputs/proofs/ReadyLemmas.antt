@@ -1,7 +1,7 @@
 -- With any beginning of what a turn adds a node's log is ready, and a broker asks nobody.
 use Rattle.std.proofs.lemmas.List.{append-nil, length-append, take-append-drop, take-append-le, take_all, length-take-le, length-reverse, reverse-append, reverse-reverse}
 use Rattle.std.proofs.Math.Seq.{take-append_seam, take-append-add}
-use Rattle.node_turn.proofs.Names.{every-append, NodeId, NodeKind, Repository, Broker, is_broker, ActSpec, Effect, Out, Tree, Mind, Input, gives, kind_gives, Learning, Base, Life, all_effects, after_input, IsReady, given_for, StaysReady, AskNobody, ◌≡◌, ℕ, zero, suc, ◌+◌, ◌-◌, ◌≤◌, true, List, [], ◌++◌, length, take, drop, reverse, Option, None, Some, is_none, refl, sym, ap, subst, ◌∙◌, arith, ⊎_elim, append_assoc, ◌<◌, cases_lt, is_ready, kind_ready, broker_ready, acts_of, Going, Taking, Hearing}
+use Rattle.node_inputs.proofs.Names.{every-append, NodeId, NodeKind, Repository, Broker, is_broker, ActSpec, Effect, Out, Tree, Mind, Input, gives, kind_gives, Learning, Base, Life, all_effects, after_input, IsReady, given_for, StaysReady, AskNobody, ◌≡◌, ℕ, zero, suc, ◌+◌, ◌-◌, ◌≤◌, true, List, [], ◌++◌, length, take, drop, reverse, Option, None, Some, is_none, refl, sym, ap, subst, ◌∙◌, arith, ⊎_elim, append_assoc, ◌<◌, cases_lt, is_ready, kind_ready, broker_ready, acts_of, Going, Taking, Hearing}
 use Rattle.broker_core.specs.Fits.{resume_fault}
 use Rattle.broker_core.specs.Tasks.{tasks}
 use Rattle.broker_core.specs.Turns as desks

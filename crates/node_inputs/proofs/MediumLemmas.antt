@@ -1,5 +1,5 @@
 -- What an append and an opening leave of a medium, for the cores that keep their log on it.
-use Rattle.node_turn.proofs.Names.{Rose, Image, NoMore, NodeId, is_blank, Effect, OpenFault, StoreFault, HasPrefix, filling, storage, Base, Life, gated_life, IsIntact, LeavesLog, IsFull, IsAppended, IsReopened, ◌≡◌, ◌≢◌, ℕ, ◌≤◌, ◌<◌, ◌+◌, true, List, [], ◌++◌, length, Result, Ok, Err, IsTrue, IfErr, OnOk, sym, ap, subst, ◌∙◌, arith, count_by, IsErrOf, IsImage, LeavesOnly, Media, KeepsPages, StaysClean, effects_found, log_of, Meanings, HasGrown, IsDamageOf}
+use Rattle.node_inputs.proofs.Names.{Rose, Image, NoMore, NodeId, is_blank, Effect, OpenFault, StoreFault, HasPrefix, filling, storage, Base, Life, gated_life, IsIntact, LeavesLog, IsFull, IsAppended, IsReopened, ◌≡◌, ◌≢◌, ℕ, ◌≤◌, ◌<◌, ◌+◌, true, List, [], ◌++◌, length, Result, Ok, Err, IsTrue, IfErr, OnOk, sym, ap, subst, ◌∙◌, arith, count_by, IsErrOf, IsImage, LeavesOnly, Media, KeepsPages, StaysClean, effects_found, log_of, Meanings, HasGrown, IsDamageOf}
 use Rattle.effect_form.specs.Effects.{AreEffects}
 use Rattle.version_store.specs.declared.faults.OpenFault.TheVariants as opening
 use Rattle.version_store.specs.declared.faults.StoreFault.TheVariants as adding

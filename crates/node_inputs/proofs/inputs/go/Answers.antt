@@ -1,7 +1,7 @@
-use Rattle.node_turn.proofs.Names.{is_broker, NodeId, knows, flags_at, ◌∙◌, ap, refl, false, []}
-use Rattle.node_turn.proofs.LifeLemmas.{on-ok, on-err, went-up, up-added, after-added, cause-added, up-stored, stored-looked}
-use Rattle.node_turn.proofs.TrailLemmas.{trail-looked, trail-added}
-use Rattle.node_turn.proofs.inputs.go.Goals as goal
+use Rattle.node_inputs.proofs.Names.{is_broker, NodeId, knows, flags_at, ◌∙◌, ap, refl, false, []}
+use Rattle.node_inputs.proofs.LifeLemmas.{on-ok, on-err, went-up, up-added, after-added, cause-added, up-stored, stored-looked}
+use Rattle.node_inputs.proofs.TrailLemmas.{trail-looked, trail-added}
+use Rattle.node_inputs.proofs.inputs.go.Goals as goal
 
 pub returns-in-Err-clause-trail : goal.returns-in-Err-clause-trail
 returns-in-Err-clause-trail g c = trail-looked c.args.node c.requires.up.own c.requires.pass.own (on-err _ _ _ c.in-Err.is c.go-pass.ensures.err)

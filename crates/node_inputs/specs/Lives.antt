@@ -1,5 +1,5 @@
 -- What a node keeps of its life: while it is up, after a fault, and when it is down. Logs stand oldest first.
-use Rattle.std.specs.Prelude.{◌≡◌, ◌≢◌, ◌≤◌, ◌<◌, ℕ, Bool, true, false, List, [], ◌∷◌, ◌++◌, length, take, count_by, Ok, IsTrue}
+use Rattle.std.specs.Prelude.{◌≡◌, ◌≤◌, ◌<◌, ℕ, Bool, true, false, List, [], ◌∷◌, ◌++◌, length, take, count_by, Ok, IsTrue}
 use Rattle.pseudo_time.specs.Lists.{Every}
 use Rattle.pseudo_time.specs.declared.nodes.NodeId.{NodeId}
 use Rattle.pseudo_time.specs.Nodes.{is_broker}
@@ -22,10 +22,8 @@ use Rattle.world_core.specs.declared.entries.Entry.{Entry}
 use Rattle.world_core.specs.declared.entries.Entry.TheVariants.{Down}
 use Rattle.world_core.specs.Walks.{Base, Life, Flags}
 use Rattle.wire_lock.specs.Sights.{Sight, IsOf, base_at, life_at, flags_at}
-use Rattle.node_turn.specs.declared.conditions.Condition.{Condition}
-use Rattle.node_turn.specs.declared.conditions.Condition.TheVariants as condition
-use Rattle.node_turn.specs.declared.core_meanings.Meanings.{Ghosts as Meanings}
-use Rattle.node_turn.specs.Cores.{LeavesLog, IsReady}
+use Rattle.node_inputs.specs.declared.core_meanings.Meanings.{Ghosts as Meanings}
+use Rattle.node_inputs.specs.Cores.{LeavesLog, IsReady}
 
 -- what a turn has given so far, and how many effects are durable
 pub record DraftParts : Type 0 where
@@ -88,12 +86,6 @@ module _ {M : Type 0} (w : Media M) where
   IsCause (down.Damaged page) m l = IsTrue w.tells → ⊥
   IsCause (down.Full number) m l = (number ≡ w.page_count m) × (IsTrue w.tells → IsFullFor l (w.reads m))
 
--- a node that goes down for a damaged page of its core names that page
-abbrev pub NamesPage : HistoryFault → Condition → Type 0
-NamesPage fault.NoMemory c = Unit {0}
-NamesPage fault.Medium c = Unit {0}
-NamesPage (fault.Damaged page) c = c ≢ condition.Wanting → c ≡ condition.Down (down.Damaged page)
-
 -- The meanings are those of a type K of cores over media of a type M. `k` is what the node's pass has seen.
 module _ {K M : Type 0} (w : Media M) (m : Meanings K M) where
   -- what a crash may leave
@@ -147,9 +139,3 @@ module _ {K M : Type 0} (w : Media M) (m : Meanings K M) where
   IsAfterAppend adding.NoMemory core k n durable = IsStored core k n
   IsAfterAppend adding.Medium core k n durable = IsStruck core k n durable
   IsAfterAppend (adding.Full number) core k n durable = IsStruck core k n durable × IsCause w (down.Full number) (m.parts core).medium (life_at k n)
-
-  -- What a node keeps in each condition. Nothing is open between two turns, unless memory runs out.
-  abbrev pub Keeps : Condition → K → Sight → NodeId → Bool → ℕ → Type 0
-  Keeps condition.AtWork core k n gone durable = IsUp core k n gone false (no_draft durable)
-  Keeps (condition.Down cause) core k n gone durable = IsDown core k n cause
-  Keeps condition.Wanting core k n gone durable = IsStored core k n

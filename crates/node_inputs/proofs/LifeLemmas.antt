@@ -1,12 +1,12 @@
 -- What a node keeps of its life, from call to call.
-use Rattle.node_turn.proofs.Names.{every-append, StampParts, NodeId, NodeKind, Repository, Broker, is_broker, Rose, Image, NoMore, Effect, Out, AreEffects, AreOuts, HistoryFault, storage, Entry, Input, Base, Life, Flags, after_input, all_effects, walk, with_due, WireParts, base_from, Sight, origin_in, base_at, life_at, flags_at, IsOf, IsAsBefore, Looked, Added, Visited, Tested, given_for, DraftParts, IsKept, StaysReady, HasLife, up_flags, IsUnwritten, IsUp, IsStored, IsStruck, IsAfter, ◌≡◌, Bool, true, false, List, [], ◌++◌, length, Option, Result, Ok, Err, IsTrue, IfOk, IfErr, OnOk, OnErr, IsErrOf, ◌||◌, refl, sym, ap, subst, ◌∙◌, arith, append_assoc, append-nil, Media, went, learned, given, TakesOne, Meanings, HasTurn, IsGiven}
+use Rattle.node_inputs.proofs.Names.{every-append, StampParts, NodeId, NodeKind, Repository, Broker, is_broker, Rose, Image, NoMore, Effect, Out, AreEffects, AreOuts, HistoryFault, storage, Entry, Input, Base, Life, Flags, after_input, all_effects, walk, with_due, WireParts, base_from, Sight, origin_in, base_at, life_at, flags_at, IsOf, IsAsBefore, Looked, Added, Visited, Tested, given_for, DraftParts, IsKept, StaysReady, HasLife, up_flags, IsUnwritten, IsUp, IsStored, IsStruck, IsAfter, ◌≡◌, Bool, true, false, List, [], ◌++◌, length, Option, Result, Ok, Err, IsTrue, IfOk, IfErr, OnOk, OnErr, IsErrOf, ◌||◌, refl, sym, ap, subst, ◌∙◌, arith, append_assoc, append-nil, Media, went, learned, given, TakesOne, Meanings, HasTurn, IsGiven}
 use Rattle.effect_form.specs.Effects.{IsEffect}
 use Rattle.message_form.specs.declared.turns.Turn.{Turn}
 use Rattle.message_form.specs.Messages.{IsMessage}
 use Rattle.object_history.specs.declared.steps.HistoryFault.TheVariants as fault
 use Rattle.object_history.specs.Causes.{IsNotDamage}
 use Rattle.wire_core.specs.declared.takens.Taken.{Taken}
-use Rattle.node_turn.proofs.ReadyLemmas.{ready-told, asks-told}
+use Rattle.node_inputs.proofs.ReadyLemmas.{ready-told, asks-told}
 
 -- ---- results
 
