@@ -9,6 +9,7 @@ use Rattle.command_words.specs.declared.commands.Command.TheVariants.{Run, Load,
 use Rattle.command_words.specs.declared.options.Given.{Given}
 use Rattle.swallow_top.specs.declared.reports.Wanted.TheVariants.{Report, Summary}
 use Rattle.swallow_top.specs.declared.stops.Stop.TheVariants as stop
+use Rattle.swallow_top.specs.Asked.{TellsAsked}
 use Rattle.swallow_top.specs.Promise.{Call, HasNoWords, TouchedNothing, IsUnread, Promise, WasDone}
 use Rattle.retire_command.specs.declared.outcomes.Retired.TheVariants.{Done, Refused, Fallen, NoMemory}
 use Rattle.archive_promise.specs.Question.TheVariants as question
@@ -139,7 +140,7 @@ module _ {M : Type 0} (c : Call M) where
   promise-unasked : AskedNothing c.media_are c.shelf_before c.shelf c.media c.status → HasNoRun c.told → c.votes ≡ no_trace → Promise c
   promise-unasked h none votes = promise-wanting (record { status_is = h.wanting; none = h.none; unasked = h.unasked; no_run = none; no_votes = votes }) (none-kept c.shelf_before c.shelf c.media (λ name is. (h.left name).taken.0 is))
 
-  pub promise-history : (object : ObjectId) → IsUnread c → AreWords (History object) c.words → AskedNothing c.media_are c.shelf_before c.shelf c.media c.status ⊎ TellsHistory c.media_are c.shelf_before c.shelf object c.media c.sink c.status → HasNoRun c.told → c.votes ≡ no_trace → Promise c
+  promise-history : (object : ObjectId) → IsUnread c → AreWords (History object) c.words → AskedNothing c.media_are c.shelf_before c.shelf c.media c.status ⊎ TellsHistory c.media_are c.shelf_before c.shelf object c.media c.sink c.status → HasNoRun c.told → c.votes ≡ no_trace → Promise c
   promise-history object unread words (inl nothing) none votes = promise-unasked nothing none votes
   promise-history object unread words (inr tells) none votes = record {
     done = inr (inr (History object, words, (unread, tells, none)));
@@ -148,7 +149,7 @@ module _ {M : Type 0} (c : Call M) where
     votes = inl votes;
   }
 
-  pub promise-retire : (repository clock : ℕ) → IsUnread c → AreWords (Retire repository clock) c.words → AskedNothing c.media_are c.shelf_before c.shelf c.media c.status ⊎ TellsRetirement c.media_are c.shelf_before c.shelf repository clock c.media c.sink c.status →
+  promise-retire : (repository clock : ℕ) → IsUnread c → AreWords (Retire repository clock) c.words → AskedNothing c.media_are c.shelf_before c.shelf c.media c.status ⊎ TellsRetirement c.media_are c.shelf_before c.shelf repository clock c.media c.sink c.status →
       HasNoRun c.told → c.votes ≡ no_trace → Promise c
   promise-retire repository clock unread words (inl nothing) none votes = promise-unasked nothing none votes
   promise-retire repository clock unread words (inr tells) none votes = record {
@@ -158,7 +159,7 @@ module _ {M : Type 0} (c : Call M) where
     votes = inl votes;
   }
 
-  pub promise-watch : (repository : ℕ) (rule : Rule) → IsUnread c → AreWords (Watch repository rule) c.words → AskedNothing c.media_are c.shelf_before c.shelf c.media c.status ⊎ TellsWatch c.media_are c.shelf_before c.shelf repository rule c.media c.sink c.status →
+  promise-watch : (repository : ℕ) (rule : Rule) → IsUnread c → AreWords (Watch repository rule) c.words → AskedNothing c.media_are c.shelf_before c.shelf c.media c.status ⊎ TellsWatch c.media_are c.shelf_before c.shelf repository rule c.media c.sink c.status →
       HasNoRun c.told → c.votes ≡ no_trace → Promise c
   promise-watch repository rule unread words (inl nothing) none votes = promise-unasked nothing none votes
   promise-watch repository rule unread words (inr tells) none votes = record {
@@ -168,7 +169,7 @@ module _ {M : Type 0} (c : Call M) where
     votes = inl votes;
   }
 
-  pub promise-map : (repository clock : ℕ) → IsUnread c → AreWords (AsOf repository clock) c.words →
+  promise-map : (repository clock : ℕ) → IsUnread c → AreWords (AsOf repository clock) c.words →
       AskedNothing c.media_are c.shelf_before c.shelf c.media c.status ⊎ TellsAnswer c.media_are c.shelf_before c.shelf (question.AsOf repository (mark_at clock)) c.media c.sink c.status → HasNoRun c.told → c.votes ≡ no_trace → Promise c
   promise-map repository clock unread words (inl nothing) none votes = promise-unasked nothing none votes
   promise-map repository clock unread words (inr tells) none votes = record {
@@ -178,7 +179,7 @@ module _ {M : Type 0} (c : Call M) where
     votes = inl votes;
   }
 
-  pub promise-audit : (object : ObjectId) → IsUnread c → AreWords (Audit object) c.words →
+  promise-audit : (object : ObjectId) → IsUnread c → AreWords (Audit object) c.words →
       AskedNothing c.media_are c.shelf_before c.shelf c.media c.status ⊎ TellsAnswer c.media_are c.shelf_before c.shelf (question.Audit object) c.media c.sink c.status → HasNoRun c.told → c.votes ≡ no_trace → Promise c
   promise-audit object unread words (inl nothing) none votes = promise-unasked nothing none votes
   promise-audit object unread words (inr tells) none votes = record {
@@ -187,6 +188,20 @@ module _ {M : Type 0} (c : Call M) where
     statuses = outcome-most tells.outcome c.sink c.status tells.told;
     votes = inl votes;
   }
+
+  -- a command that asks media alone
+  pub promise-asked : (command : Command) → IsUnread c → AreWords command c.words → AskedNothing c.media_are c.shelf_before c.shelf c.media c.status ⊎ TellsAsked c.media_are c.shelf_before c.shelf command c.media c.sink c.status → HasNoRun c.told → c.votes ≡ no_trace → Promise c
+  promise-asked (History object) unread words tells none votes = promise-history object unread words tells none votes
+  promise-asked (Retire repository clock) unread words tells none votes = promise-retire repository clock unread words tells none votes
+  promise-asked (Watch repository rule) unread words tells none votes = promise-watch repository rule unread words tells none votes
+  promise-asked (AsOf repository clock) unread words tells none votes = promise-map repository clock unread words tells none votes
+  promise-asked (Audit object) unread words tells none votes = promise-audit object unread words tells none votes
+  promise-asked (Run o) unread words (inl nothing) none votes = promise-unasked nothing none votes
+  promise-asked (Run o) unread words (inr tells) none votes = absurd tells
+  promise-asked (Load seed count o) unread words (inl nothing) none votes = promise-unasked nothing none votes
+  promise-asked (Load seed count o) unread words (inr tells) none votes = absurd tells
+  promise-asked (Votes o) unread words (inl nothing) none votes = promise-unasked nothing none votes
+  promise-asked (Votes o) unread words (inr tells) none votes = absurd tells
 
   -- votes that refused what they read, or had no memory
   refused-votes : (o : Options) (s : Stop) → AreWords (Votes o) c.words → ReadsPolls c.input c.left c.faults_before c.faults (Err s) → RefusedAs s c.status c.sink

@@ -1,3 +1,4 @@
+pub mod Asked
 pub mod Contract
 pub mod Finished
 pub mod Histories

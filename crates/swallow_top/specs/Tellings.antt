@@ -1,7 +1,6 @@
 -- How a run is reported: its text and its status.
 use Rattle.std.specs.Prelude.{◌≡◌, ◌⊎◌, ℕ, ◌==◌, List, if◌then◌else◌}
 use Rattle.plan_form.specs.declared.plans.Plan.{Plan}
-use Rattle.broker_core.specs.ResumeFault.{ResumeFault}
 use Rattle.world_core.specs.declared.traces.Trace.{Trace}
 use Rattle.run_rounds.specs.Reports.{open_acts, run_text, load_text}
 use Rattle.run_rounds.specs.Stories.{no_trace}

@@ -1,7 +1,10 @@
 //! The call.
-ghost use Rattle.command_words.specs.Words.{said};
+ghost use Rattle.std.specs.Prelude.{◌⊎◌, ℕ, List};
+ghost use Rattle.command_words.specs.Words.{AreWords, said};
 ghost use Rattle.run_rounds.specs.Finishes.{account_of, tellers};
+ghost use Rattle.swallow_top.specs.Asked.{TellsAsked};
 ghost use Rattle.swallow_top.specs.Contract.{RefusedAs};
+ghost use Rattle.swallow_top.specs.Histories.{AskedNothing};
 ghost use Rattle.swallow_top.specs.Promise.{Promise};
 ghost use Rattle.plan_volumes.specs.Shelves.{shelf_sight};
 ghost use Rattle.swallow_top.specs.Written.{sinking};
@@ -20,6 +23,7 @@ use crate::votes::{read_polls, tell_votes};
 use command_words::{Command, read_words};
 use medium_port::{Medium, Shelf};
 use plan_form::make;
+use plan_volumes::Kept;
 use std::alloc::Global;
 use std::sync::Wait;
 use std::thread::Threads;
@@ -55,6 +59,33 @@ fn refused<O: Sink>(alloc: Global, stop: Stop, sink: &mut O) -> u8
             3
         }
         Stop::NoMemory | Stop::Sink => 7,
+    }
+}
+
+// What a command that neither runs a plan nor votes comes to, and the media that were taken, in the order of their
+// volumes. For another command no medium is asked for.
+fn tell_asked<O: Sink, S: Shelf>(
+    alloc: Global,
+    command: Command,
+    sink: &mut O,
+    shelf: &mut S,
+) -> (u8, Vec<Kept<S::Medium>>)
+    requires { (words : List (List ℕ)) × AreWords command words }
+    ensures { AskedNothing S.Medium.Medium (shelf_sight S.Shelf shelf.old)
+        (shelf_sight S.Shelf shelf.new) result.1.items result.0
+        ⊎ TellsAsked S.Medium.Medium (shelf_sight S.Shelf shelf.old)
+        (shelf_sight S.Shelf shelf.new) command result.1.items
+        (sinking (O.taken sink.old) (O.taken sink.new) (O.faults sink.old) (O.faults sink.new)) result.0 }
+{
+    match command {
+        Command::History(object) => tell_history(alloc, object, sink, shelf),
+        Command::Retire { repository, clock } => {
+            tell_retirement(alloc, repository, clock, sink, shelf)
+        }
+        Command::Watch { repository, rule } => tell_watch(alloc, repository, rule, sink, shelf),
+        Command::AsOf { repository, clock } => tell_map(alloc, repository, clock, sink, shelf),
+        Command::Audit(object) => tell_audit(alloc, object, sink, shelf),
+        Command::Run(_) | Command::Load { .. } | Command::Votes(_) => (7, Vec::new(alloc)),
     }
 }
 
@@ -169,19 +200,6 @@ where
             ),
             Err(_) => quiet(alloc, 7, Vec::new(alloc), fates, clock),
         },
-        Some(Command::History(object)) => {
-            let (status, media) = tell_history(alloc, object, sink, shelf);
-            quiet(alloc, status, media, fates, clock)
-        }
-        Some(
-            Command::Retire {
-                repository,
-                clock: mark,
-            },
-        ) => {
-            let (status, media) = tell_retirement(alloc, repository, mark, sink, shelf);
-            quiet(alloc, status, media, fates, clock)
-        }
         Some(Command::Votes(options)) => match read_polls(alloc, source) {
             Ok(polls) => tell_votes(alloc, polls.as_slice(), options, sink, shelf, fates, clock),
             Err(stop) => {
@@ -189,21 +207,8 @@ where
                 quiet(alloc, status, Vec::new(alloc), fates, clock)
             }
         },
-        Some(Command::Watch { repository, rule }) => {
-            let (status, media) = tell_watch(alloc, repository, rule, sink, shelf);
-            quiet(alloc, status, media, fates, clock)
-        }
-        Some(
-            Command::AsOf {
-                repository,
-                clock: mark,
-            },
-        ) => {
-            let (status, media) = tell_map(alloc, repository, mark, sink, shelf);
-            quiet(alloc, status, media, fates, clock)
-        }
-        Some(Command::Audit(object)) => {
-            let (status, media) = tell_audit(alloc, object, sink, shelf);
+        Some(command) => {
+            let (status, media) = tell_asked(alloc, command, sink, shelf);
             quiet(alloc, status, media, fates, clock)
         }
     }
