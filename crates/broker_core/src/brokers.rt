@@ -17,7 +17,7 @@ ghost use Rattle.message_form.specs.Ranges.{AreEffects, AreOuts};
 use crate::owed::settle;
 use crate::phases::{Phase, phase_now, standing};
 use crate::replies::{Reply, reply_to};
-use broker_ledger::{ActSpec, Effect, Heard, Ledger, NodeId, ResumeFault, take_up_all};
+use broker_ledger::{ActSpec, Effect, Heard, Ledger, NodeId, ResumeFault, copy_acts, take_up_all};
 use message_form::{Message, Out, SnapshotLog, Turn};
 use std::alloc::{AllocError, Global};
 use std::marker::Model;
@@ -182,7 +182,28 @@ impl Broker {
             spec.Opens script number run acts.now effects.now result }
         ensures fresh { IfOk result (λ b. b ≡ spec.opened_broker number run acts.now effects.now) }
     {
-        let mut ledger = Ledger::new(alloc, number, run, acts)?;
+        let own = copy_acts(alloc, acts)?;
+        Broker::open_with(alloc, number, run, own, effects)
+    }
+
+    /// As `open`, with acts that it keeps.
+    pub fn open_with(
+        alloc: Global,
+        number: u8,
+        run: u32,
+        acts: Vec<ActSpec>,
+        effects: &[Effect],
+    ) -> Result<Broker, ResumeFault>
+        requires low { 1 ≤ number }
+        requires high { number ≤ 16 }
+        requires run { 1 ≤ run }
+        requires acts { ledgers.AreBrokerActs acts.items }
+        requires log { AreEffects effects.now }
+        ensures opens { (script : List ℕ → Tree) → Scripted script acts.items →
+            spec.Opens script number run acts.items effects.now result }
+        ensures fresh { IfOk result (λ b. b ≡ spec.opened_broker number run acts.items effects.now) }
+    {
+        let mut ledger = Ledger::new(alloc, number, run, acts);
         let other = take_up_all(&mut ledger, effects)?;
         if let Some(fault) = resume_fault(&ledger, other) {
             return Err(fault);
@@ -199,6 +220,14 @@ impl Broker {
         })
     }
 
+    /// The acts that the plan gives it.
+    pub fn acts(&self) -> &[ActSpec]
+        ensures acts { result.now ≡ self.now.acts }
+        ensures are_acts { ledgers.AreBrokerActs result.now }
+    {
+        self.ledger.acts()
+    }
+
     // Adds the effect, hears what is heard now, and what follows.
     fn advance(&mut self, first: Option<Effect>, heard: Heard) -> Result<Turn, AllocError>
         requires fits { (script : List ℕ → Tree) → Scripted script self.old.acts →
@@ -208,6 +237,7 @@ impl Broker {
             IfOk result (λ t. spec.Gives (spec.follows script self.old first heard) t self.old self.new) }
         ensures in_range { IfOk result (λ t. AreEffects t.effects × AreOuts t.outs) }
         ensures err { OnErr result (self.new ≡ self.old) }
+        ensures acts { self.new.acts ≡ self.old.acts }
     {
         let before = self.ledger.notes();
         match yielded(&mut self.ledger, &mut self.log, first, &heard) {
@@ -235,6 +265,7 @@ impl Broker {
             IfOk result (λ t. spec.Gives (spec.turn_of script self.old Go) t self.old self.new) }
         ensures in_range { IfOk result (λ t. AreEffects t.effects × AreOuts t.outs) }
         ensures err { OnErr result (self.new ≡ self.old) }
+        ensures acts { self.new.acts ≡ self.old.acts }
     {
         let heard = Heard {
             gone: true,
@@ -253,6 +284,7 @@ impl Broker {
             IfOk result (λ t. spec.Gives (spec.turn_of script self.old (Take from message.now)) t self.old self.new) }
         ensures in_range { IfOk result (λ t. AreEffects t.effects × AreOuts t.outs) }
         ensures err { OnErr result (self.new ≡ self.old) }
+        ensures acts { self.new.acts ≡ self.old.acts }
     {
         match reply_to(&mut self.ledger, &self.phase, &self.heard, message)? {
             Reply::Ignored => Ok(Turn::quiet(self.ledger.alloc())),
@@ -274,6 +306,7 @@ impl Broker {
             IfOk result (λ t. spec.Gives (spec.turn_of script self.old (Hear moment)) t self.old self.new) }
         ensures in_range { IfOk result (λ t. AreEffects t.effects × AreOuts t.outs) }
         ensures err { OnErr result (self.new ≡ self.old) }
+        ensures acts { self.new.acts ≡ self.old.acts }
     {
         let alloc = self.ledger.alloc();
         let out = standing(&self.ledger, &self.phase)?;

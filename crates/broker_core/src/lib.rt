@@ -8,7 +8,7 @@ mod owed;
 mod phases;
 mod replies;
 
-pub use broker_ledger::{Heard, ResumeFault, counted_effects};
+pub use broker_ledger::{Heard, ResumeFault, copy_acts, counted_effects};
 pub use brokers::Broker;
 pub use laws::{law_of_readings, readings_agree};
 pub use message_form::{Out, Turn};

@@ -48,11 +48,11 @@ impl Model for Ledger {
     ghost invariant = { λ l. IsLedger l.number l.acts.items l.notes l.answers.items l.stepper };
 }
 
-// Copies of the acts.
-fn copy_acts(alloc: Global, acts: &[ActSpec]) -> Result<Vec<ActSpec>, AllocError>
+/// Copies of the acts.
+pub fn copy_acts(alloc: Global, acts: &[ActSpec]) -> Result<Vec<ActSpec>, AllocError>
     ensures { IfOk result (λ v. v.items ≡ acts.now) }
 {
-    let mut copies = Vec::new(alloc);
+    let mut copies = Vec::with_capacity(alloc, acts.len())?;
     for act in acts {
         copies.push(act.copy(alloc)?)?;
     }
@@ -61,20 +61,19 @@ fn copy_acts(alloc: Global, acts: &[ActSpec]) -> Result<Vec<ActSpec>, AllocError
 
 impl Ledger {
     /// Of an empty log.
-    pub fn new(alloc: Global, number: u8, run: u32, acts: &[ActSpec]) -> Result<Ledger, AllocError>
+    pub fn new(alloc: Global, number: u8, run: u32, acts: Vec<ActSpec>) -> Ledger
         requires low { 1 ≤ number }
         requires high { number ≤ 16 }
-        requires acts { spec.AreBrokerActs acts.now }
-        ensures { IfOk result (λ l. l ≡ record {
+        requires acts { spec.AreBrokerActs acts.items }
+        ensures { result ≡ record {
           number = number;
           run = run;
-          acts = acts.now;
+          acts = acts.items;
           notes = notes.blank_notes;
           answers = [];
-        }) }
+        } }
     {
-        let acts = copy_acts(alloc, acts)?;
-        Ok(Ledger {
+        Ledger {
             alloc,
             number,
             run,
@@ -82,7 +81,7 @@ impl Ledger {
             notes: Notes::blank(),
             answers: Vec::new(alloc),
             stepper: None,
-        })
+        }
     }
 
     /// Where it gets memory.
@@ -119,6 +118,14 @@ impl Ledger {
         ensures { result ≡ (self.now.notes.run == self.now.run) }
     {
         self.notes.run == self.run
+    }
+
+    /// The acts that the plan gives the broker.
+    pub fn acts(&self) -> &[ActSpec]
+        ensures acts { result.now ≡ self.now.acts }
+        ensures are_acts { spec.AreBrokerActs result.now }
+    {
+        self.acts.as_slice()
     }
 
     /// How many acts the plan gives the broker.

@@ -12,7 +12,7 @@ mod resume_faults;
 pub use closed::is_stamp;
 pub use effect_form::{Effect, Outcome};
 pub use heards::Heard;
-pub use ledgers::Ledger;
+pub use ledgers::{Ledger, copy_acts};
 pub use logs::{counted_effects, take_up_all};
 pub use notes::{Last, Notes};
 pub use pseudo_time::{Decision, NodeId, PseudoTime, Stamp, next_clock};

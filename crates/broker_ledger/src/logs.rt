@@ -229,18 +229,18 @@ pub fn counted_effects(
     alloc: Global,
     number: u8,
     run: u32,
-    acts: &[ActSpec],
+    acts: Vec<ActSpec>,
     effects: &[Effect],
 ) -> Result<Vec<bool>, AllocError>
     requires low { 1 ≤ number }
     requires high { number ≤ 16 }
-    requires acts { ledgers.AreBrokerActs acts.now }
-    ensures { (script : List ℕ → Tree) → Scripted script acts.now →
-        IfOk result (λ flags. reverse flags.items ≡ counting script number run (tasks.tasks acts.now)
+    requires acts { ledgers.AreBrokerActs acts.items }
+    ensures { (script : List ℕ → Tree) → Scripted script acts.items →
+        IfOk result (λ flags. reverse flags.items ≡ counting script number run (tasks.tasks acts.items)
         (reverse effects.now)) }
 {
-    let mut ledger = Ledger::new(alloc, number, run, acts)?;
-    let mut flags = Vec::new(alloc);
+    let mut ledger = Ledger::new(alloc, number, run, acts);
+    let mut flags = Vec::with_capacity(alloc, effects.len())?;
     for effect in effects {
         let counts = count(&mut ledger, effect)?;
         flags.push(counts)?;

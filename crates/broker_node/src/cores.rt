@@ -5,7 +5,6 @@ ghost use Rattle.node_turn.specs.WorldCores.{IsBroker};
 ghost use Rattle.node_turn.specs.Walks.{Base, Life, all_effects};
 ghost use Rattle.broker_node.specs.Logs.{as_damage, has_failed, is_over, medium_in};
 
-use crate::acts::OwnActs;
 use crate::logs::Log;
 use broker_core::{Broker, ResumeFault};
 use effect_form::Effect;
@@ -22,7 +21,6 @@ use version_store::{OpenFault, StoreFault};
 pub struct BrokerCore<M: Medium> {
     pub(crate) number: u8,
     pub(crate) run: u32,
-    pub(crate) acts: OwnActs,
     pub(crate) broker: Broker,
     pub(crate) log: Log<M>,
     ghost low: { 1 ≤ number },
@@ -42,7 +40,8 @@ impl<M: Medium> Meanings<M> for BrokerCore<M> {
 
     ghost parts = { λ c. record { node = broker c.number; able = is_open c.log; medium = medium_in c.log } };
 
-    ghost fits = { λ b c. (b.run ≡ c.run) × (c.acts ≡ acts_of c.number b.acts) × Scripted b.script c.acts };
+    ghost fits = { λ b c. (b.run ≡ c.run) × (c.broker.acts ≡ acts_of c.number b.acts) ×
+        Scripted b.script c.broker.acts };
 
     ghost lives = { λ b c l. IsBroker b (broker c.number) (all_effects l) l.mind c.broker ×
         HasEffects M.reads c.log l.gated };
@@ -84,7 +83,6 @@ impl<M: Medium> StoredCore<M> for BrokerCore<M> {
         let BrokerCore {
             number,
             run,
-            acts,
             broker,
             log,
         } = self;
@@ -93,7 +91,6 @@ impl<M: Medium> StoredCore<M> for BrokerCore<M> {
                 let core = BrokerCore {
                     number,
                     run,
-                    acts,
                     broker,
                     log: Log::Shut(medium),
                 };
@@ -104,7 +101,6 @@ impl<M: Medium> StoredCore<M> for BrokerCore<M> {
                     let core = BrokerCore {
                         number,
                         run,
-                        acts,
                         broker,
                         log: Log::Open(store),
                     };
@@ -114,7 +110,6 @@ impl<M: Medium> StoredCore<M> for BrokerCore<M> {
                     let core = BrokerCore {
                         number,
                         run,
-                        acts,
                         broker,
                         log: Log::Shut(medium),
                     };
@@ -128,7 +123,6 @@ impl<M: Medium> StoredCore<M> for BrokerCore<M> {
         let BrokerCore {
             number,
             run,
-            acts,
             broker,
             log,
         } = self;
@@ -137,19 +131,17 @@ impl<M: Medium> StoredCore<M> for BrokerCore<M> {
                 let core = BrokerCore {
                     number,
                     run,
-                    acts,
                     broker,
                     log: Log::Shut(medium),
                 };
                 (core, Err(fault))
             }
             Ok((store, effects)) => {
-                match Broker::open(alloc, number, run, acts.as_slice(), effects.as_slice()) {
+                match Broker::open(alloc, number, run, broker.acts(), effects.as_slice()) {
                     Ok(broker) => {
                         let core = BrokerCore {
                             number,
                             run,
-                            acts,
                             broker,
                             log: Log::Open(store),
                         };
@@ -159,7 +151,6 @@ impl<M: Medium> StoredCore<M> for BrokerCore<M> {
                         let core = BrokerCore {
                             number,
                             run,
-                            acts,
                             broker,
                             log: Log::Shut(store.release()),
                         };
@@ -174,7 +165,6 @@ impl<M: Medium> StoredCore<M> for BrokerCore<M> {
         let BrokerCore {
             number: _,
             run: _,
-            acts: _,
             broker: _,
             log,
         } = self;

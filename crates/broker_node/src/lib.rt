@@ -1,7 +1,6 @@
 //! A broker at work: its core, its log and its pass.
 #![tactic(auto)]
 
-mod acts;
 mod cores;
 mod logs;
 mod nodes;

@@ -13,7 +13,6 @@ ghost use Rattle.node_turn.specs.Cores.{IsReady};
 ghost use Rattle.node_turn.specs.Nodes.{new_node, sight};
 ghost use Rattle.broker_node.specs.Logs.{is_over};
 
-use crate::acts::OwnActs;
 use crate::cores::BrokerCore;
 use crate::logs::Log;
 use broker_core::Broker;
@@ -56,13 +55,12 @@ pub fn open_broker<F: Fates, C: Clock, M: Medium>(
     ensures new { IfOk result (λ n. n ≡ new_node (broker number) pass (medium_of store)) }
     ensures err { IfErr result (λ e. (e.0 ≡ medium_of store) × (e.1 ≡ pass)) }
 {
-    match Broker::open(alloc, number, run, acts.as_slice(), effects) {
+    match Broker::open_with(alloc, number, run, acts, effects) {
         Err(_) => Err((store.release(), pass, AllocError)),
         Ok(broker) => {
             let core = BrokerCore {
                 number,
                 run,
-                acts: OwnActs::of(acts),
                 broker,
                 log: Log::Open(store),
             };

@@ -159,12 +159,15 @@ fn push_act(out: &mut Vec<u8>, head: &ActHead, script: &[u8]) -> Result<(), Allo
     Ok(())
 }
 
+// Room for the bytes of an effect with a short text, so that they needn't grow.
+const ROOM: usize = 64;
+
 // The bytes of an effect.
 fn bytes_of(alloc: Global, effect: &Effect, back: Option<Place>) -> Result<Vec<u8>, AllocError>
     requires { IsWritten (effect.now, back) }
     ensures { IfOk result (λ v. v.items ≡ effect_bytes (effect.now, back)) }
 {
-    let mut out = Vec::new(alloc);
+    let mut out = Vec::with_capacity(alloc, ROOM)?;
     match effect {
         Effect::Put {
             object,

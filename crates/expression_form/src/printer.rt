@@ -11,6 +11,9 @@ use crate::operators::{left_of, level_before, level_of};
 use std::alloc::{AllocError, Global};
 use value_form::{Bytes, Call, Expr, Infix, Prefix, Value};
 
+// Room for the text of a short expression, so that it needn't grow.
+const ROOM: usize = 32;
+
 // The level of an expression without parentheses.
 fn level(expression: &Expr) -> u8
     ensures { result ≡ level_of (term expression.now) }
@@ -145,7 +148,7 @@ pub fn print_expression(
     ensures ok { OnOk result (out.new.items ≡ out.old.items ++ spec.text (term expression.now)) }
     ensures err { OnErr result (out.new.items ≡ out.old.items) }
 {
-    let mut text = Vec::new(alloc);
+    let mut text = Vec::with_capacity(alloc, ROOM)?;
     put_expression(alloc, &mut text, expression)?;
     out.extend_from_slice(text.as_slice())
 }

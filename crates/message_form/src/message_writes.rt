@@ -105,12 +105,15 @@ fn push_tell(out: &mut Vec<u8>, stamp: Stamp, committed: bool) -> Result<(), All
     Ok(())
 }
 
+// Room for the bytes of a message with a short text, so that they needn't grow.
+const ROOM: usize = 32;
+
 // The bytes of a message.
 fn bytes_of(alloc: Global, message: &Message) -> Result<Vec<u8>, AllocError>
     requires { IsMessage message.now }
     ensures { IfOk result (λ v. v.items ≡ message_bytes message.now) }
 {
-    let mut out = Vec::new(alloc);
+    let mut out = Vec::with_capacity(alloc, ROOM)?;
     match message {
         Message::Begin { stamp, timeout } => push_begin(&mut out, *stamp, *timeout)?,
         Message::Begun { stamp } => push_stamped(&mut out, 2, *stamp)?,

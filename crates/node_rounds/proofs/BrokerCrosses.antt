@@ -23,8 +23,6 @@ use Rattle.broker_core.specs.LedgerContracts as Ledger
 use Rattle.broker_core.specs.LedgerContracts.TheInside as LedgerInside
 use Rattle.broker_core.specs.contracts.brokers.Broker as Broker
 use Rattle.broker_core.specs.contracts.brokers.Broker.TheInside as BrokerInside
-use Rattle.broker_node.specs.contracts.acts.OwnActs as OwnActs
-use Rattle.broker_node.specs.contracts.acts.OwnActs.TheInside as OwnActsInside
 use Rattle.broker_node.proofs.logs.Log.TheSendSync as log
 use Rattle.broker_node.specs.contracts.cores.BrokerCore as BrokerCore
 
@@ -43,9 +41,6 @@ log_send = view_send _ _ _ _ _ (declared_send SnapshotLogInside.the_type (Vec-se
 broker_send : IsSend Broker.the_row
 broker_send = view_send _ _ _ _ _ (declared_send BrokerInside.the_type (ledger_send, (heard.the_send, (phase.the_send, (log_send, tt)))))
 
-acts_send : IsSend OwnActs.the_row
-acts_send = view_send _ _ _ _ _ (declared_send OwnActsInside.the_type (Vec-send _ act_send, tt))
-
 module _ (M : RattleType) (m : medium.Ghosts M.Denot) (sm : IsSend M) where
   pub core_send : IsSend (BrokerCore.the_row M m)
-  core_send = declared_send (BrokerCore.the_type M m) (n8, (n32, (acts_send, (broker_send, (log.the_send M m sm, tt)))))
+  core_send = declared_send (BrokerCore.the_type M m) (n8, (n32, (broker_send, (log.the_send M m sm, tt))))

@@ -20,7 +20,7 @@ fn body(alloc: Global, mark: u8, texts: &[u8]) -> Result<Vec<u8>, AllocError>
     ensures bytes { IfOk result (λ b. b.items ≡ body_with mark texts.now) }
     ensures is { IfOk result IsBody }
 {
-    let mut bytes = Vec::new(alloc);
+    let mut bytes = Vec::with_capacity(alloc, 4 + texts.len())?;
     let [high, low] = (texts.len() as u16).to_be_bytes();
     bytes.extend_from_slice(&[2, high, low, mark])?;
     bytes.extend_from_slice(texts)?;

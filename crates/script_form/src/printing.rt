@@ -2,7 +2,7 @@ ghost use Rattle.std.specs.Prelude.{◌≡◌, IfOk};
 ghost use Rattle.value_form.specs.Mirror.{block};
 ghost use Rattle.script_form.specs.RowTexts.{script_text};
 
-use crate::print_script;
+use crate::script_printer::text_of;
 use std::alloc::{AllocError, Global};
 use value_form::{Bytes, Script};
 
@@ -11,7 +11,6 @@ use value_form::{Bytes, Script};
 pub fn print(alloc: Global, script: &Script) -> Result<Bytes, AllocError>
     ensures { IfOk result (λ text. text ≡ script_text (block script.now.lines)) }
 {
-    let mut text = Vec::new(alloc);
-    print_script(alloc, &mut text, script)?;
+    let text = text_of(alloc, script)?;
     Ok(Bytes::of(text))
 }

@@ -7,6 +7,9 @@ use crate::row_printer::{put_if, put_let, put_print, put_read, put_repeat, put_w
 use std::alloc::{AllocError, Global};
 use value_form::{Script, Stmt};
 
+// Room for the text of a short script or row, so that it needn't grow.
+const ROOM: usize = 64;
+
 // Ends the lines before this one, where next is the line that comes next.
 fn end_lines(out: &mut Vec<u8>, next: u32, line: u32) -> Result<(), AllocError>
     ensures { OnOk result (out.new.items ≡ out.old.items ++ replicate (line - next) 10) }
@@ -47,7 +50,7 @@ fn put_all(alloc: Global, out: &mut Vec<u8>, next: u32, part: &[Stmt]) -> Result
 fn put_one(alloc: Global, out: &mut Vec<u8>, next: u32, stmt: &Stmt) -> Result<u32, AllocError>
     ensures { IfOk result (λ after. Prints (step_rows (plain stmt.now)) next out.old.items after out.new.items) }
 {
-    let mut row = Vec::new(alloc);
+    let mut row = Vec::with_capacity(alloc, ROOM)?;
     match stmt {
         Stmt::Let(line, name, value) => {
             put_let(alloc, &mut row, name, value)?;
@@ -89,13 +92,22 @@ fn put_one(alloc: Global, out: &mut Vec<u8>, next: u32, stmt: &Stmt) -> Result<u
     }
 }
 
+/// The canonical text of a script: each statement on its line, and empty lines before where nothing
+/// stands.
+pub(crate) fn text_of(alloc: Global, script: &Script) -> Result<Vec<u8>, AllocError>
+    ensures { IfOk result (λ text. text.items ≡ script_text (block script.now.lines)) }
+{
+    let mut text = Vec::with_capacity(alloc, ROOM)?;
+    put_all(alloc, &mut text, 1, script.lines.as_slice())?;
+    Ok(text)
+}
+
 /// Appends the canonical text of a script: each statement on its line, and empty lines before where
 /// nothing stands. Where memory runs out, `out` is as before.
 pub fn print_script(alloc: Global, out: &mut Vec<u8>, script: &Script) -> Result<(), AllocError>
     ensures ok { OnOk result (out.new.items ≡ out.old.items ++ script_text (block script.now.lines)) }
     ensures err { OnErr result (out.new.items ≡ out.old.items) }
 {
-    let mut text = Vec::new(alloc);
-    put_all(alloc, &mut text, 1, script.lines.as_slice())?;
+    let text = text_of(alloc, script)?;
     out.extend_from_slice(text.as_slice())
 }

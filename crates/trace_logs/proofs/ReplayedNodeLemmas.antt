@@ -13,23 +13,21 @@ log-kept n xs ys h = every-left IsEffect (xs ++ take n ys) (drop n ys) (subst Ar
 -- ---- gates and crashes
 
 -- all effects are durable, and nothing else is open
-pub gated-lives : (b : Base) (s t : ReplayedNode) (l : Life) → Lives b s l → t.node ≡ s.node → t.acts ≡ s.acts → t.core ≡ s.core →
+pub gated-lives : (b : Base) (s t : ReplayedNode) (l : Life) → Lives b s l → t.node ≡ s.node → t.core ≡ s.core →
     t.gated.items ≡ s.gated.items ++ s.fresh.items → t.fresh.items ≡ [] → t.outs.items ≡ [] → Lives b t (gated_life l)
-gated-lives b s t l h node acts core gated fresh outs = record {
+gated-lives b s t l h node core gated fresh outs = record {
   gated = gated ∙ (λ j. h.gated j ++ h.fresh j);
   fresh = fresh;
   outs = outs;
   core = subst (λ z. StandsFor b t.node z l.mind t.core) (sym (append-nil (all_effects l)))
       (subst (λ c. StandsFor b t.node (all_effects l) l.mind c) (sym core) (subst (λ n. StandsFor b n (all_effects l) l.mind s.core) (sym node) h.core));
-  acts = ap (λ v. v.items) acts ∙ h.acts ∙ ap (λ n. own_acts n b.acts) (sym node);
-  scripted = subst (λ v. Scripted b.script v.items) (sym acts) h.scripted;
 }
 
 -- it was opened anew over the effects that were found
-pub crashed-lives : (b : Base) (s t : ReplayedNode) (l : Life) (kept : ℕ) → Lives b s l → t.node ≡ s.node → t.acts ≡ s.acts →
+pub crashed-lives : (b : Base) (s t : ReplayedNode) (l : Life) (kept : ℕ) → Lives b s l → t.node ≡ s.node →
     t.gated.items ≡ s.gated.items ++ take kept s.fresh.items → t.fresh.items ≡ [] → t.outs.items ≡ [] →
     StandsFor b s.node t.gated.items (opened_mind b.start) t.core → Lives b t (crashed_life b.start kept l)
-crashed-lives b s t l kept h node acts gated fresh outs core =
+crashed-lives b s t l kept h node gated fresh outs core =
     let e : t.gated.items ≡ l.gated ++ take kept l.fresh = gated ∙ (λ j. h.gated j ++ take kept (h.fresh j)) in
     record {
       gated = e;
@@ -37,16 +35,13 @@ crashed-lives b s t l kept h node acts gated fresh outs core =
       outs = outs;
       core = subst (λ n. StandsFor b n ((l.gated ++ take kept l.fresh) ++ []) (opened_mind b.start) t.core) (sym node)
           (subst (λ z. StandsFor b s.node z (opened_mind b.start) t.core) (e ∙ sym (append-nil (l.gated ++ take kept l.fresh))) core);
-      acts = ap (λ v. v.items) acts ∙ h.acts ∙ ap (λ n. own_acts n b.acts) (sym node);
-      scripted = subst (λ v. Scripted b.script v.items) (sym acts) h.scripted;
     }
 
-pub crashed-sound : (s t : ReplayedNode) (kept : ℕ) → IsSound s → t.node ≡ s.node → t.acts ≡ s.acts → kind_of t.core ≡ s.node.kind → IsAble t.core →
+pub crashed-sound : (s t : ReplayedNode) (kept : ℕ) → IsSound s → t.node ≡ s.node → kind_of t.core ≡ s.node.kind → IsAble t.core →
     t.gated.items ≡ s.gated.items ++ take kept s.fresh.items → t.fresh.items ≡ [] → t.outs.items ≡ [] → IsSound t
-crashed-sound s t kept h node acts kind good gated fresh outs = record {
+crashed-sound s t kept h node kind good gated fresh outs = record {
   low = subst (λ n. 1 ≤ n.number) (sym node) h.low;
   high = subst (λ n. n.number ≤ 16) (sym node) h.high;
-  acts = subst (λ v. AreBrokerActs v.items) (sym acts) h.acts;
   kind = kind ∙ ap (λ n. n.kind) (sym node);
   able = good;
   log = subst AreEffects (sym ((λ j. gated j ++ fresh j) ∙ append-nil (s.gated.items ++ take kept s.fresh.items))) (log-kept kept s.gated.items s.fresh.items h.log);

@@ -11,7 +11,7 @@ ghost use Rattle.world_core.specs.Nodes.Input.{Going, Taking, Learning, Hearing}
 ghost use Rattle.world_core.specs.Walks.{Base};
 ghost use Rattle.trace_logs.specs.Cores.{StandsFor, IsAble, IsGiven, IsWant, kind_of, own_acts};
 
-use broker_core::Broker;
+use broker_core::{Broker, copy_acts};
 use effect_form::Effect;
 use message_form::{Message, Turn};
 use object_history::PlainHistories;
@@ -74,16 +74,16 @@ pub fn open_core(
     run: u32,
     start: u64,
     node: NodeId,
-    acts: &[ActSpec],
+    acts: Vec<ActSpec>,
     log: &[Effect],
 ) -> Result<NodeCore, AllocError>
     requires low { 1 ≤ node.number }
     requires high { node.number ≤ 16 }
     requires run { 1 ≤ run }
-    requires acts { AreBrokerActs acts.now }
+    requires acts { AreBrokerActs acts.items }
     requires log { AreEffects log.now }
     requires start { start ≤ 2 ^ 63 }
-    ensures stands { (b : Base) → b.run ≡ run → acts.now ≡ own_acts node b.acts → Scripted b.script acts.now
+    ensures stands { (b : Base) → b.run ≡ run → acts.items ≡ own_acts node b.acts → Scripted b.script acts.items
         → IfOk result (λ core. StandsFor b node log.now (opened_mind start) core) }
     ensures kind { IfOk result (λ core. kind_of core ≡ node.kind) }
     ensures able { IfOk result IsAble }
@@ -96,7 +96,7 @@ pub fn open_core(
                 Err((_, wanting)) => Err(wanting),
             }
         }
-        NodeKind::Broker => match Broker::open(alloc, node.number, run, acts, log) {
+        NodeKind::Broker => match Broker::open_with(alloc, node.number, run, acts, log) {
             Ok(core) => Ok(NodeCore::Broker(core)),
             Err(_) => Err(AllocError),
         },
@@ -104,6 +104,21 @@ pub fn open_core(
 }
 
 impl NodeCore {
+    /// Copies of a broker's own acts of the plan. A repository has none.
+    pub fn acts(&self, alloc: Global) -> Result<Vec<ActSpec>, AllocError>
+        ensures own { (b : Base) (n : NodeId) (log : List Effect) (mind : Mind) → StandsFor b n log mind self.now
+            → IfOk result (λ acts. (acts.items ≡ own_acts n b.acts) × Scripted b.script acts.items) }
+        ensures in_range { IfOk result (λ acts. AreBrokerActs acts.items) }
+    {
+        match self {
+            NodeCore::Repository(_) => Ok(Vec::new(alloc)),
+            NodeCore::Broker(core) => {
+                let acts = copy_acts(alloc, core.acts())?;
+                Ok(acts)
+            }
+        }
+    }
+
     /// Takes a message.
     pub fn take(&mut self, from: NodeId, message: &Message) -> Result<Turn, AllocError>
         requires able { IsAble self.old }

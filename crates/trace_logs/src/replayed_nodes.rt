@@ -28,8 +28,6 @@ use value_form::ActSpec;
 #[derive(Drop)]
 pub struct ReplayedNode {
     pub node: NodeId,
-    /// A broker's own acts of the plan, none for a repository.
-    pub acts: Vec<ActSpec>,
     /// The durable log, oldest effect first.
     pub gated: Vec<Effect>,
     /// The effects that wait for the next gate, and the messages.
@@ -39,7 +37,7 @@ pub struct ReplayedNode {
 }
 
 impl ReplayedNode {
-    /// A node that is opened with this log.
+    /// A node that is opened with this log. `acts` are a broker's own of the plan, none for a repository.
     pub fn open(
         alloc: Global,
         run: u32,
@@ -59,10 +57,9 @@ impl ReplayedNode {
         ensures node { IfOk result (λ s. s.node ≡ node) }
         ensures sound { IfOk result IsSound }
     {
-        let core = open_core(alloc, run, start, node, acts.as_slice(), log.as_slice())?;
+        let core = open_core(alloc, run, start, node, acts, log.as_slice())?;
         Ok(ReplayedNode {
             node,
-            acts,
             gated: log,
             fresh: Vec::new(alloc),
             outs: Vec::new(alloc),
@@ -73,7 +70,6 @@ impl ReplayedNode {
     // What a turn gave is added.
     fn add(&mut self, turn: Turn) -> Result<(), AllocError>
         ensures node { OnOk result (self.new.node ≡ self.old.node) }
-        ensures acts { OnOk result (self.new.acts ≡ self.old.acts) }
         ensures gated { OnOk result (self.new.gated ≡ self.old.gated) }
         ensures core { OnOk result (self.new.core ≡ self.old.core) }
         ensures fresh { OnOk result (self.new.fresh.items ≡ self.old.fresh.items ++ turn.effects) }
@@ -206,14 +202,8 @@ impl ReplayedNode {
         found.truncate(kept as usize);
         self.gated.append(&mut found)?;
         self.outs.clear();
-        self.core = open_core(
-            alloc,
-            run,
-            start,
-            self.node,
-            self.acts.as_slice(),
-            self.gated.as_slice(),
-        )?;
+        let acts = self.core.acts(alloc)?;
+        self.core = open_core(alloc, run, start, self.node, acts, self.gated.as_slice())?;
         Ok(())
     }
 }

@@ -275,7 +275,7 @@ pub fn logs(
         run,
         start: trace.start,
         replayed: opened_nodes(alloc, run, trace.start, acts, trace.opened.as_slice())?,
-        letters: Vec::new(alloc),
+        letters: Vec::with_capacity(alloc, trace.sent.as_slice().len())?,
         last: None,
     };
     for entry in trace.entries.as_slice() {

@@ -71,7 +71,7 @@ fn begun_by(
 {
     let own = acts_of(alloc, number, plan.acts.as_slice())?;
     let log = log_of(logs, NodeId::broker(number));
-    let flags = counted_effects(alloc, number, plan.run, own.as_slice(), log)?;
+    let flags = counted_effects(alloc, number, plan.run, own, log)?;
     read_off(alloc, flags.as_slice(), log)
 }
 

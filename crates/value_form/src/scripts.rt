@@ -60,7 +60,7 @@ impl Target {
 fn copy_all(alloc: Global, part: &[Stmt]) -> Result<Items<Stmt>, AllocError>
     ensures { IfOk result (λ all. all ≡ part.now) }
 {
-    let mut all = Vec::new(alloc);
+    let mut all = Vec::with_capacity(alloc, part.len())?;
     for stmt in part {
         all.push(copy_one(alloc, stmt)?)?;
     }

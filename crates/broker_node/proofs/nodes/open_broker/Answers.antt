@@ -1,4 +1,5 @@
-use Rattle.broker_node.proofs.Names.{◌≡◌, refl, sym, subst, ◌∙◌, Some, medium_of, Scripted, opened_log, IsOf, base_at, origin_at, IsReady, leaves-log}
+use Rattle.broker_node.proofs.Names.{◌≡◌, refl, ap, sym, subst, ◌∙◌, Some, medium_of, Scripted, opened_log, IsOf, base_at, origin_at, IsReady, leaves-log}
+use Rattle.broker_core.specs.Parts.{BrokerParts}
 use Rattle.seat_lock.specs.Words.{knows}
 use Rattle.node_turn.proofs.NewLemmas.{up-new}
 use Rattle.broker_node.proofs.CoreLemmas.{opened-broker}
@@ -12,12 +13,12 @@ new-node-requires g c =
     let m = medium_of c.args.store in
     let name = sym c.broker-name.ensures in
     let plan = c.requires.acts in
-    let scripted = subst (Scripted b.script) (sym c.as_slice.ensures.value) plan.2 in
+    let own = ap (λ (x : BrokerParts). x.acts) c.in-Ok.ensures.fresh in
     record {
-      up = up-new _ k c.broker-name.result log _ name refl tt (sym c.requires.runs.1, c.of.ensures ∙ plan.1, subst (Scripted b.script) (sym c.of.ensures) plan.2)
+      up = up-new _ k c.broker-name.result log _ name refl tt (sym c.requires.runs.1, own ∙ plan.1, subst (Scripted b.script) (sym own) plan.2)
           (subst (λ n. IsOf n k) name c.requires.pass.0) c.requires.pass.1 (subst (λ n. opened_log (origin_at k).opened n ≡ Some log) name c.requires.opened) refl (subst (λ n. IsReady b n log) name c.requires.ready)
           (λ t. (
-            opened-broker b c.args.number c.args.run c.as_slice.result.now log c.in-Ok.broker (sym c.requires.runs.1) (c.as_slice.ensures.value ∙ plan.1) scripted c.in-Ok.ensures.fresh,
+            opened-broker b c.args.number c.args.run c.args.acts.items log c.in-Ok.broker (sym c.requires.runs.1) plan.1 plan.2 c.in-Ok.ensures.fresh,
             c.requires.log t,
           ))
           (λ t. leaves-log (g.M.Medium.reads m) (g.M.Medium.may_leave m) (c.args.store.settled t) log (c.requires.log t));

@@ -1,4 +1,4 @@
-use Rattle.broker_node.proofs.Names.{refl, arith, broker, Going}
+use Rattle.broker_node.proofs.Names.{refl, arith, sym, subst, ◌∙◌, Scripted, broker, Going}
 use Rattle.broker_core.specs.Turns as desks
 use Rattle.broker_node.proofs.CoreLemmas.{gave-broker}
 use Rattle.broker_node.proofs.cores.BrokerCoreStoredCore.go.Goals as goal
@@ -6,7 +6,7 @@ use Rattle.broker_node.proofs.cores.BrokerCoreStoredCore.go.Goals as goal
 pub returns : goal.returns
 returns g c = record {
   given = λ kind. record {
-    same = record { node = refl; run = λ b f. f; later = omega arith };
+    same = record { node = refl; run = λ b f. (f.0, c.go.ensures.acts ∙ f.1, subst (Scripted b.script) (sym c.go.ensures.acts) f.2); later = omega arith };
     able = c.requires.able;
     gave = λ t b l f s.
         let y = gave-broker b (broker c.args.self.now.number) l c.args.self.now.broker c.go.new.self (desks.Go) (Going) c.in_ok-turn.turn refl s.0 c.in_ok-turn.ensures.gives in

@@ -8,8 +8,8 @@ pub returns-in-Err-open : goal.returns-in-Err-open
 returns-in-Err-open g c =
     let old = c.args.self in
     let m = c.medium_from.result in
-    let acts = c.as_slice.result.now in
-    let log = c.as_slice-in-Ok.result.now in
+    let acts = c.acts.result.now in
+    let log = c.as_slice.result.now in
     reopened-none old _ m (sym c.medium_from.ensures) refl (λ b f. f) c.damage_of.result
     (subst (λ z. g.M.Medium.faults m ≤ g.M.Medium.faults z) (sym c.release.ensures) c.in-Ok.ensures.later)
     (λ t. subst (λ z. NoMore (g.M.Medium.may_leave m) (g.M.Medium.may_leave z)) (sym c.release.ensures) (c.in-Ok.ensures.images t))
@@ -18,7 +18,7 @@ returns-in-Err-open g c =
     (λ t b f page e. let image = g.M.Medium.reads (medium_of c.in-Ok.store) in (
       image,
       c.in-Ok.ensures.was t,
-      opens-damaged b old.number old.run acts log image c.in-Err-open.fault page f.0 (c.as_slice.ensures.acts ∙ f.1)
-          (c.in-Ok.ensures.found t ∙ ap (λ (l : List Effect). Ok l) (sym c.as_slice-in-Ok.ensures.value))
-          (c.in-Err-open.ensures.opens b.script (subst (Scripted b.script) (sym c.as_slice.ensures.acts) f.2)) (sym c.damage_of.ensures ∙ e),
+      opens-damaged b old.number old.run acts log image c.in-Err-open.fault page f.0 (c.acts.ensures.acts ∙ f.1)
+          (c.in-Ok.ensures.found t ∙ ap (λ (l : List Effect). Ok l) (sym c.as_slice.ensures.value))
+          (c.in-Err-open.ensures.opens b.script (subst (Scripted b.script) (sym c.acts.ensures.acts) f.2)) (sym c.damage_of.ensures ∙ e),
     ))
