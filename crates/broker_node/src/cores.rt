@@ -21,7 +21,8 @@ use version_store::{OpenFault, StoreFault};
 pub struct BrokerCore<M: Medium> {
     pub(crate) number: u8,
     pub(crate) run: u32,
-    pub(crate) broker: Broker,
+    /// In a box, since turns give the core from hand to hand.
+    pub(crate) broker: Box<Broker>,
     pub(crate) log: Log<M>,
     ghost low: { 1 ≤ number },
     ghost high: { number ≤ 16 },
@@ -40,10 +41,10 @@ impl<M: Medium> Meanings<M> for BrokerCore<M> {
 
     ghost parts = { λ c. record { node = broker c.number; able = is_open c.log; medium = medium_in c.log } };
 
-    ghost fits = { λ b c. (b.run ≡ c.run) × (c.broker.acts ≡ acts_of c.number b.acts) ×
-        Scripted b.script c.broker.acts };
+    ghost fits = { λ b c. (b.run ≡ c.run) × (c.broker.value.acts ≡ acts_of c.number b.acts) ×
+        Scripted b.script c.broker.value.acts };
 
-    ghost lives = { λ b c l. IsBroker b (broker c.number) (all_effects l) l.mind c.broker ×
+    ghost lives = { λ b c l. IsBroker b (broker c.number) (all_effects l) l.mind c.broker.value ×
         HasEffects M.reads c.log l.gated };
 
     ghost owes = { λ c effects. Unit {0} };
@@ -55,12 +56,14 @@ impl<M: Medium> StoredCore<M> for BrokerCore<M> {
     }
 
     fn go(&mut self) -> Result<Turn, HistoryFault> {
-        let turn = self.broker.go()?;
+        let broker = self.broker.as_mut();
+        let turn = broker.go()?;
         Ok(turn)
     }
 
     fn take(&mut self, from: NodeId, message: &Message) -> Result<Turn, HistoryFault> {
-        let turn = self.broker.take(from, message)?;
+        let broker = self.broker.as_mut();
+        let turn = broker.take(from, message)?;
         Ok(turn)
     }
 
@@ -70,7 +73,8 @@ impl<M: Medium> StoredCore<M> for BrokerCore<M> {
     }
 
     fn hear(&mut self, moment: u64) -> Result<Turn, HistoryFault> {
-        let turn = self.broker.hear(moment)?;
+        let broker = self.broker.as_mut();
+        let turn = broker.hear(moment)?;
         Ok(turn)
     }
 
@@ -137,8 +141,16 @@ impl<M: Medium> StoredCore<M> for BrokerCore<M> {
                 (core, Err(fault))
             }
             Ok((store, effects)) => {
-                match Broker::open(alloc, number, run, broker.acts(), effects.as_slice()) {
-                    Ok(broker) => {
+                match Broker::open(
+                    alloc,
+                    number,
+                    run,
+                    broker.as_ref().acts(),
+                    effects.as_slice(),
+                ) {
+                    Ok(opened) => {
+                        let mut broker = broker;
+                        let _old = Box::replace(&mut broker, opened);
                         let core = BrokerCore {
                             number,
                             run,
@@ -175,10 +187,10 @@ impl<M: Medium> StoredCore<M> for BrokerCore<M> {
 impl<M: Medium> BrokerCore<M> {
     /// Whether each act has its outcome and no request is outstanding. Takes no memory.
     pub fn is_done(&self) -> bool
-        ensures { (b : Base) (l : Life) → IsBroker b (broker self.now.number) (all_effects l) l.mind self.now.broker →
+        ensures { (b : Base) (l : Life) → IsBroker b (broker self.now.number) (all_effects l) l.mind self.now.broker.value →
             result ≡ is_over b self.now.number l }
     {
-        self.broker.done()
+        self.broker.as_ref().done()
     }
 }
 

@@ -58,6 +58,9 @@ pub fn open_broker<F: Fates, C: Clock, M: Medium>(
     match Broker::open_with(alloc, number, run, acts, effects) {
         Err(_) => Err((store.release(), pass, AllocError)),
         Ok(broker) => {
+            let Ok(broker) = Box::new(alloc, broker) else {
+                return Err((store.release(), pass, AllocError));
+            };
             let core = BrokerCore {
                 number,
                 run,

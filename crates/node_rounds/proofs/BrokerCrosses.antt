@@ -4,7 +4,7 @@ use denote.Hole.{as_row}
 use denote.Struct.Field.{u8-field}
 use denote.Param.Send.{IsSend, sendable, view_send}
 use denote.Param.SendFields.{declared_send}
-use Rattle.std.proofs.Crossing.{Vec-send, send}
+use Rattle.std.proofs.Crossing.{Box-send, Vec-send, send}
 use Rattle.std.proofs.option.Option.TheSendSync as option
 use Rattle.medium_port.specs.declared.media.Medium as medium
 use Rattle.broker_node.proofs.ScriptCrosses.{n32, act_send, script_send}
@@ -43,4 +43,4 @@ broker_send = view_send _ _ _ _ _ (declared_send BrokerInside.the_type (ledger_s
 
 module _ (M : RattleType) (m : medium.Ghosts M.Denot) (sm : IsSend M) where
   pub core_send : IsSend (BrokerCore.the_row M m)
-  core_send = declared_send (BrokerCore.the_type M m) (n8, (n32, (broker_send, (log.the_send M m sm, tt))))
+  core_send = declared_send (BrokerCore.the_type M m) (n8, (n32, (Box-send _ broker_send, (log.the_send M m sm, tt))))

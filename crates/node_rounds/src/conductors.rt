@@ -22,6 +22,10 @@ use stream_port::{Clock, Fates};
 // round, which costs as much as some turns. One thread gives one turn each, in the order of nodes.
 const TURNS: u32 = 64;
 
+// How many rounds behind a Tick are one thread's, where there are several. What is due then is sent again or
+// expires, and mostly comes to nothing more within a few turns: threads would take longer to make.
+const LEAD: u32 = 16;
+
 // Whether memory ran out for a node of a share.
 fn is_any_wanting<F: Fates, C: Clock, M: Medium>(nodes: &[RunNode<F, C, M>]) -> bool
     ensures { MatchBool result (Any (λ n. n.condition ≡ Condition.Wanting) nodes.now) (All HasMemory nodes.now) }
@@ -155,12 +159,14 @@ fn asked<F: Fates, C: Clock, M: Medium, R: Wait>(
     }
 }
 
-// A round, in which each node has a turn, or several. The conductor meets them all, and again where it ticked.
+// A round, in which each node has a turn, or several unless one thread alone gives them. The conductor meets
+// them all, and again where it ticked.
 fn go_round<F: Fates + Send, C: Clock + Send, M: Medium + Send, R: Threads + Wait + Sync>(
     rt: &R,
     wire: &SharedWire<F, C, M>,
     limits: Limits,
     ticks: u64,
+    alone: bool,
     shares: Vec<Vec<RunNode<F, C, M>>>,
     pass: WirePass<F, C, M>,
 ) -> (Vec<Vec<RunNode<F, C, M>>>, WirePass<F, C, M>, Next)
@@ -178,9 +184,13 @@ fn go_round<F: Fates + Send, C: Clock + Send, M: Medium + Send, R: Threads + Wai
         (knows pass).story shares.items →
         TicksAreWanted (base_from (base_of wire.now.lock).origin) (knows result.1).story result.0.items }
 {
-    let turns = if limits.workers > 1 { TURNS } else { 1 };
+    let turns = if limits.workers > 1 && !alone {
+        TURNS
+    } else {
+        1
+    };
     let mut shares = shares;
-    round(rt, wire, turns, &mut shares);
+    round(rt, wire, turns, alone, &mut shares);
     let mut pass = pass;
     meet_all(wire, &mut shares, &mut pass);
     let (mut pass, next) = asked(rt, wire, limits, ticks, shares.as_slice(), pass);
@@ -217,14 +227,18 @@ pub fn conduct<F: Fates + Send, C: Clock + Send, M: Medium + Send, R: Threads + 
     let mut shares = shares;
     let mut pass = pass;
     let mut ticks = 0;
+    let mut lead: u32 = 0;
     for _ in rt.forever() {
-        let (nodes, conductor, next) = go_round(rt, wire, limits, ticks, shares, pass);
+        let (nodes, conductor, next) = go_round(rt, wire, limits, ticks, lead > 0, shares, pass);
         shares = nodes;
         pass = conductor;
         match next {
             Next::End(reason) => return (shares, pass, reason),
-            Next::Round => {}
-            Next::Ticked => ticks += 1,
+            Next::Round => lead = lead.saturating_sub(1),
+            Next::Ticked => {
+                ticks += 1;
+                lead = LEAD;
+            }
         }
     }
     unreachable!()

@@ -136,17 +136,19 @@ fn beside<L: Sync, S: Turns<L> + Send, R: Threads + Wait + Sync>(
             ensures { AllZip (λ old new. AllZip (S.does shared.entry.now) old.items new.items) shares.entry.now.items
                 shares.exit.now.items × (vec_len shares.exit.now ≡ vec_len shares.entry.now) ×
                 (vec_capacity shares.exit.now ≡ vec_capacity shares.entry.now) }
-        { round(rt, shared, turns, shares) },
+        { round(rt, shared, turns, false, shares) },
     );
 }
 
-/// A round: each share is a thread's, and the first one and those without nodes are this thread's. The
-/// nodes of each have so many turns, or fewer where none of the share does anything in one. Takes no memory.
+/// A round: each share is a thread's, and the first one and those without nodes are this thread's; or
+/// `alone`, so that all are this thread's, one after another. The nodes of each have so many turns, or
+/// fewer where none of the share does anything in one. Takes no memory.
 #[cycle(rounds)]
 pub fn round<L: Sync, S: Turns<L> + Send, R: Threads + Wait + Sync>(
     rt: &R,
     shared: &L,
     turns: u32,
+    alone: bool,
     shares: &mut Vec<Vec<S>>,
 )
     requires ready { All (λ nodes. All (S.ready shared.now) nodes.items) shares.old.items }
@@ -156,9 +158,9 @@ pub fn round<L: Sync, S: Turns<L> + Send, R: Threads + Wait + Sync>(
     let Some(mut last) = shares.pop() else {
         return;
     };
-    if stands_alone(&last, shares) {
+    if alone || stands_alone(&last, shares) {
         share_often(rt, shared, turns, &mut last);
-        round(rt, shared, turns, shares);
+        round(rt, shared, turns, alone, shares);
         shares.push_reserved(last);
         return;
     }

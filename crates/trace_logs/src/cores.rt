@@ -1,6 +1,7 @@
-ghost use Rattle.std.specs.Prelude.{◌≡◌, ◌≤◌, ◌^◌, ◌∷◌, [], IfOk, IfErr, Ok};
+ghost use Rattle.std.specs.Prelude.{◌≡◌, ◌≤◌, ◌^◌, ◌∷◌, [], List, IfOk, IfErr, Ok};
 ghost use Rattle.message_form.specs.Messages.{IsMessage};
 ghost use Rattle.pseudo_time.specs.declared.nodes.NodeId.{NodeId};
+ghost use Rattle.effect_form.specs.declared.effects.Effect.{Effect};
 ghost use Rattle.value_form.specs.declared.acts.ActSpec.{ActSpec};
 ghost use Rattle.broker_core.specs.Ledgers.{AreBrokerActs};
 ghost use Rattle.broker_core.specs.Tasks.{Scripted};

@@ -13,12 +13,13 @@ new-node-requires g c =
     let m = medium_of c.args.store in
     let name = sym c.broker-name.ensures in
     let plan = c.requires.acts in
-    let own = ap (λ (x : BrokerParts). x.acts) c.in-Ok.ensures.fresh in
+    let fresh = c.in-Ok-new.ensures.ok ∙ c.in-Ok.ensures.fresh in
+    let own = ap (λ (x : BrokerParts). x.acts) fresh in
     record {
       up = up-new _ k c.broker-name.result log _ name refl tt (sym c.requires.runs.1, own ∙ plan.1, subst (Scripted b.script) (sym own) plan.2)
           (subst (λ n. IsOf n k) name c.requires.pass.0) c.requires.pass.1 (subst (λ n. opened_log (origin_at k).opened n ≡ Some log) name c.requires.opened) refl (subst (λ n. IsReady b n log) name c.requires.ready)
           (λ t. (
-            opened-broker b c.args.number c.args.run c.args.acts.items log c.in-Ok.broker (sym c.requires.runs.1) plan.1 plan.2 c.in-Ok.ensures.fresh,
+            opened-broker b c.args.number c.args.run c.args.acts.items log c.in-Ok-new.broker.value (sym c.requires.runs.1) plan.1 plan.2 fresh,
             c.requires.log t,
           ))
           (λ t. leaves-log (g.M.Medium.reads m) (g.M.Medium.may_leave m) (c.args.store.settled t) log (c.requires.log t));

@@ -7,8 +7,8 @@ unfolding walk_from
 loop-entry-init c = (
   λ script scripted.
       let b = base_for script c.args.run c.args.acts.now c.args.trace.now in
-      starts b _ c.requires.once refl refl (subst (λ opened. AreAt b c.args.trace.now.start opened c.in_ok-opened_nodes.field-0.items) c.as_slice.ensures (c.in_ok-opened_nodes.ensures.lives b refl refl scripted)) c.new.ensures.items refl,
-  record { replayed = c.in_ok-opened_nodes.ensures.sound; letters = subst AreLetters (sym c.new.ensures.items) tt; run = c.requires.run; start = c.requires.start; last = tt },
+      starts b _ c.requires.once refl refl (subst (λ opened. AreAt b c.args.trace.now.start opened c.in_ok-opened_nodes.field-0.items) c.as_slice.ensures (c.in_ok-opened_nodes.ensures.lives b refl refl scripted)) c.in_ok-with_capacity.ensures.items refl,
+  record { replayed = c.in_ok-opened_nodes.ensures.sound; letters = subst AreLetters (sym c.in_ok-with_capacity.ensures.items) tt; run = c.requires.run; start = c.requires.start; last = tt },
 )
 
 pub loop-entry-preserved : goal.loop-entry-preserved

@@ -12,7 +12,7 @@ returns-in-Ok g c =
     (λ t. c.in-Ok.ensures.kept t (g.M.Medium.reads (medium_of r)) (now (medium_of r) t)) c.in-Ok.ensures.clean c.requires.ranges c.in-Ok.ensures.used)
     (refl, tt)
     (λ t b l h fresh. (
-      gated-broker b (broker c.args.self.number) l c.args.self.broker h.0,
+      gated-broker b (broker c.args.self.number) l c.args.self.broker.value h.0,
       c.in-Ok.ensures.added t ∙ ap (λ es. es ++ c.args.effects.now) (subst (λ z. HasEffects g.M.Medium.reads z l.gated) c.in-Open.is h.1) ∙ ap (λ es. l.gated ++ es) (sym fresh),
     ))
 

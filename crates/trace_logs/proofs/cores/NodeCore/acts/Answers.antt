@@ -1,4 +1,4 @@
-use Rattle.trace_logs.proofs.Names.{AreBrokerActs, Scripted, StandsFor, acts_for, ap, subst, sym, ◌∙◌}
+use Rattle.trace_logs.proofs.Names.{AreBrokerActs, Scripted, StandsFor, acts_for, ap, arith, subst, sym, ◌∙◌}
 use Rattle.trace_logs.proofs.cores.NodeCore.acts.Goals as goal
 
 pub returns-in-Repository-clause-own : goal.returns-in-Repository-clause-own
@@ -9,11 +9,11 @@ returns-in-Repository-clause-own c b n log mind s =
 pub returns-in-Repository-clause-in_range : goal.returns-in-Repository-clause-in_range
 returns-in-Repository-clause-in_range c = subst AreBrokerActs (sym c.new.ensures.items) (record { each = tt; few = omega arith })
 
-pub returns-in-Broker-clause-own : goal.returns-in-Broker-clause-own
-returns-in-Broker-clause-own c b n log mind s =
+pub returns-in_ok-acts-in-Broker-clause-own : goal.returns-in_ok-acts-in-Broker-clause-own
+returns-in_ok-acts-in-Broker-clause-own c b n log mind s =
     let h = subst (StandsFor b n log mind) c.in-Broker.is s in
-    let is = c.in_ok-acts.ensures ∙ c.acts.ensures.acts in
+    let is = c.in_ok-acts-in-Broker.ensures ∙ c.acts.ensures.acts in
     (is ∙ h.acts ∙ sym (ap (λ k. acts_for k n.number b.acts) h.kind), subst (Scripted b.script) (sym is) h.scripted)
 
-pub returns-in-Broker-clause-in_range : goal.returns-in-Broker-clause-in_range
-returns-in-Broker-clause-in_range c = subst AreBrokerActs (sym c.in_ok-acts.ensures) c.acts.ensures.are_acts
+pub returns-in_ok-acts-in-Broker-clause-in_range : goal.returns-in_ok-acts-in-Broker-clause-in_range
+returns-in_ok-acts-in-Broker-clause-in_range c = subst AreBrokerActs (sym c.in_ok-acts-in-Broker.ensures) c.acts.ensures.are_acts
