@@ -105,9 +105,10 @@ fn share_often<L, S: Turns<L>, R: Wait>(rt: &R, shared: &L, turns: u32, nodes: &
     }
 }
 
-// Whether a share needs no thread beside those of the others.
-fn stands_alone<S>(share: &Vec<S>, others: &Vec<Vec<S>>) -> bool {
-    others.is_empty() || share.is_empty()
+// Whether a share needs no thread beside those of the others: one thread is to be alone, or there is nothing to
+// give beside it.
+fn stands_alone<S>(alone: bool, share: &Vec<S>, others: &Vec<Vec<S>>) -> bool {
+    alone || others.is_empty() || share.is_empty()
 }
 
 // A share on this thread, and a round of the others on another. Takes no memory.
@@ -158,7 +159,7 @@ pub fn round<L: Sync, S: Turns<L> + Send, R: Threads + Wait + Sync>(
     let Some(mut last) = shares.pop() else {
         return;
     };
-    if alone || stands_alone(&last, shares) {
+    if stands_alone(alone, &last, shares) {
         share_often(rt, shared, turns, &mut last);
         round(rt, shared, turns, alone, shares);
         shares.push_reserved(last);
