@@ -1,5 +1,6 @@
 ghost use Rattle.std.specs.Prelude.{◌≡◌, ◌≢◌, ◌≤◌, [], IfOk, IfSome};
 
+use crate::file_names::{name_of, path_of};
 use crate::read_media::ReadMedium;
 use crate::readings::look_at;
 use folder_look::{MediumLook, MediumState};
@@ -12,8 +13,8 @@ use value_form::Items;
 
 const MOST_PAGES: u64 = 1_048_576;
 
-// A medium that can't be read.
-fn shut(alloc: Global, kind: NodeKind, number: u8, volume: u32) -> MediumLook
+/// A medium that can't be read.
+pub fn shut(alloc: Global, kind: NodeKind, number: u8, volume: u32) -> MediumLook
     ensures state { (result.state ≡ MediumState.Shut) × (result.log ≡ []) }
     ensures name { (result.kind ≡ kind) × (result.number ≡ number) × (result.volume ≡ volume) }
 {
@@ -26,13 +27,6 @@ fn shut(alloc: Global, kind: NodeKind, number: u8, volume: u32) -> MediumLook
         spoiled: Items::of(Vec::new(alloc)),
         state: MediumState::Shut,
         log: Items::of(Vec::new(alloc)),
-    }
-}
-
-fn kind_word(kind: NodeKind) -> &'static str {
-    match kind {
-        NodeKind::Repository => "repository",
-        NodeKind::Broker => "broker",
     }
 }
 
@@ -53,8 +47,30 @@ fn pages_of(file: &File) -> Option<u32>
     Some(pages as u32)
 }
 
-/// What the file of this medium holds. None where there is no such file. The file is opened for
-/// reading alone: it is never made, and never made longer.
+// What the regular file of this medium holds.
+fn look_into(
+    alloc: Global,
+    files: &impl Files<File = File>,
+    path: &str,
+    kind: NodeKind,
+    number: u8,
+    volume: u32,
+) -> Result<MediumLook, AllocError>
+    ensures name { IfOk result (λ look. (look.kind ≡ kind) × (look.number ≡ number) × (look.volume ≡ volume)) }
+    ensures no_log { IfOk result (λ look. look.state ≢ MediumState.Whole → look.log ≡ []) }
+{
+    let Ok(file) = fs::open(files, path) else {
+        return Ok(shut(alloc, kind, number, volume));
+    };
+    match pages_of(&file) {
+        None => Ok(shut(alloc, kind, number, volume)),
+        Some(pages) => look_at(alloc, kind, number, volume, ReadMedium::new(file, pages)),
+    }
+}
+
+/// What the file of this medium holds. None if there is no such file. The file is opened for reading
+/// alone: it is never made, and never made longer. What is no regular file is never opened, since the
+/// system lets the opening of a FIFO wait for ever.
 pub fn look_in(
     alloc: Global,
     files: &impl Files<File = File>,
@@ -67,19 +83,16 @@ pub fn look_in(
         (look.volume ≡ volume))) }
     ensures no_log { IfOk result (λ found. IfSome found (λ look. look.state ≢ MediumState.Whole → look.log ≡ [])) }
 {
-    let path = format!(in alloc; "{}/{}-{}-{}", folder, kind_word(kind), number, volume)?;
-    match fs::open(files, path.as_str()) {
+    let name = name_of(alloc, kind, number, volume)?;
+    let path = path_of(alloc, folder, name.as_str())?;
+    match fs::symlink_metadata(files, path.as_str()) {
         Err(error) if error.kind() == ErrorKind::NotFound => Ok(None),
         Err(_) => Ok(Some(shut(alloc, kind, number, volume))),
-        Ok(file) => match pages_of(&file) {
-            None => Ok(Some(shut(alloc, kind, number, volume))),
-            Some(pages) => Ok(Some(look_at(
-                alloc,
-                kind,
-                number,
-                volume,
-                ReadMedium::new(file, pages),
-            )?)),
-        },
+        Ok(data) => {
+            if !data.is_file() {
+                return Ok(Some(shut(alloc, kind, number, volume)));
+            }
+            Ok(Some(look_into(alloc, files, path.as_str(), kind, number, volume)?))
+        }
     }
 }

@@ -1,4 +1,5 @@
-use crate::file_looks::look_in;
+use crate::file_looks::{look_in, shut};
+use crate::lost_files::later_name;
 use folder_look::MediumLook;
 use pseudo_time::NodeKind;
 use std::alloc::{AllocError, AllocFailed, Global};
@@ -27,7 +28,8 @@ impl<T: Drop> From<AllocFailed<T>> for LookFault {
     }
 }
 
-// Adds the volumes of a node, up to the first that isn't there.
+// Adds the volumes of a node, up to the first that isn't there. One that isn't, though the file of one
+// of the next three is, can't be read.
 fn add_node(
     alloc: Global,
     files: &impl Files<File = File>,
@@ -38,8 +40,13 @@ fn add_node(
 ) -> Result<(), LookFault> {
     for volume in 0..MOST_VOLUMES {
         match look_in(alloc, files, folder, kind, number, volume)? {
-            None => return Ok(()),
             Some(look) => media.push(look)?,
+            None => {
+                if later_name(alloc, files, folder, kind, number, volume)?.is_none() {
+                    return Ok(());
+                }
+                media.push(shut(alloc, kind, number, volume))?;
+            }
         }
     }
     Ok(())

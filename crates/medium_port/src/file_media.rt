@@ -2,6 +2,7 @@ ghost use Rattle.std.specs.Prelude.{◌≡◌, ◌≤◌, None, false, true};
 ghost use Rattle.stream_port.specs.Causes.{Rose};
 
 use crate::accounts::Account;
+use crate::file_lengths::grows_next;
 use crate::healths::Health;
 use crate::media::{Medium, MediumFault};
 use std::fmt::Display;
@@ -36,6 +37,8 @@ pub struct FileMedium {
 }
 
 const NO_FILE: &str = "not there, and a look makes none";
+
+const GROWS: &str = "run the same command again: the file grows when it is opened";
 
 // The place of a byte of a page in the file.
 fn offset(page: u32, at: u16) -> u64 {
@@ -72,6 +75,18 @@ impl FileMedium {
             account,
             lost: false,
             last: None,
+        }
+    }
+
+    /// Says on standard error, after a command for which a medium was full, that the file grows when it
+    /// is opened again. Nothing is said of one that won't grow, or that failed.
+    pub fn tell_growth(mut self) {
+        let grows = match &self.file {
+            Some(file) => grows_next(file, self.count),
+            None => false,
+        };
+        if grows {
+            self.account.say(GROWS);
         }
     }
 

@@ -1,35 +1,42 @@
-ghost use Rattle.std.specs.Prelude.{◌≤◌, IfOk, IfSome};
+ghost use Rattle.std.specs.Prelude.{◌≡◌, ◌≤◌, IfOk, IfSome};
 ghost use Rattle.medium_port.specs.Files.{IsNewMedium};
 
 use crate::accounts::Account;
 use crate::asked_names::AskedNames;
+use crate::file_kinds::{length_at, open_regular};
+use crate::file_lengths::{NEW_PAGES, measure};
 use crate::file_media::FileMedium;
-use crate::media::MediumFault;
+use crate::file_names::path_of;
+use crate::lost_files::refuse_lost;
+use crate::media::{Medium, MediumFault};
+use crate::refusals::Refusal;
 use crate::shelves::{MediumName, Shelf};
+use crate::wanted_files::Wanted;
 use pseudo_time::NodeKind;
 use std::alloc::{AllocError, Global};
-use std::fmt::{self, Display, Formatter};
 use std::fs::{self, File, TryLockError};
-use std::io::{self, ErrorKind, Stderr};
-use std::os::unix::fs::FileExt;
+use std::io::{ErrorKind, Stderr};
 use std::rt::Files;
-
-/// The pages of a medium that a shelf over files makes.
-pub const NEW_PAGES: u32 = 4096;
-
-const MOST_PAGES: u64 = 1_048_576;
 
 const NOT_THERE: &str = "not there yet";
 
 /// A shelf over the files of a folder. The medium of volume 0 of the first repository is the file
 /// `repository-1-0`. A file that isn't there, or is empty, is made with 4,096 pages. A file that
-/// another program has for a medium can't be taken.
+/// another program has for a medium can't be taken, nor can what is no regular file, as a folder, a FIFO,
+/// a device or a symbolic link.
+///
+/// A file grows when it is taken: one of which less than half of the pages are blank is lengthened to
+/// twice its size, and a volume to the size of the one before it, up to 1,048,576 pages. If the disk can't
+/// hold it, it stays as it is.
+///
+/// A volume of a repository that is missing or blank can't be taken if the file of one of the next
+/// three is there: then it was lost. (A first volume may be blank.)
 ///
 /// A folder is one program's at a time: the first taking locks the empty file `lock` in it, before
 /// any medium is opened or made, and a program that meets the lock takes nothing.
 ///
-/// A shelf for a look makes no folder and no file. The medium of a file that isn't there yet reads 0,
-/// and takes no write.
+/// A shelf for a look makes no folder and no file, and lengthens none. The medium of a file that isn't
+/// there yet reads 0, and takes no write.
 ///
 /// A taking that fails, and each medium at its first fault, says on standard error why: a line with
 /// the medium's file and the system's reason.
@@ -45,6 +52,8 @@ pub struct FileShelf<R: Files<File = File>> {
     // Whether folders and files are made.
     makes: bool,
     taken: Vec<MediumName>,
+    // The medium that was taken last, and its pages.
+    last: Option<(MediumName, u32)>,
     faults: u64,
     asked: AskedNames,
 }
@@ -97,49 +106,10 @@ impl<R: Files<File = File>> FileShelf<R> {
             lock: None,
             makes,
             taken: Vec::new(alloc),
+            last: None,
             faults: 0,
             asked: AskedNames::new(),
         })
-    }
-}
-
-fn kind_word(kind: NodeKind) -> &'static str {
-    match kind {
-        NodeKind::Repository => "repository",
-        NodeKind::Broker => "broker",
-    }
-}
-
-// Why a file isn't taken for a medium.
-#[derive(Drop)]
-enum Refusal {
-    NoFolder,
-    NoFile,
-    Locked,
-    // How many bytes it has.
-    Length(u64),
-    System(io::Error),
-}
-
-impl From<io::Error> for Refusal {
-    fn from(error: io::Error) -> Refusal {
-        Refusal::System(error)
-    }
-}
-
-impl Display for Refusal {
-    fn fmt<W: fmt::Write>(&self, f: &mut Formatter<W>) -> fmt::Result {
-        match self {
-            Refusal::NoFolder => f.write_str("the folder has no name"),
-            Refusal::NoFile => f.write_str("no regular file"),
-            Refusal::Locked => f.write_str("locked by another program"),
-            Refusal::Length(bytes) => write!(
-                f,
-                "a file of {} bytes, and a medium has 1 to {} pages of 4096",
-                bytes, MOST_PAGES
-            ),
-            Refusal::System(error) => write!(f, "{}", error),
-        }
     }
 }
 
@@ -156,78 +126,6 @@ fn make_folder(files: &impl Files, folder: &str) -> Result<(), Refusal> {
     }
 }
 
-// Syncs a folder, so that a crash leaves the names in it. One that may not be read has no new ones.
-fn sync_folder(files: &impl Files<File = File>, folder: &str) -> io::Result<()> {
-    match fs::open(files, folder) {
-        Ok(opened) => opened.sync_all(),
-        Err(error) if error.kind() == ErrorKind::PermissionDenied => Ok(()),
-        Err(error) => Err(error),
-    }
-}
-
-// Syncs the folder and each that it lies in, up to where its path begins.
-fn sync_folders(files: &impl Files<File = File>, folder: &str) -> io::Result<()> {
-    sync_folder(files, folder)?;
-    for end in 1..folder.len() {
-        if let Some((outer, rest)) = folder.split_at_checked(end) {
-            if rest.starts_with('/') {
-                sync_folder(files, outer)?;
-            }
-        }
-    }
-    sync_folder(files, if folder.starts_with('/') { "/" } else { "." })
-}
-
-// Whether nothing was written to the first page yet, and so to none.
-fn is_untouched(file: &File) -> io::Result<bool> {
-    let mut page = [0u8; 4096];
-    file.read_exact_at(&mut page, 0)?;
-    Ok(page.iter().all(|byte| *byte == 0))
-}
-
-// The length of a file in pages, after making it whole where it is empty. Where no opening before
-// this one can be known to have come as far, the file and its folders are synced.
-fn measure(files: &impl Files<File = File>, folder: &str, file: &File) -> Result<u32, Refusal>
-    ensures { IfOk result (λ pages. (1 ≤ pages) × (pages ≤ 1048576)) }
-{
-    let mut length = file.metadata()?.len();
-    if length == 0 {
-        length = NEW_PAGES as u64 * 4096;
-        file.set_len(length)?;
-    }
-    let pages = length / 4096;
-    if pages == 0 || pages > MOST_PAGES {
-        return Err(Refusal::Length(length));
-    }
-    if is_untouched(file)? {
-        file.sync_all()?;
-        sync_folders(files, folder)?;
-    }
-    Ok(pages as u32)
-}
-
-// Opens a file. Where it isn't there it is made, or there is none.
-fn open_regular(
-    files: &impl Files<File = File>,
-    path: &str,
-    makes: bool,
-) -> Result<Option<File>, Refusal> {
-    let opened = File::options()
-        .read(true)
-        .write(makes)
-        .create(makes)
-        .open(files, path);
-    let file = match opened {
-        Ok(file) => file,
-        Err(error) if !makes && error.kind() == ErrorKind::NotFound => return Ok(None),
-        Err(error) => return Err(error.into()),
-    };
-    if !file.metadata()?.is_file() {
-        return Err(Refusal::NoFile);
-    }
-    Ok(Some(file))
-}
-
 // Locks a file. The lock is the file's, and the system lifts it at its end.
 fn lock_file(file: &File) -> Result<(), Refusal> {
     match file.try_lock() {
@@ -240,16 +138,14 @@ fn lock_file(file: &File) -> Result<(), Refusal> {
 // Locks the folder, unless that was done. A look takes no lock where no run has made its file.
 fn lock_folder(
     files: &impl Files<File = File>,
-    folder: &str,
-    path: &str,
-    makes: bool,
+    wanted: &Wanted,
     lock: &mut Option<File>,
 ) -> Result<(), Refusal> {
     if lock.is_none() {
-        if makes {
-            make_folder(files, folder)?;
+        if wanted.makes {
+            make_folder(files, wanted.folder)?;
         }
-        if let Some(file) = open_regular(files, path, makes)? {
+        if let Some(file) = open_regular(files, wanted.lock_path, wanted.makes)? {
             lock_file(&file)?;
             *lock = Some(file);
         }
@@ -257,70 +153,64 @@ fn lock_folder(
     Ok(())
 }
 
+// Refuses a volume of which nothing is there, or a file of no bytes, if the file of a later one is there.
+fn refuse_hollow(files: &impl Files, wanted: &Wanted, path: &str) -> Result<(), Refusal> {
+    match length_at(files, path)? {
+        None => refuse_lost(files, wanted, false),
+        Some(0) => refuse_lost(files, wanted, true),
+        Some(_) => Ok(()),
+    }
+}
+
 // The file and its number of pages. A look finds none that isn't there or is empty.
 fn open_file(
     files: &impl Files<File = File>,
-    folder: &str,
+    wanted: &Wanted,
     path: &str,
-    makes: bool,
 ) -> Result<(Option<File>, u32), Refusal>
     ensures { IfOk result (λ r. (1 ≤ r.1) × (r.1 ≤ 1048576)) }
 {
-    let Some(file) = open_regular(files, path, makes)? else {
+    refuse_hollow(files, wanted, path)?;
+    let Some(file) = open_regular(files, path, wanted.makes)? else {
         return Ok((None, NEW_PAGES));
     };
     lock_file(&file)?;
-    if !makes && file.metadata()?.len() == 0 {
+    if !wanted.makes && file.metadata()?.len() == 0 {
         return Ok((None, NEW_PAGES));
     }
-    let pages = measure(files, folder, &file)?;
+    let pages = measure(files, wanted, &file)?;
     Ok((Some(file), pages))
-}
-
-// The account of the medium of this name.
-fn account_of(
-    alloc: Global,
-    errors: Stderr,
-    folder: &str,
-    name: MediumName,
-) -> Result<Account, AllocError> {
-    let path = format!(in alloc;
-        "{}/{}-{}-{}",
-        folder,
-        kind_word(name.kind),
-        name.number,
-        name.volume
-    )?;
-    Account::new(alloc, errors, path.as_str())
 }
 
 // The file and its number of pages, in a folder that is this program's.
 fn open_locked(
     files: &impl Files<File = File>,
-    folder: &str,
-    lock_path: &str,
-    makes: bool,
+    wanted: &Wanted,
     lock: &mut Option<File>,
     path: &str,
 ) -> Result<(Option<File>, u32), Refusal>
     ensures { IfOk result (λ r. (1 ≤ r.1) × (r.1 ≤ 1048576)) }
 {
-    lock_folder(files, folder, lock_path, makes, lock)?;
-    open_file(files, folder, path, makes)
+    lock_folder(files, wanted, lock)?;
+    open_file(files, wanted, path)
+}
+
+// The account of the medium that is asked for.
+fn account_of(wanted: &Wanted, errors: Stderr) -> Result<Account, AllocError> {
+    let path = path_of(wanted.alloc, wanted.folder, wanted.name)?;
+    Account::new(wanted.alloc, errors, path.as_str())
 }
 
 // Says why where there is none, and where a look finds no file.
 fn open_medium(
     files: &impl Files<File = File>,
-    folder: &str,
-    lock_path: &str,
-    makes: bool,
+    wanted: &Wanted,
     lock: &mut Option<File>,
     mut account: Account,
 ) -> Option<FileMedium>
     ensures { IfSome result (λ m. IsNewMedium m) }
 {
-    match open_locked(files, folder, lock_path, makes, lock, account.path()) {
+    match open_locked(files, wanted, lock, account.path()) {
         Ok((file, pages)) => {
             if file.is_none() {
                 account.say(NOT_THERE);
@@ -334,22 +224,52 @@ fn open_medium(
     }
 }
 
-// The medium of this name.
+// The medium that is asked for.
 fn medium_of(
-    alloc: Global,
     files: &impl Files<File = File>,
+    wanted: &Wanted,
     errors: Stderr,
-    folder: &str,
-    lock_path: &str,
-    makes: bool,
     lock: &mut Option<File>,
-    name: MediumName,
 ) -> Option<FileMedium>
     ensures { IfSome result (λ m. IsNewMedium m) }
 {
-    match account_of(alloc, errors, folder, name) {
-        Ok(account) => open_medium(files, folder, lock_path, makes, lock, account),
+    match account_of(wanted, errors) {
+        Ok(account) => open_medium(files, wanted, lock, account),
         Err(_) => None,
+    }
+}
+
+// How many pages a volume has at least: as many as the one before it, if that was taken just before.
+fn least_pages(last: &Option<(MediumName, u32)>, name: MediumName) -> u32 {
+    match last {
+        Some((before, pages)) => {
+            let is_next = before.kind == name.kind
+                && before.number == name.number
+                && before.volume.saturating_add(1) == name.volume;
+            if is_next { *pages } else { 0 }
+        }
+        None => 0,
+    }
+}
+
+impl<R: Files<File = File>> FileShelf<R> {
+    // Opens the medium of this name.
+    fn open(&mut self, name: MediumName) -> Option<FileMedium>
+        ensures new { IfSome result (λ m. IsNewMedium m) }
+        ensures stays { (self.new.taken ≡ self.old.taken) × (self.new.asked ≡ self.old.asked) × (self.new.faults ≡
+            self.old.faults) }
+    {
+        let wanted = Wanted {
+            alloc: self.alloc,
+            folder: self.folder.as_str(),
+            lock_path: self.lock_path.as_str(),
+            name,
+            makes: self.makes,
+            least: least_pages(&self.last, name),
+        };
+        let medium = medium_of(&self.files, &wanted, self.errors, &mut self.lock)?;
+        self.last = Some((name, medium.pages()));
+        Some(medium)
     }
 }
 
@@ -379,19 +299,7 @@ impl<R: Files<File = File> + Drop> Shelf for FileShelf<R> {
         };
         self.asked.add(name);
         if !self.taken.contains(&name) {
-            let folder = self.folder.as_str();
-            let lock_path = self.lock_path.as_str();
-            let opened = medium_of(
-                self.alloc,
-                &self.files,
-                self.errors,
-                folder,
-                lock_path,
-                self.makes,
-                &mut self.lock,
-                name,
-            );
-            if let Some(medium) = opened {
+            if let Some(medium) = self.open(name) {
                 if self.taken.push(name).is_ok() {
                     return Ok(medium);
                 }

@@ -5,8 +5,8 @@
 mod options;
 
 use crate::options::{command, look_of};
-use folder_look::{Choice, page_of};
-use folder_reader::media_of;
+use folder_look::{Choice, MediumLook, page_of};
+use folder_reader::{media_of, warning_of};
 use std::alloc::{AllocError, Global};
 use std::env;
 use std::io::{self, ErrorKind, Write};
@@ -36,11 +36,27 @@ fn words_of(rt: &HostRuntime, alloc: Global) -> Result<Vec<String>, AllocError> 
     }
 }
 
+// Says on standard error which media can't be read, and which are lost.
+fn warn(
+    rt: &HostRuntime,
+    alloc: Global,
+    folder: &str,
+    media: &[MediumLook],
+) -> Result<(), AllocError> {
+    for look in media {
+        if let Some(text) = warning_of(alloc, rt, folder, look)? {
+            let _said = eprintln!(rt; "swallow_look: {}: {}", folder, text.as_str());
+        }
+    }
+    Ok(())
+}
+
 // Writes the page of a folder to standard output. Gives the status.
 fn show(rt: &HostRuntime, alloc: Global, folder: &str, choice: &Choice) -> Result<u8, AllocError> {
     let Ok(media) = media_of(alloc, rt, folder) else {
         return Err(AllocError);
     };
+    warn(rt, alloc, folder, media.as_slice())?;
     let page = page_of(alloc, choice, media.as_slice())?;
     let mut out = io::writer(rt);
     match out.write_all(page.as_slice()) {
