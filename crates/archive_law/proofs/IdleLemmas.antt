@@ -1,5 +1,8 @@
 -- The facts of a run without acts over what a past left; and so its archive tells the map.
-use Rattle.archive_law.proofs.Names.{Has, repository, StampParts, Decision, NodeId, Effect, Post, settle_of, Distinct, is_commit, marks, RestsOn, decide-home, decided-once, put-logged, Tree, RunLogs, before, in_run, log_of, own_reading, Base, Earlier, TickedBy, replaced, node_facts, OlderFacts, each-has, map-has, RunFacts, whole_log, put-asked, IsPast, archive, log_after, volumes_left, TellsMap, ◌≡◌, ◌⊎◌, ◌≤◌, inl, inr, ℕ, Bool, true, false, List, [], ◌∷◌, ◌++◌, map, filter, reverse, if◌then◌else◌, refl, sym, ◌∙◌, ap, subst, nat_le, ◌&&◌, false≢true, le-leb, learn-home, Said, whole_run, idle_run}
+use Rattle.std.proofs.Common.{⊎_elim}
+use Rattle.pseudo_time.proofs.OrderLemmas.{same_stamp-is}
+use Rattle.archive_law.specs.AsOf.{HomeKnows, beside_homes}
+use Rattle.archive_law.proofs.Names.{Every, every-has, has-right, same_stamp, or_else, TimeParts, ObjectId, Value, Mark, Option, Some, None, Has, repository, StampParts, Decision, NodeId, Effect, Post, settle_of, Distinct, is_commit, marks, RestsOn, decide-home, decided-once, put-logged, Tree, RunLogs, before, in_run, log_of, own_reading, Base, Earlier, TickedBy, replaced, node_facts, OlderFacts, each-has, map-has, RunFacts, whole_log, put-asked, IsPast, archive, log_after, volumes_left, TellsMap, ◌≡◌, ◌⊎◌, ◌≤◌, inl, inr, ℕ, Bool, true, false, List, [], ◌∷◌, ◌++◌, map, filter, reverse, if◌then◌else◌, refl, sym, ◌∙◌, ap, subst, nat_le, ◌&&◌, false≢true, le-leb, learn-home, Said, whole_run, idle_run}
 use Rattle.pseudo_time.specs.declared.decisions.Decision.TheVariants as decision
 use Rattle.effect_form.specs.declared.effects.Effect.TheVariants as effect
 use Rattle.message_form.specs.declared.messages.Message.{Message}
@@ -109,8 +112,43 @@ module _ (script : List ℕ → Tree) (b : Base) (logs : NodeId → List Effect)
         (subst (Has (mark.Put o x v)) (sym (marks-whole (gone (repository r)) (now r))) (volumes.stands-all script b logs olds past sent May f r k.0 o x v k.1 k.2)));
     home = λ o x v h. (let k = archive-from script b logs olds past sent May f r o x v h in put-home script b logs olds past sent May f r k.0 o x v k.1 k.2);
     step = λ o x v h. (let k = archive-from script b logs olds past sent May f r o x v h in put-step script b logs olds past sent May f r k.0 o x v k.1 k.2);
-    settles = λ s. archive-settles script b logs olds past sent May f r s ∙ sym (ap (λ l. settle_of (marks l) s) same ∙ settle-whole (gone (repository r)) (now r) s);
+    sure = λ s c e. (r, inside, (ap (λ l. settle_of (marks l) s) same ∙ settle-whole (gone (repository r)) (now r) s) ∙ (sym (archive-settles script b logs olds past sent May f r s) ∙ e));
   }
+
+-- ---- with decisions of homes
+
+abbrev Decisions : Type 0
+Decisions = List (StampParts × Bool)
+
+-- a decision that an archive has with these is one of them, or its own
+first-settled : (p s : StampParts) (x c : Bool) (P : Type 0) → (p ≡ s → x ≡ c → P) → (u : Option Bool) → (u ≡ Some c → P) → (b : Bool) → same_stamp p s ≡ b → (if b then or_else u x else u) ≡ Some c → P
+first-settled p s x c P here None below true q e = here (same_stamp-is p s q) (let z : ◌≡◌ {A = Option Bool} (Some x) (Some c) = e in cc z)
+first-settled p s x c P here (Some y) below true q e = below e
+first-settled p s x c P here u below false q e = below e
+
+settled-beside : (ds : Decisions) (m : List Mark) (s : StampParts) (c : Bool) → settle_of (beside_homes ds m) s ≡ Some c → Has (s, c) ds ⊎ (settle_of m s ≡ Some c)
+unfolding settle_of
+settled-beside [] m s c e = inr e
+settled-beside (d ∷ ds) m s c e = first-settled d.0 s d.1 c (Has (s, c) (d ∷ ds) ⊎ (settle_of m s ≡ Some c))
+    (λ p q. inl (inl (ap (λ (z : StampParts). (z, d.1)) p ∙ ap (λ (z : Bool). (s, z)) q)))
+    (settle_of (beside_homes ds m) s)
+    (λ h. ⊎_elim (λ k. inl (inr k)) (λ k. inr k) (settled-beside ds m s c h)) (same_stamp d.0 s) refl e
+
+put-beside : (ds : Decisions) (m : List Mark) (o : ObjectId) (x : TimeParts) (v : Value) → Has (mark.Put o x v) (beside_homes ds m) → Has (mark.Put o x v) m
+put-beside [] m o x v h = h
+put-beside (d ∷ ds) m o x v (inl e) = absurd (cc e)
+put-beside (d ∷ ds) m o x v (inr k) = put-beside ds m o x v k
+
+archives-beside : (k : RunLogs) (r : ℕ) (m : List Mark) (ds : Decisions) → Archives k r m
+    → ((s : StampParts) (c : Bool) → Has (s, c) ds → (q : ℕ) × (in_run k q ≡ true) × (settle_of (marks (log_of k q)) s ≡ Some c)) → Archives k r (beside_homes ds m)
+archives-beside k r m ds a told = record {
+  inside = a.inside;
+  has = λ o x v h. has-right (map (λ d. mark.Settle d.0 d.1) ds) m (mark.Put o x v) (a.has o x v h);
+  from = λ o x v h. a.from o x v (put-beside ds m o x v h);
+  home = λ o x v h. a.home o x v (put-beside ds m o x v h);
+  step = λ o x v h. a.step o x v (put-beside ds m o x v h);
+  sure = λ s c e. ⊎_elim (λ h. told s c h) (λ h. a.sure s c h) (settled-beside ds m s c e);
+}
 
 -- ---- a past
 
@@ -121,3 +159,19 @@ idle-tells cs r n s past low high =
     tells-map (idle_run cs n) (requests (its.past ++ []))
     (idle-facts its.script (no_base its.script) (log_after cs) (replaced own_reading cs) its.past [] (TickedBy cs []) its.facts n) r (archive (volumes_left cs r))
     (archives its.script (no_base its.script) (log_after cs) (replaced own_reading cs) its.past [] (TickedBy cs []) its.facts (idle_run cs n) r inside refl) s
+
+-- a repository from 1 to n is one of the run
+inside-run : (k : RunLogs) (r : ℕ) → 1 ≤ r → r ≤ k.repositories → in_run k r ≡ true
+inside-run k r low high = (elim (nat_le 1 r) as (λ a. (b : Bool) → a ≡ true → b ≡ true → (a && b) ≡ true) [ true ↦ λ b h k. k | false ↦ λ b h k. absurd (false≢true h) ]) (nat_le r k.repositories) (le-leb 1 r low) (le-leb r k.repositories high)
+
+pub homes-tell : (cs : List Earlier) (r n : ℕ) (s : StampParts) (ds : Decisions) → IsPast cs → 1 ≤ r → r ≤ n → Every (HomeKnows cs n) ds
+    → TellsMap r (beside_homes ds (archive (volumes_left cs r))) s (before (idle_run cs n) s)
+homes-tell cs r n s ds past low high told =
+    let its : Facts cs = facts-of cs past in
+    let k : RunLogs = idle_run cs n in
+    tells-map k (requests (its.past ++ []))
+    (idle-facts its.script (no_base its.script) (log_after cs) (replaced own_reading cs) its.past [] (TickedBy cs []) its.facts n) r (beside_homes ds (archive (volumes_left cs r)))
+    (archives-beside k r (archive (volumes_left cs r)) ds
+    (archives its.script (no_base its.script) (log_after cs) (replaced own_reading cs) its.past [] (TickedBy cs []) its.facts k r (inside-run k r low high) refl)
+    (λ p c h. let d = every-has (HomeKnows cs n) ds (p, c) told h in
+    (p.home, inside-run k p.home d.0 d.1, settle-whole (map reverse (replaced own_reading cs (repository p.home))) (reverse (log_after cs (repository p.home))) p ∙ d.2))) s

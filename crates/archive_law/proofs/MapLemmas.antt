@@ -36,7 +36,8 @@ pub record Archives (k : RunLogs) (r : ℕ) (m : List Mark) : Type 0 where
   pub from : (o : ObjectId) (x : TimeParts) (v : Value) → Has (mark.Put o x v) m → Has (mark.Put o x v) (marks (log_of k r))
   pub home : (o : ObjectId) (x : TimeParts) (v : Value) → Has (mark.Put o x v) m → o.repository ≡ r
   pub step : (o : ObjectId) (x : TimeParts) (v : Value) → Has (mark.Put o x v) m → 1 ≤ x.step
-  pub settles : (s : StampParts) → settle_of m s ≡ settle_of (marks (log_of k r)) s
+  -- a decision that it has of an attempt is that of a log of the run
+  pub sure : (s : StampParts) (c : Bool) → settle_of m s ≡ Some c → (q : ℕ) × (in_run k q ≡ true) × (settle_of (marks (log_of k q)) s ≡ Some c)
 
 module _ (k : RunLogs) (ever : List Post) (f : RunFacts k ever) (r : ℕ) (m : List Mark) (a : Archives k r m) (s : StampParts) where
   abbrev at : TimeParts
@@ -61,8 +62,8 @@ module _ (k : RunLogs) (ever : List Post) (f : RunFacts k ever) (r : ℕ) (m : L
 
     agrees : (x : TimeParts) (u : Option Bool) → settle_of m x.stamp ≡ u → is_settled u ≡ true → is_committed (settle_of m x.stamp) ≡ committed k x.stamp
     agrees x None e h = absurd (false≢true h)
-    agrees x (Some true) e h = ap is_committed e ∙ sym (sure-yes k ever f r x.stamp a.inside (sym (a.settles x.stamp) ∙ e))
-    agrees x (Some false) e h = ap is_committed e ∙ sym (sure-no k ever f r x.stamp a.inside (sym (a.settles x.stamp) ∙ e))
+    agrees x (Some true) e h = (let q = a.sure x.stamp true e in ap is_committed e ∙ sym (sure-yes k ever f q.0 x.stamp q.1 q.2))
+    agrees x (Some false) e h = (let q = a.sure x.stamp false e in ap is_committed e ∙ sym (sure-no k ever f q.0 x.stamp q.1 q.2))
 
     tests : (o : ObjectId) (x : TimeParts) (v : Value) → Has (mark.Put o x v) m → told x ≡ sure x
     tests o x v h = go (lt x at) refl

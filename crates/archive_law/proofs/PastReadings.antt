@@ -4,6 +4,7 @@ use Rattle.pseudo_time.specs.declared.nodes.NodeKind.{NodeKind}
 use Rattle.pseudo_time.specs.declared.nodes.NodeKind.TheVariants.{Repository, Broker}
 use Rattle.value_form.specs.declared.endings.Ending.TheVariants as ending
 use Rattle.serial_law.proofs.EarlierLemmas.{older-facts}
+use Rattle.serial_law.proofs.Inside.{Inside}
 use Rattle.serial_law.proofs.OlderReading.{OneReading, older-reading}
 
 -- ---- one reading
@@ -13,6 +14,7 @@ pub record Reading (cs : List Earlier) : Type 0 where
   pub are : AreEarlier (alike script) cs
   pub left : (n : NodeId) → log_after cs n ≡ logs_left (alike script) cs n
   pub replaced_so : (n : NodeId) → replaced own_reading cs n ≡ replaced (alike script) cs n
+  pub inside : (text : List ℕ) → Inside 16 (script text)
 
 -- a run among these calls
 record SomeRun : Type 0 where
@@ -54,10 +56,10 @@ reading-of cs past = elim (some-run cs past.0 past.1) [
   | inl r ↦
       let left : WereLeftOrRetired (logs_left own_reading cs) = (cs, past, λ n. refl) in
       let one : OneReading r.plan r.asked r.trace (logs_left own_reading cs) cs = older-reading r.plan r.asked r.trace (logs_left own_reading cs) r.whole r.legal left in
-      record { script = one.script; are = one.are; left = one.left; replaced_so = one.replaced_so }
+      record { script = one.script; are = one.are; left = one.left; replaced_so = one.replaced_so; inside = one.inside }
   | inr h ↦
       let s : List ℕ → Tree = λ text. Ends ending.Finished in
-      record { script = s; are = unread-are s cs h past.0; left = unread-logs s cs h; replaced_so = unread-replaced s cs h }
+      record { script = s; are = unread-are s cs h past.0; left = unread-logs s cs h; replaced_so = unread-replaced s cs h; inside = λ text. tt }
 ]
 
 -- ---- a trace of nothing
@@ -103,6 +105,8 @@ pub record Facts (cs : List Earlier) : Type 0 where
   pub script : List ℕ → Tree
   pub past : List Post
   pub facts : OlderFacts (node_facts script) (no_base script) (log_after cs) (replaced own_reading cs) past [] (TickedBy cs [])
+  pub inside : (text : List ℕ) → Inside 16 (script text)
+  pub are : AreEarlier (alike script) cs
 
 pub facts-of : (cs : List Earlier) → IsPast cs → Facts cs
 unfolding walk_from
@@ -115,4 +119,6 @@ facts-of cs past =
       past = sent_earlier (alike r.script) cs;
       facts = subst (λ olds. OlderFacts (node_facts r.script) (no_base r.script) (log_after cs) olds (sent_earlier (alike r.script) cs) [] (TickedBy cs []))
           (λ i n. sym (r.replaced_so n) i) older;
+      inside = r.inside;
+      are = r.are;
     }

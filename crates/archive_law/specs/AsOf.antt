@@ -1,5 +1,5 @@
 -- The map as of a stamp: what an archive says of it, and the plain map that committed attempts leave.
-use Rattle.std.specs.Prelude.{◌≡◌, ◌==◌, ℕ, true, List, [], reverse, if◌then◌else◌, None}
+use Rattle.std.specs.Prelude.{◌≡◌, ◌==◌, ◌≤◌, ℕ, Bool, true, List, [], ◌++◌, map, reverse, if◌then◌else◌, Some, None}
 use Rattle.pseudo_time.specs.Nodes.{repository}
 use Rattle.pseudo_time.specs.StampParts.{StampParts}
 use Rattle.pseudo_time.specs.TimeParts.{TimeParts}
@@ -10,10 +10,12 @@ use Rattle.value_form.specs.declared.values.Value.TheVariants.{Nothing}
 use Rattle.value_form.specs.Objects.{Objects, value_at}
 use Rattle.effect_form.specs.declared.effects.Effect.{Effect}
 use Rattle.object_history.specs.declared.marks.Mark.{Mark}
+use Rattle.object_history.specs.declared.marks.Mark.TheVariants as mark
 use Rattle.object_history.specs.Views.{value_of}
 use Rattle.archive_store.specs.Latest.{last_below}
 use Rattle.archive_store.specs.Opens.{first_open}
 use Rattle.plan_form.specs.declared.plans.Plan.{Plan}
+use Rattle.repository_log.specs.Logs.{known}
 use Rattle.world_core.specs.declared.traces.Trace.{Trace}
 use Rattle.world_core.specs.Deeds.{RunLogs, before}
 use Rattle.world_core.specs.Legal.{in_plan}
@@ -46,3 +48,17 @@ idle_run cs n = whole_run (olds_in cs) (record { repositories = n; logs = λ (m 
 abbrev pub TellsRun : Plan → Trace → Type 0
 TellsRun plan t = (logs : NodeId → List Effect) (left : WereLeftOrRetired logs) → OpenedWith t.opened logs → (r : ℕ) → in_plan plan (repository r) ≡ true → (s : StampParts) →
     TellsMap r (archive (volumes_with left.0 r (gated_log plan t (repository r)))) s (before (whole_in left.0 plan t) s)
+
+-- ---- one map of several repositories
+
+-- how attempts were decided, each by its home
+abbrev pub Decided : Type 0
+Decided = StampParts × Bool
+
+-- the log of the attempt's home, one of repositories 1 to n, knows this decision
+abbrev pub HomeKnows : List Earlier → ℕ → Decided → Type 0
+HomeKnows cs n d = (1 ≤ d.0.home) × (d.0.home ≤ n) × (known (reverse (log_after cs (repository d.0.home))) d.0 ≡ Some d.1)
+
+-- what an archive says with decisions that homes know and it doesn't, newest mark first
+abbrev pub beside_homes : List Decided → List Mark → List Mark
+beside_homes ds m = map (λ (d : Decided). mark.Settle d.0 d.1) ds ++ m

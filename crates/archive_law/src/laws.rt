@@ -1,5 +1,6 @@
 // Each law holds over every past: runs of plans of the language and retirements, one after another.
 ghost use Rattle.std.specs.Prelude.{◌≤◌, ℕ, List};
+ghost use Rattle.pseudo_time.specs.Lists.{Every};
 ghost use Rattle.pseudo_time.specs.StampParts.{StampParts};
 ghost use Rattle.pseudo_time.specs.TimeParts.{TimeParts};
 ghost use Rattle.value_form.specs.declared.objects.ObjectId.{ObjectId};
@@ -13,7 +14,7 @@ ghost use Rattle.world_core.specs.Deeds.{before};
 ghost use Rattle.world_core.specs.Readings.{IsLegal};
 ghost use Rattle.serial_law.specs.Earlier.{Earlier};
 ghost use Rattle.archive_law.specs.Archives.{EverStood, IsArchive, IsPast, archive, volumes_left};
-ghost use Rattle.archive_law.specs.AsOf.{TellsMap, TellsRun, idle_run};
+ghost use Rattle.archive_law.specs.AsOf.{Decided, HomeKnows, TellsMap, TellsRun, beside_homes, idle_run};
 ghost use Rattle.archive_law.specs.Audits.{HasHolder, ListsAll, versions_in};
 ghost use Rattle.archive_law.specs.Totals.{AreWatches, CountEach, CountSettled, Event, calls_of};
 
@@ -50,4 +51,13 @@ pub fn law_of_totals<R: WatchRule>()
         AreWatches R.first R.next r es → CountEach R.first R.next r es }
     ensures whole { (r : ℕ) (es : List (Event R.Total)) → IsPast (calls_of es) →
         AreWatches R.first R.next r es → CountSettled R.first R.next r es }
+{}
+
+/// As of one stamp, the archives of repositories 1 to n together, with whatever their homes' logs know of
+/// attempts that they don't: where none of them has an undecided version below it then, each tells its part of
+/// the one plain map that all committed attempts below the stamp leave.
+pub fn law_of_snapshot()
+    ensures { (cs : List Earlier) (r n : ℕ) (s : StampParts) (ds : List Decided) → IsPast cs → 1 ≤ r → r ≤ n →
+        Every (HomeKnows cs n) ds →
+        TellsMap r (beside_homes ds (archive (volumes_left cs r))) s (before (idle_run cs n) s) }
 {}

@@ -4,4 +4,4 @@
 
 mod laws;
 
-pub use laws::{law_of_asof, law_of_audit, law_of_totals};
+pub use laws::{law_of_asof, law_of_audit, law_of_snapshot, law_of_totals};

@@ -1,4 +1,6 @@
 -- each turn of a broker adds fitting effects with their evidence and right messages; and it leaves nothing owed
+use Rattle.broker_laws.proofs.Names.{◌-◌, ◌≤◌}
+use Rattle.broker_laws.specs.Posts.{IsNotEarly}
 use Rattle.broker_laws.proofs.Names.{StampParts, TimeParts, Task, Decision, Effect, Outcome, Message, Out, Post, Act, Book, Try, book, enter, find, front, last_try, open_try, time_of, tries, tries_of, act_effect, add_if, another, first_some, fits, has_ended, is_none, keep, next_clock, other_plan, outcome_by, rests, shown_to, stop_of, unfit_act, after_act, after_tries, by_clock, by_stage, due, owed, start, Answered, Begun, Decided, News, Over_there, Refusal, decided_commit, decided_early, ends, news, row, when, Asking, Closing, Finishing, Idle, Opening, Refused, Stage, Stopping, by_stop, is_asking, is_closed, is_finished, no_answer, stage, stage_of, standing, repository, is_stamp, is_time, Desk, Go, Hear, Input, Take, desk_turn, fuel, hears, note, note_if, reply, say, send, settle_up, state, all_effects, Heard, Reply, Adds, Hears, Ignored, EndsBy, FitsBook, IsTidy, may_start, AnswerCame, Clocks, EndCame, RestsOn, HasCome, IsAskOf, IsBelow, IsKnown, MayCommit, OfOpen, PostHolds, at, MayInput, TurnHolds, same_stamp-is, same_stamp-self, Every, same_stamp, same_time, Answer, Asks, Got, Over, Request, Stop, Stored, ToRead, ToWrite, Tree, ◌≡◌, ℕ, zero, suc, ◌+◌, ◌<◌, ◌==◌, max, nat_lt, Bool, true, false, ◌&&◌, ◌||◌, length, List, [], ◌∷◌, ◌++◌, refl, sym, ap, subst, Option, Some, None, inl, inr, if◌then◌else◌, arith, append-nil, ltb-true, common_steps, slice_get, request, same_time-is}
 use Rattle.pseudo_time.specs.declared.decisions.Decision.TheVariants as decision
 use Rattle.effect_form.specs.declared.effects.Effect.TheVariants as effect
@@ -217,12 +219,15 @@ module _ (script : List ℕ → Tree) (me run : ℕ) (acts : List Task) where
     next-above : (last shown c : ℕ) → next_clock last shown ≡ Some c → last < c
     next-above last shown c h = (elim (nat_lt (max last shown) 1099511627775) as (λ y. (if y then Some (max last shown + 1) else None) ≡ Some c → last < c) [ true ↦ λ h. let e : max last shown + 1 ≡ c = cc in omega arith | false ↦ λ h. cc ]) h
 
+    not-early : (last shown clock c : ℕ) → next_clock last (max shown (clock - 1)) ≡ Some c → clock ≤ c
+    not-early last shown clock c h = (elim (nat_lt (max last (max shown (clock - 1))) 1099511627775) as (λ y. (if y then Some (max last (max shown (clock - 1)) + 1) else None) ≡ Some c → clock ≤ c) [ true ↦ λ h. let e : max last (max shown (clock - 1)) + 1 ≡ c = cc in omega arith | false ↦ λ h. cc ]) h
+
     by-clock-ok : (b : Book) (a : Act) (done : List Act) (o : Option ℕ) → b.acts ≡ a ∷ done → next_clock b.clock (shown_to b a) ≡ o → a.spent ≡ None → another a.task.tries a.tries ≡ true →
         Good b (by_clock me b a o)
     by-clock-ok b a done (Some c) l e n m = record {
       fits = subst (λ as'. FitsBook script me (record b { acts = as' }) (effect.Try a.task.index (record { clock = c; broker = me; home = a.task.home }))) (sym l)
           (refl, n, m, (refl, refl, next-above b.clock (shown_to b a) c e));
-      came = tt;
+      came = subst (λ as'. IsNotEarly as' (record { clock = c; broker = me; home = a.task.home })) (sym l) (not-early b.clock b.shown a.task.clock c e);
       planned = refl;
       run_stays = λ y. y;
     }

@@ -2,6 +2,7 @@ pub mod AnyDesks
 pub mod AnyLog
 pub mod BookSteps
 pub mod BookTurns
+pub mod Clocks
 pub mod Desks
 pub mod Done
 pub mod Found

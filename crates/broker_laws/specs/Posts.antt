@@ -78,6 +78,11 @@ abbrev pub OfOpen : Option Try → (Try → Type 0) → Type 0
 OfOpen None P = Unit {0}
 OfOpen (Some t) P = P t
 
+-- the stamp isn't below the clock that the newest of these acts may begin with
+abbrev pub IsNotEarly : List Act → StampParts → Type 0
+IsNotEarly [] s = Unit {0}
+IsNotEarly (a ∷ done) s = a.task.clock ≤ s.clock
+
 module _ (me : ℕ) where
   -- a message that was sent to broker `me`
   abbrev pub HasCome : List Post → Message → Type 0
@@ -107,7 +112,7 @@ module _ (me : ℕ) where
   RestsOn ever b effect.Whole = Unit {0}
   RestsOn ever b (effect.Run n) = Unit {0}
   RestsOn ever b (effect.Act i h t k c x) = Unit {0}
-  RestsOn ever b (effect.Try i s) = Unit {0}
+  RestsOn ever b (effect.Try i s) = IsNotEarly b.acts s
   RestsOn ever b (effect.Put o x v) = Unit {0}
   RestsOn ever b (effect.Stretch o x) = Unit {0}
   RestsOn ever b (effect.Begin s d) = Unit {0}
@@ -126,6 +131,10 @@ IsBelow me clock t = (t.stamp.clock ≤ clock) × (t.stamp.broker ≡ me)
 
 abbrev pub Clocks : ℕ → Book → Type 0
 Clocks me b = Every (IsBelow me b.clock) (tries b)
+
+-- its clock isn't below that of its act
+abbrev pub IsLate : Try → Type 0
+IsLate t = t.task.clock ≤ t.stamp.clock
 
 -- no two tries have one stamp
 abbrev pub Distinct : List Try → Type 0

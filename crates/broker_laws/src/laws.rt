@@ -15,7 +15,7 @@ ghost use Rattle.broker_core.specs.Book.{Try, book, tries, tries_of, find, open_
 ghost use Rattle.broker_core.specs.Fits.{keep, resume_fault};
 ghost use Rattle.broker_laws.specs.Fits.{FitsBook, FitsLog, IsTidy, IsReady};
 ghost use Rattle.broker_core.specs.Sound.{Started};
-ghost use Rattle.broker_laws.specs.Posts.{Clocks, Distinct, IsLater, PostHolds, HaveCauses, IsAskOf, IsPlanned, IsPlayed, IsProven, IsWithinLimits};
+ghost use Rattle.broker_laws.specs.Posts.{Clocks, Distinct, IsLater, PostHolds, HaveCauses, IsAskOf, IsLate, IsPlanned, IsPlayed, IsProven, IsWithinLimits};
 
 /// No stamp of a log is above its clock, each is the broker's own, and no two are equal: over all runs
 /// of the log.
@@ -51,6 +51,12 @@ pub fn messages_stay_true()
 pub fn one_request()
     ensures { (script : List ℕ → Tree) (ts : List Try) (x : TimeParts) (q r : Request) → IsAskOf script ts x q →
         IsAskOf script ts x r → q ≡ r }
+{}
+
+/// The clock of each try is at least that of its act.
+pub fn tries_are_late()
+    ensures { (script : List ℕ → Tree) (me : ℕ) (ever : List Post) (log : List Effect) →
+        IsTidy script me log → HaveCauses me ever log → Every IsLate (tries (book log)) }
 {}
 
 /// Of a log whose effects fit, and that is ready, every effect counts, and its acts are the plan's; and

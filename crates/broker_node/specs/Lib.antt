@@ -3,6 +3,7 @@ pub use Rattle.node_turn.specs.Boards
 pub use Rattle.node_turn.specs.Clocked
 pub use Rattle.node_turn.specs.Cores
 pub use Rattle.node_turn.specs.Costs
+pub use Rattle.node_turn.specs.Learns
 pub use Rattle.node_turn.specs.Lives
 pub use Rattle.node_turn.specs.Nodes as TurnNodes
 pub use Rattle.node_turn.specs.Sights

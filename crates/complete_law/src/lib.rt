@@ -9,6 +9,6 @@ pub use laws::{
     law_one_broker, law_outcomes,
 };
 pub use serial_law::{
-    law_of_added_reasons, law_of_answers, law_of_finals, law_of_reasons, law_of_serial_runs,
-    law_of_spent_acts,
+    law_of_added_reasons, law_of_answers, law_of_finals, law_of_late_attempts, law_of_reasons,
+    law_of_serial_runs, law_of_spent_acts,
 };

@@ -40,6 +40,7 @@ pub use Rattle.version_store.specs.declared.faults.StoreFault
 pub use Rattle.wire_core.specs.Boards
 pub use Rattle.wire_core.specs.Changes
 pub use Rattle.wire_core.specs.Clocked
+pub use Rattle.wire_core.specs.Learns
 pub use Rattle.wire_core.specs.Wires
 pub use Rattle.wire_lock.specs.Decisions
 pub use Rattle.wire_lock.specs.Sights

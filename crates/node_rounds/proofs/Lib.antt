@@ -4,6 +4,7 @@ pub mod PageLemmas
 pub mod PairLemmas
 pub mod RepositoryCrosses
 pub mod RoundLemmas
+pub mod SettledLemmas
 pub mod ShareLemmas
 pub mod TickLemmas
 pub mod TurnedLemmas
@@ -17,3 +18,4 @@ pub use Rattle.broker_node.proofs.TrailLemmas
 pub use Rattle.broker_node.proofs.TurnPageLemmas
 pub use Rattle.broker_node.proofs.WindowLemmas
 pub mod Names
+pub use Rattle.repository_node.proofs.DoubtLemmas

@@ -13,7 +13,7 @@ pub use Rattle.broker_node.specs.Wires.{WireParts, base_from}
 pub use Rattle.medium_port.specs.Image.{Image, page_of}
 pub use Rattle.medium_port.specs.declared.media.Medium.{Ghosts as Media}
 pub use Rattle.node_rounds.specs.Nodes.{EachNode, EachPlace, GoesOn, HadTurn, HasAllOf, HasMet, HasPass, HasSeen, IsKeptThrough, IsReady, IsUp, Shares, SomeNode}
-pub use Rattle.node_rounds.specs.Reasons.{Follows, HasMemory, HasTicked, IsDone, IsDown, IsLate, IsLateAfter, SawRest, SeesMore, TicksAreWanted, is_done_after, is_done_at}
+pub use Rattle.node_rounds.specs.Reasons.{Follows, HasMemory, HasTicked, IsDone, IsDown, IsFurther, IsLate, IsLateAfter, NodesSay, SawMore, SawRest, SeesMore, WantsAs, TicksAreWanted, is_done_after, is_done_at}
 pub use Rattle.node_rounds.specs.Turns.{GoesFurther, HadSome}
 pub use Rattle.pseudo_time.proofs.ListLemmas.{every-append, has-either, has-left, has-right}
 pub use Rattle.pseudo_time.specs.declared.down_causes.DownCause.{DownCause}
@@ -23,8 +23,8 @@ pub use Rattle.seat_lock.specs.Words.{CarriesOn, base_of, base_of as lock_base, 
 pub use Rattle.seat_lock.specs.declared.locks.LockTable.{LockTable}
 pub use Rattle.seat_lock.specs.declared.views.Founding.{Founding}
 pub use Rattle.seat_lock.specs.declared.views.View.{View}
-pub use Rattle.std.proofs.Common.{Bool, Err, List, Ok, OnOk, Result, Some, [], ap, append_assoc, arith, false, get_or, inl, inr, length, length-set, not, refl, subst, suc, sym, true, zero, ℕ, ⊎_elim, ◌++◌, ◌+◌, ◌<◌, ◌==◌, ◌∙◌, ◌∷◌, ◌≡◌, ◌≢◌, ◌≤◌, ◌⊎◌}
-pub use Rattle.std.proofs.lemmas.List.{append-nil, get_or_default}
+pub use Rattle.std.proofs.Common.{Bool, Err, List, Ok, OnOk, Result, Some, [], ap, append_assoc, arith, false, get_or, inl, inr, length, length-set, not, refl, subst, suc, sym, true, zero, ℕ, ⊎_elim, ◌++◌, ◌+◌, ◌<◌, ◌==◌, ◌^◌, ◌∙◌, ◌∷◌, ◌≡◌, ◌≢◌, ◌≤◌, ◌⊎◌}
+pub use Rattle.std.proofs.lemmas.List.{append-nil, get_or_default, length-append}
 pub use Rattle.std.proofs.lemmas.List.Elements.{All-cons, All-nil, All-set, All-weaker, AllWithin-more, AllWithin-more_set, AllWithin-none, filter-append}
 pub use Rattle.std.proofs.lemmas.List.Sums.{sum_by-append, sum_by-cons}
 pub use Rattle.std.specs.List.{AllWithin, AllZip}

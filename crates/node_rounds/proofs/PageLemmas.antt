@@ -1,5 +1,5 @@
 -- Pages over two runs of turns.
-use Rattle.node_rounds.proofs.Names.{◌≡◌, ◌≢◌, ◌∙◌, ◌+◌, Bool, true, false, List, ◌++◌, ℕ, Ok, refl, sym, ap, subst, append_assoc, arith, Image, page_of, every-append}
+use Rattle.node_rounds.proofs.Names.{◌≡◌, ◌≢◌, ◌∙◌, Bool, true, false, List, ◌++◌, ℕ, Ok, refl, sym, ap, subst, append_assoc, arith, Image, page_of, every-append}
 use Rattle.page_gate.specs.States.{is_blank, state_of}
 use Rattle.page_gate.specs.declared.pages.PageState.TheVariants.{Spoiled}
 use Rattle.effect_form.specs.declared.effects.Effect.{Effect}

@@ -38,6 +38,7 @@ use Rattle.repository_core.specs.contracts.books.Books as Books
 use Rattle.repository_core.specs.contracts.works.Work as Work
 use Rattle.repository_core.specs.contracts.repositories.Repository as Repository
 use Rattle.repository_core.specs.contracts.repositories.Repository.TheInside as RepositoryInside
+use Rattle.repository_node.proofs.notes.Notes.TheSendSync as notes
 use Rattle.repository_node.specs.contracts.kept_cores.KeptCore as KeptCore
 use Rattle.repository_node.specs.contracts.cores.RepositoryCore as RepositoryCore
 use Rattle.node_rounds.proofs.BrokerCrosses.{log_send}
@@ -93,4 +94,4 @@ module _ (M : RattleType) (m : medium.Ghosts M.Denot) (sm : IsSend M) where
   kept_send = variants_send (KeptCore.enum M m) ((repository_send (HeaderTable.the_row M m) Beneath.the_row (table.ghosts M m table.no_dict table.no_dict) table_send, tt), ((as_row_send (row_field M) sm, tt), tt))
 
   pub core_send : IsSend (RepositoryCore.the_row M m)
-  core_send = declared_send (RepositoryCore.the_type M m) (n8, (n64, (kept_send, tt)))
+  core_send = declared_send (RepositoryCore.the_type M m) (n8, (n64, (kept_send, (notes.the_send, tt))))

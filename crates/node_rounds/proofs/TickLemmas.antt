@@ -1,5 +1,5 @@
 -- What the conductor has seen, over looks and Ticks.
-use Rattle.node_rounds.proofs.Names.{◌≡◌, ◌+◌, ◌<◌, ℕ, Bool, true, false, not, IsTrue, List, [], ◌∷◌, ◌++◌, inr, refl, ap, sym, subst, ◌∙◌, arith, cond, sum_by-append, Begins, Entry, Tick, walk, Sight, HasNothingOpen, Looked, base_at, world_at, is_tick, tick_count, Shares, EachNode, EachPlace, HasMet, IsUp, SeesMore, SawRest, Follows}
+use Rattle.node_rounds.proofs.Names.{◌≡◌, ◌+◌, ◌<◌, ◌≤◌, ℕ, Bool, length, length-append, inl, SawMore, WantsAs, true, false, not, IsTrue, List, [], ◌∷◌, ◌++◌, inr, refl, ap, sym, subst, ◌∙◌, arith, cond, sum_by-append, Begins, Entry, Tick, walk, Sight, HasNothingOpen, Looked, base_at, world_at, is_tick, tick_count, Shares, EachNode, EachPlace, HasMet, IsUp, SeesMore, SawRest, Follows}
 use Rattle.node_rounds.specs.declared.limits.Limits.{Limits}
 use Rattle.node_rounds.specs.declared.reasons.Reason.TheVariants as reason
 use Rattle.node_rounds.specs.declared.reasons.Next.{Next}
@@ -30,13 +30,24 @@ is-so false e = absurd cc
 pub saw-rest : (a b : Sight) → HasNothingOpen (world_at a) → Looked a b → SawRest b
 saw-rest a b rest p = (a.story, p.before.carries.begins, subst (λ (k : Sight). HasNothingOpen (walk (base_at k) a.story)) (sym p.kept) rest)
 
+-- a story that goes on has no fewer entries
+pub begins-longer : (es fs : List Entry) → Begins es fs → length es ≤ length fs
+begins-longer es fs b = let e = ap length b.1 in let k = length-append es b.0 in omega (arith, e, k)
+
 module _ {M : Type 0} (tells : Bool) (limits : Limits) where
   -- memory ran out for a Tick
-  pub wants-tick : (a b c : Sight) (nodes : Shares M) → EachNode IsUp nodes → HasNothingOpen (world_at b) → Looked a b → Looked b c → tick_count a.own < limits.ticks → Follows tells limits (next.End reason.Wanting) nodes a c
-  wants-tick a b c nodes up rest p q few =
+  pub wants-tick : (a b c : Sight) (nodes : Shares M) → EachNode IsUp nodes → Looked a b → Looked b c → Follows tells limits (next.End reason.Wanting) nodes a c
+  wants-tick a b c nodes up p q = (inr up, sees-joins 0 0 a b c (sees-looked a b p) (sees-looked b c q))
+
+  pub wants-more : (a b c : Sight) (before : ℕ) (nodes : Shares M) → EachNode IsUp nodes → HasNothingOpen (world_at b) → Looked a b → Looked b c → tick_count a.own < limits.ticks → WantsAs tells limits before reason.Wanting nodes c
+  wants-more a b c before nodes up rest p q few =
       let m = ap tick_count (looked-own p) in
       let n = ap tick_count (looked-own q) in
-      (inr (up, omega (arith, m, n, few), saw-rest b c rest q), sees-joins 0 0 a b c (sees-looked a b p) (sees-looked b c q))
+      inr (up, inl (omega (arith, m, n, few), saw-rest b c rest q))
+
+  -- the conductor met the nodes again
+  pub more-met : (before now : ℕ) (nodes met : Shares M) (k l : Sight) → Looked k l → SawMore tells limits before now next.Ticked nodes k → SawMore tells limits before now next.Ticked met l
+  more-met before now nodes met k l p h = let x = begins-longer k.story l.story p.before.carries.begins in (h.0, omega (arith, x, h.1), h.2)
 
   -- what follows, as seen from before a look
   pub follows-looked : (a b c : Sight) (what : Next) (nodes : Shares M) → Looked a b → Follows tells limits what nodes b c → Follows tells limits what nodes a c

@@ -1,12 +1,15 @@
+pub mod Doubts
 pub mod Kinds
 pub mod Nodes
 pub mod Reasons
+pub mod Settled
 pub mod Turns
 pub use Rattle.broker_node.specs.Boards
 pub use Rattle.broker_node.specs.Clocked
 pub use Rattle.broker_node.specs.Condition
 pub use Rattle.broker_node.specs.Cores
 pub use Rattle.broker_node.specs.Costs
+pub use Rattle.broker_node.specs.Learns
 pub use Rattle.broker_node.specs.Lives
 pub use Rattle.broker_node.specs.Logs
 pub use Rattle.broker_node.specs.Sights
@@ -14,3 +17,4 @@ pub use Rattle.broker_node.specs.Stories
 pub use Rattle.broker_node.specs.TurnNodes
 pub use Rattle.broker_node.specs.Windows
 pub use Rattle.broker_node.specs.Wires
+pub use Rattle.repository_node.specs.Settles

@@ -1,5 +1,5 @@
 -- Why no further round follows, and what follows a round.
-use Rattle.std.specs.Prelude.{◌≡◌, ◌≢◌, ◌⊎◌, ℕ, ◌+◌, ◌≤◌, ◌<◌, Bool, true, false, List, [], ◌∷◌, ◌++◌, length, Option, Some, None, IsTrue, if◌then◌else◌}
+use Rattle.std.specs.Prelude.{◌≡◌, ◌≢◌, ◌⊎◌, ℕ, ◌+◌, ◌≤◌, ◌<◌, ◌^◌, Bool, true, false, List, [], ◌∷◌, ◌++◌, length, Option, Some, None, IsTrue, if◌then◌else◌}
 use Rattle.pseudo_time.specs.declared.nodes.NodeId.{NodeId}
 use Rattle.pseudo_time.specs.declared.down_causes.DownCause.{DownCause}
 use Rattle.pseudo_time.specs.Nodes.{is_broker}
@@ -65,13 +65,14 @@ module _ {M : Type 0} where
   -- ---- why no further round follows
 
   -- Of the nodes, and of what the conductor has seen: a node is down; all brokers are done; so many messages were sent that the run ends; or nothing is
-  -- due, and there were as many Ticks as there may be. Or memory ran out: in a turn of a node, or for a Tick that was due and could be made.
+  -- due, and there were as many Ticks as there may be. Or memory ran out, in a turn of a node, or in a visit while all were
+  -- at work (`WantsAs`).
   abbrev pub EndsFor : Bool → Limits → Reason → Shares M → Sight → Type 0
   EndsFor tells limits reason.Down nodes k = EachNode HasMemory nodes × SomeNode IsDown nodes
   EndsFor tells limits reason.Done nodes k = EachNode IsUp nodes × (IsTrue tells → EachNode IsDone nodes)
   EndsFor tells limits reason.Enough nodes k = EachNode IsUp nodes × (IsTrue tells → limits.messages ≤ length (sent_by (world_at k)))
   EndsFor tells limits reason.RunOut nodes k = EachNode IsUp nodes × HasNothingOpen (world_at k) × (tick_count k.own ≡ limits.ticks)
-  EndsFor tells limits reason.Wanting nodes k = SomeNode WantsMemory nodes ⊎ (EachNode IsUp nodes × (tick_count k.own < limits.ticks) × SawRest k)
+  EndsFor tells limits reason.Wanting nodes k = SomeNode WantsMemory nodes ⊎ EachNode IsUp nodes
 
   -- what the nodes alone say: that the run ends, or that all are at work, and one isn't done
   abbrev pub NodesSay : Bool → Option Reason → Shares M → Type 0
@@ -83,6 +84,12 @@ module _ {M : Type 0} where
   NodesSay tells None nodes = EachNode IsUp nodes × SomeNode (IsLate tells) nodes
 
 -- ---- what follows a round
+
+-- what follows if something is due: a round, if there are more entries than before the last one
+abbrev pub IsFurther : (before now : ℕ) → Next → Type 0
+IsFurther before now next.Round = before < now
+IsFurther before now (next.End reason.Wanting) = now ≤ before
+IsFurther before now _ = ⊥
 
 -- what the conductor has seen went on, by so many Ticks of its own
 pub record SeesMore (ticks : ℕ) (old new : Sight) : Type 0 where
@@ -103,3 +110,14 @@ module _ {M : Type 0} (tells : Bool) (limits : Limits) where
   Follows next.Round nodes old new = EachNode IsUp nodes × SeesMore 0 old new
   Follows next.Ticked nodes old new = EachNode IsUp nodes × (tick_count old.own < limits.ticks) × SeesMore 1 old new
   Follows (next.End why) nodes old new = EndsFor tells limits why nodes new × SeesMore 0 old new
+
+  -- Memory ran out: in a turn of a node; for a Tick that was due and could be made; or in an earlier visit, since something is due and the last round added
+  -- none to so many entries.
+  abbrev pub WantsAs : ℕ → Reason → Shares M → Sight → Type 0
+  WantsAs before reason.Wanting nodes k = SomeNode WantsMemory nodes ⊎ (EachNode IsUp nodes × (((tick_count k.own < limits.ticks) × SawRest k) ⊎ (length k.story ≤ before)))
+  WantsAs before _ nodes k = Unit {0}
+
+  -- A further round follows if the conductor has seen so many entries now, and fewer before the last one.
+  abbrev pub SawMore : (before now : ℕ) → Next → Shares M → Sight → Type 0
+  SawMore before now (next.End why) nodes k = WantsAs before why nodes k
+  SawMore before now _ nodes k = (before < now) × (now ≤ length k.story) × (now ≤ 2 ^ 32)

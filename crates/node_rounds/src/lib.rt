@@ -7,12 +7,15 @@ mod limits;
 mod meetings;
 mod nodes;
 mod reasons;
+mod settlings;
 mod turns;
 
 pub use broker_node::{Closed, SharedWire, Told, Wire, WirePass, open_broker};
-pub use conductors::conduct;
+pub use conductors::{conduct, is_any_down, is_any_wanting};
 pub use kinds::AnyNode;
 pub use limits::Limits;
+pub use meetings::meet_share;
 pub use nodes::RunNode;
 pub use reasons::Reason;
 pub use repository_node::open_repository;
+pub use settlings::settle_all;

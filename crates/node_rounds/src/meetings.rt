@@ -10,8 +10,9 @@ use broker_node::{SharedWire, WirePass};
 use medium_port::Medium;
 use stream_port::{Clock, Fates};
 
-// The passes of a share's nodes meet the conductor's, in their order.
-fn meet_share<F: Fates, C: Clock, M: Medium>(
+/// The passes of a share's nodes meet the conductor's, in their order. It has then all entries of each, and
+/// each has seen what it had.
+pub fn meet_share<F: Fates, C: Clock, M: Medium>(
     wire: &SharedWire<F, C, M>,
     nodes: &mut Vec<RunNode<F, C, M>>,
     pass: &mut WirePass<F, C, M>,

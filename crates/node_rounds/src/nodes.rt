@@ -1,16 +1,18 @@
 //! A node of a run, of either kind.
-ghost use Rattle.std.specs.Prelude.{◌≡◌, false, IsTrue};
+ghost use Rattle.std.specs.Prelude.{◌≡◌, false, IsTrue, IfOk};
 ghost use Rattle.seat_lock.specs.Words.{knows};
 ghost use Rattle.broker_node.specs.Sights.{IsOf, IsWirePass, Looked};
 ghost use Rattle.broker_node.specs.TurnNodes.{MeetsWith, sight};
+ghost use Rattle.node_rounds.specs.Doubts.{decision_of, doubts_of};
 ghost use Rattle.node_rounds.specs.Reasons.{is_done_at};
 
 use crate::kinds::AnyNode;
 use crate::turns::Turns;
 use broker_node::{BrokerNode, Condition, SharedWire, Turned, WirePass, is_done};
 use medium_port::Medium;
-use repository_node::RepositoryNode;
-use std::alloc::AllocError;
+use pseudo_time::{NodeId, Stamp};
+use repository_node::{RepositoryNode, StoredCore, decided, doubts};
+use std::alloc::{AllocError, Global};
 use std::marker::Model;
 use std::sync::Wait;
 use stream_port::{Clock, Fates};
@@ -36,6 +38,17 @@ impl<F: Fates, C: Clock, M: Medium> Model for RunNode<F, C, M> {
 }
 
 impl<F: Fates, C: Clock, M: Medium> RunNode<F, C, M> {
+    /// Its name. While it is at work, its pass is its own.
+    pub fn node(&self) -> NodeId
+        ensures name { result ≡ self.now.node }
+        ensures own { self.now.condition ≡ Condition.AtWork → IsOf self.now.node (sight self.now) }
+    {
+        match &self.kind {
+            AnyNode::Repository(node) => node.core().node(),
+            AnyNode::Broker(node) => node.core().node(),
+        }
+    }
+
     /// How it stands.
     pub fn condition(&self) -> Condition
         ensures { result ≡ self.now.condition }
@@ -70,6 +83,30 @@ impl<F: Fates, C: Clock, M: Medium> RunNode<F, C, M> {
         match &self.kind {
             AnyNode::Repository(_) => true,
             AnyNode::Broker(node) => is_done(node),
+        }
+    }
+
+    /// The stamps that its durable log leaves in doubt, one for each version; none of a broker. An error
+    /// found no memory, now or for a note of the log before.
+    pub fn doubts(&self, alloc: Global) -> Result<Vec<Stamp>, AllocError>
+        requires up { self.now.condition ≡ Condition.AtWork }
+        ensures { IsTrue M.tells → IfOk result (λ all. all.items ≡ doubts_of self.now) }
+    {
+        match &self.kind {
+            AnyNode::Repository(node) => doubts(alloc, node),
+            AnyNode::Broker(_) => Ok(Vec::new(alloc)),
+        }
+    }
+
+    /// Whether it decided, as the home of the stamp, that the attempt commits; None if it didn't decide, as
+    /// a broker never does. An error found no memory for a note of the log before.
+    pub fn decided(&self, stamp: Stamp) -> Result<Option<bool>, AllocError>
+        requires up { self.now.condition ≡ Condition.AtWork }
+        ensures { IsTrue M.tells → IfOk result (λ d. d ≡ decision_of self.now stamp) }
+    {
+        match &self.kind {
+            AnyNode::Repository(node) => decided(node, stamp),
+            AnyNode::Broker(_) => Ok(None),
         }
     }
 }

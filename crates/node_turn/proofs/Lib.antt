@@ -1,4 +1,6 @@
 pub mod SeekLemmas
+pub mod LearnLemmas
+pub mod SettleLemmas
 pub mod CostLemmas
 pub mod AppendLemmas
 pub mod DueLemmas

@@ -28,6 +28,10 @@ module _ {K M : Type 0} (w : Media M) (m : Meanings K M) where
       → Keeps w m x core k n gone durable
   keeps-at core k n gone durable c x e h = subst (λ (y : Condition). Keeps w m y core k n gone durable) e h
 
+  pub keeps-up : (core : K) (k : Sight) (n : NodeId) (gone : Bool) (durable : ℕ) (c : Condition) → c ≡ condition.AtWork → Keeps w m c core k n gone durable
+      → IsUp w m core k n gone false (no_draft durable)
+  keeps-up core k n gone durable c e h = keeps-at core k n gone durable c condition.AtWork e h
+
   -- ---- others move on
 
   down-looked : {core : K} {k k' : Sight} {n : NodeId} {cause : DownCause} → IsDown w m core k n cause → Looked k k' → IsDown w m core k' n cause

@@ -1,11 +1,13 @@
 pub mod Conditions
 pub mod Nodes
 pub mod Seeks
+pub mod Settles
 pub mod Windows
 pub use Rattle.node_inputs.specs.Boards
 pub use Rattle.node_inputs.specs.Clocked
 pub use Rattle.node_inputs.specs.Cores
 pub use Rattle.node_inputs.specs.Costs
+pub use Rattle.node_inputs.specs.Learns
 pub use Rattle.node_inputs.specs.Lives
 pub use Rattle.node_inputs.specs.Questions
 pub use Rattle.node_inputs.specs.Sights

@@ -11,7 +11,7 @@ ghost use Rattle.node_inputs.specs.WorldNodes.{leaves};
 ghost use Rattle.node_inputs.specs.Walks.{Base, Life, all_effects};
 ghost use Rattle.node_inputs.specs.Changes.{owed};
 ghost use Rattle.node_inputs.specs.Decisions.{decided_by, decision_in};
-ghost use Rattle.node_inputs.specs.Sights.{IsWirePass, world_at};
+ghost use Rattle.node_inputs.specs.Sights.{IsWirePass, life_at, world_at};
 ghost use Rattle.node_inputs.specs.Works.{AsksNobody};
 ghost use Rattle.node_inputs.specs.Cores.{IsIntact};
 ghost use Rattle.node_inputs.specs.Lives.{AskNobody, IsUp, IsAfterAppend, no_draft};
@@ -146,6 +146,9 @@ pub fn close<K: StoredCore<M>, F: Fates, C: Clock, M: Medium, R: Wait>(
         Rose (M.faults (K.parts core).medium) (M.faults (K.parts result.1).medium) }
     ensures passes { IsTrue M.tells → PassesOn node (knows pass) (knows result.0)
         (M.stages (K.parts core).medium) (M.stages (K.parts result.1).medium) }
+    ensures still { IsTrue M.tells → OnErr result.2 (life_at (knows result.0) node ≡ life_at (knows pass) node) }
+    ensures gated { IsTrue M.tells → OnOk result.2 ((life_at (knows result.0) node).gated ≡
+        all_effects (life_at (knows pass) node)) }
 {
     let before = draft.durable();
     let (effects, outs) = draft.into_parts();

@@ -7,6 +7,7 @@ ghost use Rattle.node_turn.specs.Conditions.{Keeps};
 ghost use Rattle.node_inputs.specs.Costs.{costs, PaysFor, cost_of_cause};
 ghost use Rattle.node_inputs.specs.Trails.{Trail};
 ghost use Rattle.node_inputs.specs.Entries.{Grew};
+ghost use Rattle.node_turn.specs.Settles.{Closes};
 ghost use Rattle.node_turn.specs.Windows.{PassesOn};
 
 use crate::conditions::Condition;
@@ -38,6 +39,8 @@ pub fn go_down<K: StoredCore<M>, F: Fates, C: Clock, M: Medium, R: Wait>(
         Trail node (knows pass) (knows result.0) [] [] [] cost }
     ensures passes { IsTrue M.tells → PassesOn node (knows pass) (knows result.0)
         (M.stages (K.parts core.now).medium) (M.stages (K.parts core.now).medium) }
+    ensures closes { IsTrue M.tells → result.1 ≢ Condition.Wanting →
+        Closes (life_at (knows pass) node) (life_at (knows result.0) node) }
 {
     let (pass, went) = wire.down(rt, node, pass, cause);
     match went {
@@ -96,6 +99,8 @@ pub fn open_anew<K: StoredCore<M>, F: Fates, C: Clock, M: Medium, R: Wait>(
     ensures grew { result.1.condition ≡ Condition.AtWork → Grew (knows pass).own (knows result.0).own }
     ensures passes { IsTrue M.tells → PassesOn node (knows pass) (knows result.0)
         (M.stages (K.parts core).medium) (M.stages (K.parts result.1.core).medium) }
+    ensures closes { IsTrue M.tells → result.1.condition ≢ Condition.Wanting →
+        Closes (life_at (knows pass) node) (life_at (knows result.0) node) }
 {
     let (core, opened) = core.reopen(alloc);
     match opened {

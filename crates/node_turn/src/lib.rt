@@ -8,6 +8,7 @@ mod hands;
 mod lookups;
 mod nodes;
 mod openings;
+mod settling;
 mod turns;
 
 pub use conditions::{Condition, Turned};

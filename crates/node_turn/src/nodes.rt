@@ -1,14 +1,17 @@
 //! A node: its core with its medium, and its pass.
-ghost use Rattle.std.specs.Prelude.{◌≡◌, [], false, IsTrue, IfOk};
+ghost use Rattle.std.specs.Prelude.{◌≡◌, [], true, false, IsTrue, IfOk};
 ghost use Rattle.node_inputs.specs.Words.{knows};
-ghost use Rattle.node_inputs.specs.Sights.{IsOf, IsWirePass, Looked, base_at, life_at};
+ghost use Rattle.node_inputs.specs.NodeNames.{is_broker};
+ghost use Rattle.node_inputs.specs.Sights.{IsOf, IsWirePass, Looked, base_at, life_at, world_at};
 ghost use Rattle.node_inputs.specs.Lives.{IsUp, no_draft};
 ghost use Rattle.node_turn.specs.Nodes.{TurnsTo, MeetsWith, IsAtRest, IsCondition, Answers, new_node, sight};
+ghost use Rattle.node_turn.specs.Settles.{SettlesTo, Stand};
 
 use crate::conditions::{Condition, Turned};
 use crate::hands::Hand;
+use crate::settling::settle;
 use crate::turns::work;
-use node_inputs::{Clock, Fates, Medium, NodeId, SharedWire, StoredCore, WirePass};
+use node_inputs::{Clock, Fates, Medium, NodeId, SharedWire, Stamp, StoredCore, WirePass};
 use std::alloc::{AllocError, Global};
 use std::marker::Model;
 use std::sync::Wait;
@@ -134,10 +137,41 @@ impl<K: StoredCore<M>, F: Fates, C: Clock, M: Medium> Node<K, F, C, M> {
         }
     }
 
+    /// A repository at work learns these decisions, which their homes took, in a turn of its own. If its log
+    /// knows each, it does nothing.
+    pub fn settle<R: Wait>(
+        self,
+        rt: &R,
+        wire: &SharedWire<F, C, M>,
+        decisions: &[(Stamp, bool)],
+    ) -> Node<K, F, C, M>
+        requires pass { IsWirePass wire.now.lock self.pass }
+        requires up { self.condition ≡ Condition.AtWork }
+        requires repository { is_broker self.node.kind ≡ false }
+        requires stand { IsTrue M.tells → Stand (world_at (sight self)) decisions.now }
+        ensures pass { IsWirePass wire.now.lock result.pass }
+        ensures settles { SettlesTo M.Medium decisions.now self result }
+    {
+        let Node {
+            alloc,
+            node,
+            hand,
+            pass,
+        } = self;
+        let (pass, hand) = settle(alloc, rt, wire, node, decisions, hand, pass);
+        Node {
+            alloc,
+            node,
+            hand,
+            pass,
+        }
+    }
+
     /// Its core. While it is at work, that has the node's life, and its pass is the node's own.
     pub fn core(&self) -> &K
         ensures medium { (K.parts result.now).medium ≡ self.now.medium }
         ensures node { (K.parts result.now).node ≡ self.now.node }
+        ensures able { self.now.condition ≡ Condition.AtWork → (K.parts result.now).able ≡ true }
         ensures own { self.now.condition ≡ Condition.AtWork → IsOf self.now.node (sight self.now) }
         ensures life { IsTrue M.tells → self.now.condition ≡ Condition.AtWork →
             K.fits (base_at (sight self.now)) result.now ×

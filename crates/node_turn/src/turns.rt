@@ -5,13 +5,15 @@ ghost use Rattle.node_inputs.specs.Lists.{Has};
 ghost use Rattle.node_inputs.specs.NodeNames.{is_broker};
 ghost use Rattle.node_inputs.specs.Words.{knows};
 ghost use Rattle.node_inputs.specs.Changes.{owed};
-ghost use Rattle.node_inputs.specs.Sights.{IsWirePass, world_at};
+ghost use Rattle.node_inputs.specs.Sights.{IsWirePass, life_at, world_at};
+ghost use Rattle.node_inputs.specs.Walks.{all_effects};
 ghost use Rattle.node_inputs.specs.Lives.{IsUp, IsAfter, no_draft};
 ghost use Rattle.node_turn.specs.Conditions.{Keeps, NamesPage};
 ghost use Rattle.node_inputs.specs.Costs.{costs, PaysFor};
 ghost use Rattle.node_inputs.specs.Trails.{Trail};
 ghost use Rattle.node_turn.specs.Seeks.{HasTested};
 ghost use Rattle.node_turn.specs.Nodes.{StaysWhole};
+ghost use Rattle.node_turn.specs.Settles.{Closes};
 ghost use Rattle.node_inputs.specs.Entries.{Adds, Grew, IsQuiet};
 ghost use Rattle.node_turn.specs.Windows.{PassesOn};
 
@@ -27,8 +29,8 @@ use node_inputs::{
 use std::alloc::Global;
 use std::sync::Wait;
 
-// What follows a fault of the core.
-fn give_up<K: StoredCore<M>, F: Fates, C: Clock, M: Medium, R: Wait>(
+/// What follows a fault of the core.
+pub fn give_up<K: StoredCore<M>, F: Fates, C: Clock, M: Medium, R: Wait>(
     alloc: Global,
     rt: &R,
     wire: &SharedWire<F, C, M>,
@@ -54,6 +56,8 @@ fn give_up<K: StoredCore<M>, F: Fates, C: Clock, M: Medium, R: Wait>(
     ensures names { NamesPage fault result.1.condition }
     ensures passes { IsTrue M.tells → PassesOn node (knows pass) (knows result.0)
         (M.stages (K.parts core).medium) (M.stages (K.parts result.1.core).medium) }
+    ensures closes { IsTrue M.tells → result.1.condition ≢ Condition.Wanting →
+        Closes (life_at (knows pass) node) (life_at (knows result.0) node) }
 {
     match fault {
         HistoryFault::NoMemory => (
@@ -82,8 +86,8 @@ fn give_up<K: StoredCore<M>, F: Fates, C: Clock, M: Medium, R: Wait>(
     }
 }
 
-// The end of a turn: the append and the gate, or what follows a fault.
-fn end<K: StoredCore<M>, F: Fates, C: Clock, M: Medium, R: Wait>(
+/// The end of a turn: the append and the gate, or what follows a fault.
+pub fn end<K: StoredCore<M>, F: Fates, C: Clock, M: Medium, R: Wait>(
     alloc: Global,
     rt: &R,
     wire: &SharedWire<F, C, M>,
@@ -107,6 +111,11 @@ fn end<K: StoredCore<M>, F: Fates, C: Clock, M: Medium, R: Wait>(
         (M.reads (K.parts result.1.core).medium) }
     ensures passes { IsTrue M.tells → PassesOn node (knows pass) (knows result.0)
         (M.stages (K.parts core).medium) (M.stages (K.parts result.1.core).medium) }
+    ensures closes { IsTrue M.tells → result.1.condition ≢ Condition.Wanting →
+        Closes (life_at (knows pass) node) (life_at (knows result.0) node) }
+    ensures gated { IsTrue M.tells → result.1.condition ≡ Condition.AtWork →
+        costs (knows result.0).own ≡ costs (knows pass).own →
+        (life_at (knows result.0) node).gated ≡ all_effects (life_at (knows pass) node) }
 {
     let durable = draft.durable();
     let (pass, core, closed) = close(alloc, rt, wire, node, gone, core, draft, pass);

@@ -1,5 +1,5 @@
 -- What a repository's core and the store beside it say of a life.
-use Rattle.repository_node.proofs.Names.{◌≡◌, ℕ, ◌++◌, Bool, true, false, not, List, reverse, Option, Some, is_some, Result, Ok, Err, IfOk, OnOk, is_err, refl, sym, ap, subst, ◌∙◌, append_assoc, append-nil, repository, Image, knows, known, Stage, MediumParts, told_medium, Base, Life, all_effects, opened_life, gated_life, after_input, HasTurn, IsReady, given_for}
+use Rattle.repository_node.proofs.Names.{◌≡◌, [], HasLife, ℕ, ◌++◌, Bool, true, false, not, List, reverse, Option, Some, is_some, Result, Ok, Err, IfOk, OnOk, is_err, refl, sym, ap, subst, ◌∙◌, append_assoc, append-nil, repository, Image, knows, known, Stage, MediumParts, told_medium, Base, Life, all_effects, opened_life, gated_life, after_input, HasTurn, IsReady, given_for}
 use Rattle.pseudo_time.specs.StampParts.{StampParts}
 use Rattle.pseudo_time.specs.declared.nodes.NodeId.{NodeId}
 use Rattle.effect_form.specs.declared.effects.Effect.{Effect}
@@ -8,6 +8,11 @@ use Rattle.object_history.specs.declared.steps.HistoryFault.{HistoryFault}
 use Rattle.repository_log.proofs.MarkLemmas.{knows-known}
 use Rattle.repository_core.specs.Cores.{Core, CoreState, given}
 use Rattle.repository_core.specs.Turns as turns
+use Rattle.repository_node.specs.KeptCores.{log_in}
+use Rattle.repository_node.specs.NotedLogs.{AreNotes}
+use Rattle.repository_node.specs.declared.kept_cores.KeptCore.{KeptCore}
+use Rattle.repository_node.specs.declared.kept_cores.KeptCore.TheVariants.{Open, Shut}
+use Rattle.repository_node.specs.declared.notes.Notes.{Notes}
 use Rattle.node_turn.specs.WorldCores.{IsRepository, RepositoryGave}
 use Rattle.node_turn.specs.WorldNodes.{Input, repository_gives, with_hands, opened_mind, is_ready}
 use Rattle.node_turn.proofs.CoreTurns.{repository-answers}
@@ -51,6 +56,23 @@ knows-asked log all s e = knows-known (reverse log) s ∙ knows-reverse log s �
 pub able-called : {T E : Type 0} (x : Result T E) (failed : Bool) → failed ≡ is_err x → OnOk x (not failed ≡ true)
 able-called (Ok t) failed is = ap not is
 able-called (Err e) failed is = tt
+
+-- ---- notes
+
+-- if the call gave a turn, the notes are those of the longer log
+pub noted-called : (r : ℕ) (log new : List Effect) (x : Result Turn HistoryFault) (failed : Bool) (n m : Notes) → AreNotes r log n → failed ≡ is_err x → IfOk x (λ t. new ≡ log ++ t.effects)
+    → ((l : List Effect) → AreNotes r l n → IfOk x (λ t. AreNotes r (l ++ t.effects) m)) → not failed ≡ true → AreNotes r new m
+noted-called r log new (Ok t) failed n m was is more follow able = subst (λ l. AreNotes r l m) (sym more) (follow log was)
+noted-called r log new (Err e) failed n m was is more follow able = absurd (let z : false ≡ true = sym (ap not is) ∙ able in cc z)
+
+-- the log of a core that has a life
+pub life-log : {M : Type 0} {g : _} (kept : KeptCore M g) (n : NodeId) (l : Life) → HasLife kept n l → log_in kept ≡ all_effects l
+life-log (Open core) n l h = h.0.log
+life-log (Shut medium) n l h = absurd h
+
+-- if nothing is open, it is the durable one
+pub closed-log : {M : Type 0} {g : _} (kept : KeptCore M g) (n : NodeId) (l : Life) → HasLife kept n l → l.fresh ≡ [] → log_in kept ≡ l.gated
+closed-log kept n l h fresh = life-log kept n l h ∙ ap (λ es. l.gated ++ es) fresh ∙ append-nil l.gated
 
 -- ---- openings
 

@@ -1,2 +1,3 @@
 pub mod CoreLemmas
+pub mod DoubtLemmas
 pub mod Names

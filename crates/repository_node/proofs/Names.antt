@@ -8,7 +8,7 @@ pub use Rattle.object_header.specs.Tables.{ledger_of, store_of}
 pub use Rattle.pseudo_time.specs.Nodes.{repository}
 pub use Rattle.repository_log.specs.Logs.{HasMarks, known, knows}
 pub use Rattle.repository_node.specs.KeptCores.{HasLife, HasMarksOfLog, Owes, is_able, medium_in}
-pub use Rattle.std.proofs.Common.{Bool, Err, IfOk, IsTrue, List, Ok, OnOk, Option, Result, Some, ap, append_assoc, false, is_err, is_some, not, refl, reverse, subst, sym, true, ℕ, ◌++◌, ◌∙◌, ◌≡◌, ◌≤◌}
+pub use Rattle.std.proofs.Common.{[], Bool, Err, IfOk, IsTrue, List, Ok, OnOk, Option, Result, Some, ap, append_assoc, false, is_err, is_some, not, refl, reverse, subst, sym, true, ℕ, ◌++◌, ◌∙◌, ◌≡◌, ◌≤◌}
 pub use Rattle.std.proofs.lemmas.List.{append-nil}
 pub use Rattle.stream_port.specs.Causes.{Rose}
 pub use Rattle.version_store.specs.StoreWords.{medium_of}

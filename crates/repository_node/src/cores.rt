@@ -1,5 +1,6 @@
 //! A repository's core with its log.
-ghost use Rattle.std.specs.Prelude.{◌≡◌, ◌≤◌, ◌^◌, false, IsTrue, IfOk, IfErr};
+ghost use Rattle.std.specs.Prelude.{◌≡◌, ◌≤◌, ◌^◌, ◌++◌, ◌∷◌, [], true, false, not, IsTrue, IfOk, IfErr, OnOk};
+ghost use Rattle.std.specs.List.{filter};
 ghost use Rattle.effect_form.specs.Effects.{AreEffects};
 ghost use Rattle.repository_log.specs.Logs.{HasMarks};
 ghost use Rattle.repository_core.specs.Turns.{opened_mind};
@@ -7,8 +8,10 @@ ghost use Rattle.version_store.specs.StoreWords.{medium_of, effects_in};
 ghost use Rattle.object_header.specs.Ledgers.{content};
 ghost use Rattle.object_header.specs.Tables.{ledger_of, store_of};
 ghost use Rattle.repository_node.specs.KeptCores.{HasMarksOfLog, medium_in};
+ghost use Rattle.repository_node.specs.NotedLogs.{AreNotes, HasNotesOfLog};
 
 use crate::kept_cores::KeptCore;
+use crate::notes::Notes;
 use effect_form::Effect;
 use medium_port::Medium;
 use message_form::{Message, Turn};
@@ -17,7 +20,7 @@ use object_header::HeaderTable;
 use object_history::HistoryFault;
 use pseudo_time::{NodeId, Stamp};
 use repository_core::Repository;
-use std::alloc::Global;
+use std::alloc::{AllocError, Global};
 use version_store::{OpenFault, Store, StoreFault};
 
 /// A repository with its log and its histories on a medium.
@@ -27,8 +30,10 @@ pub struct RepositoryCore<M: Medium> {
     /// The moment at which the run began.
     pub(crate) start: u64,
     pub(crate) kept: KeptCore<M>,
+    pub(crate) notes: Notes,
     ghost moment: { start ≤ 2 ^ 62 },
     ghost marked: { HasMarksOfLog kept },
+    ghost noted: { HasNotesOfLog number kept notes },
 }
 
 impl<M: Medium> Meanings<M> for RepositoryCore<M> {
@@ -57,30 +62,39 @@ impl<M: Medium> StoredCore<M> for RepositoryCore<M> {
 
     fn take(&mut self, from: NodeId, message: &Message) -> Result<Turn, HistoryFault> {
         match &mut self.kept {
-            KeptCore::Open(core) => core.take(from, message),
+            KeptCore::Open(core) => {
+                let gave = core.take(from, message);
+                self.notes.follow_turn(self.number, &gave);
+                gave
+            }
             KeptCore::Shut(_) => Err(HistoryFault::NoMemory),
         }
     }
 
     fn learn(&mut self, stamp: Stamp, committed: bool) -> Result<Turn, HistoryFault> {
         match &mut self.kept {
-            KeptCore::Open(core) => core.learn(stamp, committed),
+            KeptCore::Open(core) => {
+                let gave = core.learn(stamp, committed);
+                self.notes.follow_turn(self.number, &gave);
+                gave
+            }
             KeptCore::Shut(_) => Err(HistoryFault::NoMemory),
         }
     }
 
     fn hear(&mut self, moment: u64) -> Result<Turn, HistoryFault> {
         match &mut self.kept {
-            KeptCore::Open(core) => core.hear(moment),
+            KeptCore::Open(core) => {
+                let gave = core.hear(moment);
+                self.notes.follow_turn(self.number, &gave);
+                gave
+            }
             KeptCore::Shut(_) => Err(HistoryFault::NoMemory),
         }
     }
 
     fn knows(&self, stamp: Stamp) -> bool {
-        match &self.kept {
-            KeptCore::Open(core) => core.known(stamp).is_some(),
-            KeptCore::Shut(_) => false,
-        }
+        self.is_known(stamp)
     }
 
     fn append(self, effects: &[Effect]) -> (RepositoryCore<M>, Result<(), StoreFault>) {
@@ -88,6 +102,7 @@ impl<M: Medium> StoredCore<M> for RepositoryCore<M> {
             number,
             start,
             kept,
+            notes,
         } = self;
         match kept {
             KeptCore::Shut(medium) => {
@@ -95,6 +110,7 @@ impl<M: Medium> StoredCore<M> for RepositoryCore<M> {
                     number,
                     start,
                     kept: KeptCore::Shut(medium),
+                    notes,
                 };
                 (core, Err(StoreFault::NoMemory))
             }
@@ -106,6 +122,7 @@ impl<M: Medium> StoredCore<M> for RepositoryCore<M> {
                             number,
                             start,
                             kept: KeptCore::Open(rest.join(table)),
+                            notes,
                         };
                         (core, Ok(()))
                     }
@@ -114,6 +131,7 @@ impl<M: Medium> StoredCore<M> for RepositoryCore<M> {
                             number,
                             start,
                             kept: KeptCore::Shut(medium),
+                            notes,
                         };
                         (core, Err(fault))
                     }
@@ -127,6 +145,7 @@ impl<M: Medium> StoredCore<M> for RepositoryCore<M> {
             number,
             start,
             kept,
+            notes,
         } = self;
         match open_again(alloc, medium_from(kept)) {
             Err((medium, fault)) => {
@@ -134,6 +153,7 @@ impl<M: Medium> StoredCore<M> for RepositoryCore<M> {
                     number,
                     start,
                     kept: KeptCore::Shut(medium),
+                    notes,
                 };
                 (core, Err(fault))
             },
@@ -149,6 +169,7 @@ impl<M: Medium> StoredCore<M> for RepositoryCore<M> {
                         number,
                         start,
                         kept: KeptCore::Shut(medium),
+                        notes,
                     };
                     (core, Err(OpenFault::NoMemory))
                 },
@@ -157,6 +178,7 @@ impl<M: Medium> StoredCore<M> for RepositoryCore<M> {
                         number,
                         start,
                         kept: KeptCore::Open(core),
+                        notes: Notes::of(alloc, number, effects.as_slice()),
                     };
                     (core, Ok(effects.len()))
                 }
@@ -169,8 +191,70 @@ impl<M: Medium> StoredCore<M> for RepositoryCore<M> {
             number: _,
             start: _,
             kept,
+            notes: _,
         } = self;
         medium_from(kept)
+    }
+}
+
+impl<M: Medium> RepositoryCore<M> {
+    ghost use Rattle.repository_log.specs.Logs.{knows};
+    ghost use Rattle.repository_node.specs.Doubts.{decided_at, doubts};
+    ghost use Rattle.repository_node.specs.KeptCores.{is_able, log_in};
+
+    // Whether its log has a Decide or a Learn of the attempt.
+    fn is_known(&self, stamp: Stamp) -> bool
+        requires able { is_able self.now.kept ≡ true }
+        ensures { result ≡ knows (log_in self.now.kept) stamp }
+    {
+        match &self.kept {
+            KeptCore::Open(core) => core.known(stamp).is_some(),
+            KeptCore::Shut(_) => false,
+        }
+    }
+
+    // Adds a stamp if it is in doubt.
+    fn add_doubt(&self, stamp: Stamp, all: &mut Vec<Stamp>) -> Result<(), AllocError>
+        requires able { is_able self.now.kept ≡ true }
+        ensures { OnOk result (all.new.items ≡ all.old.items ++
+            filter (λ s. not (knows (log_in self.now.kept) s)) (stamp ∷ [])) }
+    {
+        if !self.is_known(stamp) {
+            all.push(stamp)?;
+        }
+        Ok(())
+    }
+
+    /// The stamps in doubt by its log, one for each version. An error found no memory, now or before.
+    pub fn doubts(&self, alloc: Global) -> Result<Vec<Stamp>, AllocError>
+        requires able { is_able self.now.kept ≡ true }
+        ensures { IfOk result (λ all. all.items ≡ doubts self.now.number (log_in self.now.kept)) }
+    {
+        if !self.notes.is_whole {
+            return Err(AllocError);
+        }
+        let mut all = Vec::new(alloc);
+        for stamp in &self.notes.given {
+            self.add_doubt(*stamp, &mut all)?;
+        }
+        Ok(all)
+    }
+
+    /// How it decided the stamp, as its home, by its log. An error found no memory before.
+    pub fn decided(&self, stamp: Stamp) -> Result<Option<bool>, AllocError>
+        requires able { is_able self.now.kept ≡ true }
+        ensures { IfOk result (λ o. o ≡ decided_at self.now.number (log_in self.now.kept) stamp) }
+    {
+        if !self.notes.is_whole {
+            return Err(AllocError);
+        }
+        if stamp.home() != self.number || !self.notes.is_plain {
+            return Ok(None);
+        }
+        match &self.kept {
+            KeptCore::Open(core) => Ok(core.known(stamp)),
+            KeptCore::Shut(_) => Ok(None),
+        }
     }
 }
 

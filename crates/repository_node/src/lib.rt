@@ -4,6 +4,8 @@
 mod cores;
 mod kept_cores;
 mod nodes;
+mod notes;
 
 pub use cores::RepositoryCore;
-pub use nodes::{RepositoryNode, open_repository};
+pub use node_turn::StoredCore;
+pub use nodes::{RepositoryNode, decided, doubts, open_repository};

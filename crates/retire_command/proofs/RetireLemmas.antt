@@ -1,5 +1,5 @@
 -- What is left of volumes, and what comes of a retirement over them.
-use Rattle.std.proofs.Common.{◌≡◌, ◌+◌, ◌<◌, ℕ, true, false, IsTrue, List, [], ◌∷◌, ◌++◌, length, length-append, map, reverse, refl, ap, sym, subst, ◌∙◌, arith, Option, Some, None, inl, inr}
+use Rattle.std.proofs.Common.{◌≡◌, ◌<◌, ℕ, true, IsTrue, List, [], ◌∷◌, ◌++◌, length, length-append, map, reverse, refl, ap, sym, subst, ◌∙◌, arith, Option, Some, None, inl, inr}
 use Rattle.std.specs.Prelude.{Ok, Vec}
 use Rattle.std.specs.declared.alloc.Global.{Global}
 use Rattle.std.specs.List.{AllZip}
@@ -143,7 +143,7 @@ module _ {M : Type 0} (w : Media M) {g : _} where
     is_line = c.1.2;
   })
   carried-out n at os front store effects others left m f line NoMemory ready place is none h given are c =
-      inr (writes os front store effects others left m (LeavesFront (carried w n at os left)) is none h given are (λ t i may. subst (λ (l : List Effect). LeavesFront l i) ready.is_kept (c t i may)))
+      inr (ready.opened, ready.may, writes os front store effects others left m (LeavesFront (carried w n at os left)) is none h given are (λ t i may. subst (λ (l : List Effect). LeavesFront l i) ready.is_kept (c t i may)))
 
   -- ---- why it stops
 
@@ -182,7 +182,7 @@ module _ {M : Type 0} (w : Media M) {g : _} where
   comes-back n at media os left (Fallen line) h (inl c) = back-all w media os left h c.keep
   comes-back n at media os left (Fallen line) h (inr c) = wrote-back media os left (LeavesFront (carried w n at os left)) h c.wrote
   comes-back n at media os left NoMemory h (inl c) = back-all w media os left h c
-  comes-back n at media os left NoMemory h (inr c) = wrote-back media os left (LeavesFront (carried w n at os left)) h c
+  comes-back n at media os left NoMemory h (inr c) = wrote-back media os left (LeavesFront (carried w n at os left)) h c.2
 
 module _ {M : Type 0} {g : _} where
   pub refused-for : (n : NodeId) (at : TimeParts) (os : List (Opening M g)) (v : ℕ) (log : List Effect) (why : ForwardFault) (r : Retired) → AreOpen os → fresh (logs_of os) ≡ Some v → log ≡ node_log (logs_of os) →

@@ -120,9 +120,9 @@ module _ {M : Type 0} (w : Media M) {g : _} where
       pub why : StopsFor w carried wrote.store cause wrote.medium
       pub is_line : line ≡ down_text (record { node = n; cause = cause })
 
-    -- nothing is lost
+    -- nothing is lost: nothing is written; or all volumes were opened, the repository may be retired at the mark, and the fresh volume has a prefix of what is carried forward
     abbrev pub LosesNothing : Type 0
-    LosesNothing = WritesNothing w openings left ⊎ WritesLast openings left (LeavesFront carried)
+    LosesNothing = WritesNothing w openings left ⊎ (AreOpen openings × MayRetire (newest_first at openings) at × WritesLast openings left (LeavesFront carried))
 
     -- what came of it
     abbrev pub ComesTo : Retired → Type 0

@@ -57,7 +57,8 @@ module _ {M Q A : Type 0} (w : Media M) (plan : Plan) (lock : LockTable WirePart
     all-named = every-map _ _ (λ e h m is. sym (legal.nodes.just m) ∙ h m is) t.entries
         (named-opened (base w plan lock t) (fates_of t.sent) (start_world (base w plan lock t)) t.entries (λ m up. up) (λ m. refl) legal.meets)
 
-    costless : (n : NodeId) (s : NodeOf n) → in_plan plan n ≡ true → costs (own n t.entries) ≡ 0 → costs (sight s.node).own ≡ 0
+    -- a node of which no entry costs anything has paid nothing
+    pub costless : (n : NodeId) (s : NodeOf n) → in_plan plan n ≡ true → costs (own n t.entries) ≡ 0 → costs (sight s.node).own ≡ 0
     costless n s is none =
         let mine : entries_of owner_of (owner_for n) t.entries ≡ (sight s.node).own = subst (λ (o : ℕ). entries_of owner_of o t.entries ≡ (sight s.node).own) (owner-is n s) s.went.pass.carries.own in
         ap costs (sym mine ∙ own-whole plan few n is t.entries all-named) ∙ none

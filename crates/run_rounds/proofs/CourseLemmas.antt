@@ -1,5 +1,11 @@
 -- How the nodes of shares have gone, told of them in one list.
-use Rattle.run_rounds.proofs.Names.{View, Founding, LockTable, knows, Entry, WireParts, IsWirePass, Sight, base_at, tick_count, NodeParts, IsAtRest, Limits, Reason, GoesOn, IsKeptThrough, IsUp, HasMemory, IsDone, IsLateAfter, TicksAreWanted, Media, HaveGone, ListEnds, Pass, IsDealt, ◌≡◌, ◌≤◌, ◌<◌, ℕ, Bool, IsTrue, List, [], ◌∷◌, ◌++◌, length, map, Option, Some, All, ap, sym, subst, ◌∙◌, AllZip, Vec, Global, All-append, All-cons, All-map, All-nil, AllZip-long, EachNode, EachPlace, HasAllOf, HasPass, Shares, EndsFor, IsDown, dealt-along, each-listed, some-listed}
+use Rattle.run_rounds.proofs.Names.{View, Founding, LockTable, Entry, WireParts, IsWirePass, Sight, base_at, tick_count, NodeParts, Limits, Reason, GoesOn, IsKeptThrough, IsUp, HasMemory, IsDone, IsLateAfter, TicksAreWanted, Media, HaveCome, ListEnds, Pass, IsDealt, ◌≡◌, ◌≤◌, ◌<◌, ℕ, Bool, IsTrue, List, [], ◌∷◌, ◌++◌, length, map, All, ap, sym, subst, ◌∙◌, AllZip, Vec, Global, All-append, All-cons, All-map, All-nil, AllZip-long, EachNode, EachPlace, HasAllOf, HasPass, Shares, EndsFor, IsDown, dealt-along, each-listed, some-listed}
+use Rattle.run_rounds.proofs.Names.{Base, NodeId, Owns, arith, false, is_done_after, refl, story-ticks, tick-before}
+use Rattle.run_starts.specs.Sights.{Looked}
+use Rattle.run_starts.proofs.PairLemmas.{any-through, zip-through, zip-with}
+use Rattle.run_starts.proofs.RoundLemmas.{goes-joins, kept-joins, looked-own, looked-owner}
+use Rattle.run_rounds.specs.Closings.{TicksWereWanted}
+use Rattle.run_rounds.specs.Settled.{SettledEnds}
 use Rattle.run_starts.specs.Reason.TheVariants as reason
 
 module _ {M : Type 0} (W : ℕ) (pos : 0 < W) (nodes : List (NodeParts M)) (shares : List (Vec (NodeParts M) Global)) (d : IsDealt W nodes shares) (size : length shares ≡ W) where
@@ -44,30 +50,75 @@ module _ {M : Type 0} (w : Media M) (W : ℕ) (pos : 0 < W) (begun : List (NodeP
         let are : nodes ≡ k.0 = whole k.0 (subst (λ (n : ℕ). IsDealt n k.0 new) (sym shares-count) k.1) (AllZip-long (IsKeptThrough w.tells w.stages) begun k.0 k.2) in
         subst (λ (xs : List (NodeParts M)). AllZip (IsKeptThrough w.tells w.stages) begun xs) (sym are) k.2
 
-    module _ {Q A : Type 0} (lock : LockTable WireParts (View WireParts Entry) (Founding WireParts) Q A) (passes : List Pass) (conductor : Pass) (are : passes ≡ map (λ (n : NodeParts M). n.pass) nodes ++ conductor ∷ []) where
-      -- all passes are the wire's
-      pub all-passes : EachNode (HasPass lock) new → IsWirePass lock conductor → All (IsWirePass lock) passes
-      all-passes each own =
-          subst (All (IsWirePass lock)) (sym are)
-          (All-append (IsWirePass lock) (map (λ (n : NodeParts M). n.pass) nodes) (conductor ∷ []) (All-map (IsWirePass lock) (λ (n : NodeParts M). n.pass) nodes (each-listed W pos (HasPass lock) nodes new nodes-dealt shares-count each))
-          (All-cons (IsWirePass lock) conductor [] own (All-nil (IsWirePass lock))))
+    -- what holds of each node of the shares holds of each of the nodes
+    pub each-node : (P : NodeParts M → Type 0) → EachNode P new → All P nodes
+    each-node P each = each-listed W pos P nodes new nodes-dealt shares-count each
 
-    module _ (limits : Limits) (why : Reason) (media : List (Option M)) (passes : List Pass) (conductor : Pass) (passes-are : passes ≡ map (λ (n : NodeParts M). n.pass) nodes ++ conductor ∷ []) (media-are : media ≡ map (λ (n : NodeParts M). Some n.medium) nodes) where
+    module _ (limits : Limits) (why : Reason) (k : Sight) where
       -- the rounds of a run
-      pub have-gone : EachPlace (IsKeptThrough w.tells w.stages) old new → All (IsAtRest w) nodes → EachNode (HasAllOf (knows conductor).story) new → (knows conductor).owner ≡ 0 → tick_count (knows conductor).own ≤ limits.ticks
-          → (IsTrue w.tells → TicksAreWanted (base_at (knows conductor)) (knows conductor).story new)
-          → EndsFor w.tells limits why new (knows conductor) → HaveGone w limits begun why media passes
-      have-gone kept rest each owner ticks wanted ends = record {
-        nodes = nodes;
-        conductor = conductor;
-        media_are = media-are;
-        passes_are = passes-are;
+      pub have-come : EachPlace (IsKeptThrough w.tells w.stages) old new → EachNode (HasAllOf k.story) new → k.owner ≡ 0 → tick_count k.own ≤ limits.ticks
+          → (IsTrue w.tells → TicksAreWanted (base_at k) k.story new)
+          → EndsFor w.tells limits why new k → HaveCome w limits begun why nodes k
+      have-come kept each owner ticks wanted ends = record {
         went = subst (λ (xs : List (NodeParts M)). AllZip (GoesOn w.tells w.faults w.reads) begun xs) (sym nodes-are) as-dealt.2;
         kept = kept-listed kept;
-        rest = rest;
-        all = each-listed W pos (HasAllOf (knows conductor).story) nodes new nodes-dealt shares-count each;
+        all = each-node (HasAllOf k.story) each;
         owner = owner;
         ticks = ticks;
-        wanted = λ told front moment more is. some-listed W pos (IsLateAfter (base_at (knows conductor)) front) nodes new nodes-dealt shares-count (wanted told front moment more is);
-        ends = ends-listed W pos nodes new nodes-dealt shares-count w.tells limits why (knows conductor) ends;
+        wanted = λ told front moment more is. some-listed W pos (IsLateAfter (base_at k) front) nodes new nodes-dealt shares-count (wanted told front moment more is);
+        ends = ends-listed W pos nodes new nodes-dealt shares-count w.tells limits why k ends;
       }
+
+-- nodes whose brokers are all done are at work
+pub ends-up : {M : Type 0} (tells : Bool) (limits : Limits) (why : Reason) (nodes : List (NodeParts M)) (k : Sight) → ListEnds tells limits why nodes k → why ≡ reason.Done → All IsUp nodes
+ends-up tells limits reason.Done nodes k h e = h.0
+ends-up tells limits reason.Down nodes k h e = absurd (cc e)
+ends-up tells limits reason.Enough nodes k h e = absurd (cc e)
+ends-up tells limits reason.RunOut nodes k h e = absurd (cc e)
+ends-up tells limits reason.Wanting nodes k h e = absurd (cc e)
+
+-- all passes are the wire's
+pub all-passes : {M Q A : Type 0} (lock : LockTable WireParts (View WireParts Entry) (Founding WireParts) Q A) (nodes : List (NodeParts M)) (passes : List Pass) (conductor : Pass) → passes ≡ map (λ (n : NodeParts M). n.pass) nodes ++ conductor ∷ []
+    → All (HasPass lock) nodes → IsWirePass lock conductor → All (IsWirePass lock) passes
+all-passes {M} lock nodes passes conductor are each own =
+    subst (All (IsWirePass lock)) (sym are)
+    (All-append (IsWirePass lock) (map (λ (n : NodeParts M). n.pass) nodes) (conductor ∷ []) (All-map (IsWirePass lock) (λ (n : NodeParts M). n.pass) nodes each)
+    (All-cons (IsWirePass lock) conductor [] own (All-nil (IsWirePass lock))))
+
+-- ---- repositories that settled
+
+module _ {M : Type 0} (w : Media M) (limits : Limits) (begun old new : List (NodeParts M)) (k now : Sight) (came : HaveCome w limits begun reason.Done old k) (went : AllZip (GoesOn w.tells w.faults w.reads) old new)
+    (kept : AllZip (IsKeptThrough w.tells w.stages) old new) (looked : Looked k now) (owns : Owns k) (still : Owns now) (all : All (HasAllOf now.story) new) where
+  at-base : base_at now ≡ base_at k
+  at-base = ap base_at looked.kept
+
+  wanted-still : IsTrue w.tells → TicksWereWanted now new
+  wanted-still told front moment rest is =
+      let owner = looked-owner looked ∙ came.owner in
+      let a = story-ticks k came.owner owns in
+      let b = story-ticks now owner still in
+      let own = ap tick_count (looked-own looked) in
+      let h = tick-before k.story now.story front moment rest looked.before.carries.begins (omega (arith, a, b, own)) is in
+      any-through (IsLateAfter (base_at k) front) (GoesOn w.tells w.faults w.reads) (IsLateAfter (base_at now) front)
+      (λ x y late g. subst (λ (z : Base). is_done_after z front y.node ≡ false) (sym at-base) (subst (λ (n : NodeId). is_done_after (base_at k) front n ≡ false) (sym g.node) late)) old new (came.wanted told front moment h.0 h.1) went
+
+  ends-still : (r : Reason) → SettledEnds r new → (IsTrue w.tells → r ≡ reason.Done → All IsDone old → All IsDone new) → ListEnds w.tells limits r new now
+  ends-still reason.Down h done = h
+  ends-still reason.Done h done = (h, λ told. done told refl (came.ends.1 told))
+  ends-still reason.Wanting h done = tt
+  ends-still reason.Enough h done = absurd h
+  ends-still reason.RunOut h done = absurd h
+
+  -- nodes that had come so far, and settled
+  pub come-settled : (r : Reason) → SettledEnds r new → (IsTrue w.tells → r ≡ reason.Done → All IsDone old → All IsDone new) → HaveCome w limits begun r new now
+  come-settled r ends done = record {
+    went = zip-through (GoesOn w.tells w.faults w.reads) (λ y z. IsUp y × GoesOn w.tells w.faults w.reads y z) (GoesOn w.tells w.faults w.reads) (λ x y z p q. goes-joins w.tells w.faults w.reads x y z p q.0 q.1) begun old new came.went
+        (zip-with IsUp (GoesOn w.tells w.faults w.reads) (λ y z. IsUp y × GoesOn w.tells w.faults w.reads y z) (λ y z u g. (u, g)) old new came.ends.0 went);
+    kept = zip-through (IsKeptThrough w.tells w.stages) (λ y z. IsUp y × IsKeptThrough w.tells w.stages y z) (IsKeptThrough w.tells w.stages) (λ x y z p q. kept-joins w.tells w.stages x y z p q.0 q.1) begun old new came.kept
+        (zip-with IsUp (IsKeptThrough w.tells w.stages) (λ y z. IsUp y × IsKeptThrough w.tells w.stages y z) (λ y z u g. (u, g)) old new came.ends.0 kept);
+    all = all;
+    owner = looked-owner looked ∙ came.owner;
+    ticks = subst (λ (es : List Entry). tick_count es ≤ limits.ticks) (sym (looked-own looked)) came.ticks;
+    wanted = wanted-still;
+    ends = ends-still r ends done;
+  }

@@ -15,6 +15,7 @@ pub mod PlaceLemmas
 pub mod RanLemmas
 pub mod RangeLemmas
 pub mod SeenLemmas
+pub mod SettledLemmas
 pub mod SoundLemmas
 pub mod ToldLemmas
 pub mod UnopenedLemmas

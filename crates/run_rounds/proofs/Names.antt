@@ -21,7 +21,7 @@ pub use Rattle.run_media.specs.Openings.{AreReady, FirstRefusal, HasOpened, IsAs
 pub use Rattle.run_media.specs.Places.{node_at, node_count, place_of}
 pub use Rattle.run_media.specs.declared.openings.Opening.{Opening}
 pub use Rattle.run_media.specs.declared.openings.Opening.TheVariants.{Open, Shut, Wanting}
-pub use Rattle.run_rounds.specs.Closings.{ClosedAs, HasClosed, HaveGone, IfRan, IfWanting, ListEnds, Pass, ToldFor}
+pub use Rattle.run_rounds.specs.Closings.{ClosedAs, HasClosed, HaveCome, HaveGone, IfRan, IfWanting, ListEnds, Pass, ToldFor}
 pub use Rattle.run_rounds.specs.Finishes.{EndsAs, HasItsLog, IsEndFor, IsKeptWhole, Tellers, account_of, tellers}
 pub use Rattle.run_rounds.specs.Kills.{KeepsPlaces, KeepsThroughout, SurvivesKills}
 pub use Rattle.run_rounds.specs.Media.{AreCounted, Became, HaveCauses, KeepsLog, LeavesLife, RestoresLogs, WasHeld, inner, medium_at}

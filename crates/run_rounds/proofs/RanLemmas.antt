@@ -3,13 +3,20 @@ use Rattle.run_rounds.proofs.Names.{NodeId, broker, is_broker, NodeKind, Reposit
 use Rattle.run_starts.specs.Condition.TheVariants as condition
 use Rattle.run_starts.specs.Reason.TheVariants as reason
 use Rattle.run_rounds.specs.declared.ends.End.TheVariants as end
-use Rattle.run_rounds.specs.Ends.{AllDone, HasEnded, HasRunOut, TicksAreWanted, broker_done_after, some_down}
+use Rattle.world_core.specs.Readings.{IsLegal}
+use Rattle.pseudo_time.specs.Lists.{Has}
+use Rattle.pseudo_time.specs.Nodes.{repository}
+use Rattle.run_starts.specs.Doubts.{HasDecided, doubts}
+use Rattle.run_starts.specs.Sights.{life_at}
+use Rattle.world_core.specs.Walks.{Life}
+use Rattle.run_rounds.specs.Settled.{AreSettled, IsSettledBy}
+use Rattle.run_rounds.specs.Ends.{AllDone, AllSettled, HasEnded, HasRunOut, TicksAreWanted, broker_done_after, some_down}
 use Rattle.run_rounds.proofs.ListLemmas.{all-end, all-front, all-mapped, along-at, one-of}
 use Rattle.run_rounds.proofs.EndLemmas.{down-whole, done-whole, enough-whole}
 use Rattle.run_rounds.proofs.SeenLemmas.{At, are-back, logs-of, went-along}
-use Rattle.run_rounds.proofs.KnownLemmas.{HaveStood, Known, at-base, same-base}
+use Rattle.run_rounds.proofs.KnownLemmas.{HaveStood, Known, at-base, life-end, same-base}
 use Rattle.run_rounds.proofs.LogLemmas.{all-live, restores, stood-at}
-use Rattle.run_rounds.proofs.CountLemmas.{are-counted, have-causes}
+use Rattle.run_rounds.proofs.CountLemmas.{are-counted, costless, have-causes}
 use Rattle.run_rounds.proofs.KeptLemmas.{all-kept}
 use Rattle.run_rounds.proofs.KillLemmas.{IsUnseenAt, survives}
 use Rattle.run_rounds.proofs.RangeLemmas.{ranges-of, ranges-opened}
@@ -57,10 +64,10 @@ module _ {M Q A : Type 0} (w : Media M) (limits : Limits) (plan : Plan) (lock : 
     conductor = conductor-known w limits plan lock t begun why media passes gone wires close.carries
 
     pub has-memory : All HasMemory gone.nodes
-    has-memory = memory-of w.tells limits why gone.nodes (knows gone.conductor) gone.ends close.memory
+    has-memory = memory-of w.tells limits why gone.nodes (knows gone.conductor) gone.come.ends close.memory
 
     ticks-are : tick_count t.entries ≡ tick_count (knows gone.conductor).own
-    ticks-are = ticks-whole (knows gone.conductor) t.entries gone.owner conductor.carries
+    ticks-are = ticks-whole (knows gone.conductor) t.entries gone.come.owner conductor.carries
 
     some-down : (i : ℕ) (p : NodeParts M) → i < length gone.nodes → get_or gone.nodes i p ≡ p → (cause : DownCause) → p.condition ≡ condition.Down cause → some_down t.entries ≡ true
     some-down i p lt is cause down =
@@ -69,7 +76,7 @@ module _ {M Q A : Type 0} (w : Media M) (limits : Limits) (plan : Plan) (lock : 
         let stands = subst (λ (c : Condition). Stands w c p) down rest.stands in
         down-whole (sight p) t.entries stands.2.0 p.node cause k.carries stands.2.1
 
-    module _ (first : List (Option M)) (stood : HaveStood w plan lock t first gone.nodes) (told : IsTrue w.tells) where
+    module _ (first : List (Option M)) (stood : HaveStood w plan lock t first gone.nodes) (told : IsTrue w.tells) (few : plan.repositories ≤ 16) (legal : IsLegal plan asked t) where
       -- the node in a place is one of the plan
       at-name : (i : ℕ) (p : NodeParts M) → i < length gone.nodes → get_or gone.nodes i p ≡ p → in_plan plan p.node ≡ true
       at-name i p lt is =
@@ -89,10 +96,26 @@ module _ {M Q A : Type 0} (w : Media M) (limits : Limits) (plan : Plan) (lock : 
           done-whole (sight p) (broker b) t.entries (base_of (reading plan.acts) plan t) (subst (λ (n : NodeId). IsOf n (sight p)) s.went.name s.went.rest.own) s.went.pass.wire.own s.went.pass.carries
           (at-base w plan lock t p.pass s.went.pass.wire ∙ stood.same) refl (subst (λ (n : NodeId). is_done_at (sight p) n ≡ true) s.went.name d)
 
+      -- what is decided is settled
+      all-settled : AreSettled gone.nodes → AllSettled plan t
+      all-settled are r within none s home doubt decided =
+          let a = stood-at w plan lock t first gone.nodes stood (repository r) within in
+          let b = stood-at w plan lock t first gone.nodes stood (repository s.home) home in
+          let n = a.node in
+          let h = b.node in
+          let settled = one-of (IsSettledBy n) gone.nodes b.place h
+          (one-of (λ (x : NodeParts M). All (IsSettledBy x) gone.nodes) gone.nodes a.place n are (slice_get_within gone.nodes a.place n a.here) (get_or_from_slice_get gone.nodes a.place n n a.here))
+          (slice_get_within gone.nodes b.place h b.here) (get_or_from_slice_get gone.nodes b.place h h b.here) in
+          settled (costless w plan lock t first gone.nodes stood asked few told legal (repository r) a within none) (ap (λ (m : NodeId). is_broker m.kind) b.went.name) s (sym (ap (λ (m : NodeId). m.number) b.went.name))
+          (subst (λ (m : NodeId). Has s (if is_broker m.kind then [] else doubts m.number (life_at (sight n) m).gated)) (sym a.went.name)
+          (subst (λ (l : Life). Has s (doubts r l.gated)) (life-end w plan lock t stood.same stood.opened (repository r) a.old n a.went) doubt))
+          (subst (λ (m : NodeId). HasDecided (life_at (sight h) m).gated s) (sym b.went.name)
+          (subst (λ (l : Life). HasDecided l.gated s) (life-end w plan lock t stood.same stood.opened (repository s.home) b.old h b.went) decided))
+
       ends-so : (r : Reason) → r ≡ why → ListEnds w.tells limits r gone.nodes (knows gone.conductor)
-          → (some_down t.entries ≡ true) ⊎ (AllDone plan t ⊎ ((limits.messages ≤ length t.sent) ⊎ HasRunOut limits.ticks plan t))
+          → (some_down t.entries ≡ true) ⊎ ((AllDone plan t × AllSettled plan t) ⊎ ((limits.messages ≤ length t.sent) ⊎ HasRunOut limits.ticks plan t))
       ends-so reason.Down e h = let d = h.1 in inl (some-down d.0 d.1 d.2 d.3 d.4.0 d.4.1)
-      ends-so reason.Done e h = inr (inl (all-done (h.1 told)))
+      ends-so reason.Done e h = inr (inl (all-done (h.1 told), all-settled (gone.settled told (sym e))))
       ends-so reason.Enough e h = inr (inr (inl (enough-whole (knows gone.conductor) origin t limits.messages (at-base w plan lock t gone.conductor conductor.wire) conductor.carries (close.whole.sent told) (h.1 told))))
       ends-so reason.RunOut e h = inr (inr (inr (subst (λ (b : Base). Idle (fates_of t.sent) (walk b t.entries)) stood.same (close.idle told (sym e)), ticks-are ∙ h.2)))
       ends-so reason.Wanting e h = absurd (close.memory (sym e))
@@ -118,14 +141,14 @@ module _ {M Q A : Type 0} (w : Media M) (limits : Limits) (plan : Plan) (lock : 
       ticks-wanted : TicksAreWanted plan t
       ticks-wanted front moment rest is =
           let k = knows gone.conductor in
-          let s = story-ticks k gone.owner conductor.wire.own in
+          let s = story-ticks k gone.come.owner conductor.wire.own in
           let h = tick-before k.story t.entries front moment rest conductor.carries.begins (omega (arith, ticks-are, s)) is in
-          let found = gone.wanted told front moment h.0 h.1 in
+          let found = gone.come.wanted told front moment h.0 h.1 in
           late-broker front found.0 found.1 found.2 found.3 (subst (λ (b : Base). IsLateAfter b front found.1) (at-base w plan lock t gone.conductor conductor.wire ∙ stood.same) found.4)
 
       -- the run has ended
       pub ended-so : HasEnded limits.ticks limits.messages plan t
-      ended-so = record { few = (let few = gone.ticks in omega (arith, ticks-are, few)); wanted = ticks-wanted; why = ends-so why refl gone.ends }
+      ended-so = record { few = (let few = gone.come.ticks in omega (arith, ticks-are, few)); wanted = ticks-wanted; why = ends-so why refl gone.come.ends }
 
 -- ---- the end
 
@@ -139,7 +162,7 @@ module _ {M Q A : Type 0} {g : _} (w : Media M) (limits : Limits) (plan : Plan) 
   module _ (why : Reason) (media : List (Option M)) (passes : List Pass) (gone : HaveGone w limits begun why media passes) (wires : All (IsWirePass lock) passes) where
     -- what is known of each node's place, by what is known of its pass
     places : (Q : Pass → Type 0) → All (λ (n : NodeParts M). Q n.pass) gone.nodes → Along (At w plan (lock_base lock).origin Q) 0 first gone.nodes
-    places Q all = went-along w plan (lock_base lock).origin Q 0 first os begun gone.nodes opened are-open new unseen gone.went gone.rest all
+    places Q all = went-along w plan (lock_base lock).origin Q 0 first os begun gone.nodes opened are-open new unseen gone.come.went gone.rest all
         (logs-of w plan (lock_base lock).origin Q os (lock_base lock).origin.asked (lock_base lock).origin.answers set)
 
     node-wires : All (λ (n : NodeParts M). IsWirePass lock n.pass) gone.nodes
@@ -165,13 +188,13 @@ module _ {M Q A : Type 0} {g : _} (w : Media M) (limits : Limits) (plan : Plan) 
         ready = ready-told plan os (lock_base lock).origin t set lang count ready close.whole.opened;
         ranges = ranges-of plan lang os (lock_base lock).origin.asked asked (lock_base lock).origin.answers answers (lock_base lock).origin w.tells t set count (ranges-opened w first os opened) close.whole;
         is_told = told-as;
-        over = λ told. inl (ended-so w limits plan lock t asked answers begun why media passes gone wires close first stood told);
+        over = λ told. inl (ended-so w limits plan lock t asked answers begun why media passes gone wires close first stood told lang.repositories.1 (told-as told).legal);
         logs = restores w plan lock t first gone.nodes stood;
         counts = are-counted w plan lock t first gone.nodes stood;
         stops = λ told. have-causes w plan lock t first gone.nodes stood asked lang.repositories.1 told
             (told-as told).legal;
         kills = λ told. survives w only plan lock t first os opened are-open count begun new fresh (logs-of w plan (lock_base lock).origin (Known w plan lock t) os (lock_base lock).origin.asked (lock_base lock).origin.answers set)
-            gone.nodes gone.kept stood (of-node w limits plan lock t asked answers begun why media passes gone wires close) told;
+            gone.nodes gone.come.kept stood (of-node w limits plan lock t asked answers begun why media passes gone wires close) told;
       }
 
     -- nothing that stood in a log is lost, however the run ends

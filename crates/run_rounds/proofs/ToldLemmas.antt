@@ -2,6 +2,9 @@
 use Rattle.run_rounds.proofs.Names.{Asked, Plan, IsOfLanguage, reading, Opened, Trace, is_ready, opened_log, base_of, Origin, IsWhole, Opening, AreReady, node_count, IsSetUp, account_of, tellers, IsTold, ◌≡◌, ◌∙◌, ℕ, true, IsTrue, List, length, Option, ap, sym, subst, AllReady, JustNodes, IsRunOf, run-of}
 use Rattle.value_form.specs.declared.acts.ActSpec.{ActSpec}
 use Rattle.run_starts.specs.Clocked.{IsClocked}
+use Rattle.run_starts.specs.Learns.{LearnsAreNew}
+use Rattle.world_core.specs.Walks.{Base}
+use Rattle.run_rounds.proofs.KnownLemmas.{same-base}
 
 module _ {M : Type 0} {g : _} (plan : Plan) (os : List (Opening M g)) (o : Origin) (t : Trace) (set : IsSetUp plan os o.asked o.answers o) (language : IsOfLanguage plan) (count : length os ≡ node_count plan) (ready : AreReady plan 0 os) where
   -- the wire is one of a run of the plan
@@ -25,4 +28,5 @@ module _ {M : Type 0} {g : _} (plan : Plan) (os : List (Opening M g)) (o : Origi
     legal = whole.legal known plan run;
     fates = whole.fates;
     clock = subst (λ (start : ℕ). IsClocked o.answers answers start t.entries) (sym whole.start) whole.clock;
+    learns = subst (λ (b : Base). LearnsAreNew b t.entries) (same-base plan os o.asked o.answers o t set whole.start whole.opened) (whole.learns known);
   }

@@ -18,13 +18,14 @@ use Rattle.run_starts.specs.Boards.{owner_of}
 use Rattle.run_starts.specs.Sights.{HasNothingOpen, IsWirePass, Sight, base_at, owners_for, world_at}
 use Rattle.run_starts.specs.Stories.{IsWhole, LeavesUntold, end_of}
 use Rattle.world_core.specs.Counts.{tick_count}
-use Rattle.run_starts.specs.TurnNodes.{NodeParts, IsAtRest, sight}
+use Rattle.run_starts.specs.TurnNodes.{NodeParts, IsAtRest}
 use Rattle.run_starts.specs.Limits.{Limits}
 use Rattle.run_starts.specs.Reason.{Reason}
 use Rattle.run_starts.specs.Reason.TheVariants as reason
 use Rattle.run_starts.specs.Nodes.{GoesOn, IsKeptThrough, HasAllOf, IsUp}
 use Rattle.run_starts.specs.Reasons.{HasMemory, IsDone, IsDown, IsLateAfter}
 use Rattle.run_media.specs.Media.{Media}
+use Rattle.run_rounds.specs.Settled.{AreSettled}
 use Rattle.run_rounds.specs.declared.ends.End.{End}
 use Rattle.run_rounds.specs.declared.ends.End.TheVariants.{Ran, Refused, NoMemory}
 
@@ -71,20 +72,25 @@ module _ {M : Type 0} where
   abbrev pub TicksWereWanted : Sight → List (NodeParts M) → Type 0
   TicksWereWanted k nodes = (front : List Entry) (moment : ℕ) (rest : List Entry) → k.story ≡ front ++ Tick moment ∷ rest → Any (IsLateAfter (base_at k) front) nodes
 
--- How nodes ended that went in rounds, by what is handed back. `begun` are they as they were opened, in the plan's order.
+-- How nodes have gone in rounds, by what the conductor has seen, and why no further round follows. `begun` are they as they were opened, in the plan's order.
+pub record HaveCome {M : Type 0} (w : Media M) (limits : Limits) (begun : List (NodeParts M)) (why : Reason) (nodes : List (NodeParts M)) (k : Sight) : Type 0 where
+  pub went : AllZip (GoesOn w.tells w.faults w.reads) begun nodes
+  pub kept : AllZip (IsKeptThrough w.tells w.stages) begun nodes
+  pub all : All (HasAllOf k.story) nodes
+  pub owner : k.owner ≡ 0
+  pub ticks : tick_count k.own ≤ limits.ticks
+  pub wanted : IsTrue w.tells → TicksWereWanted k nodes
+  pub ends : ListEnds w.tells limits why nodes k
+
+-- How nodes ended that went in rounds, by what is handed back. Where all brokers are done, what is decided is settled.
 pub record HaveGone {M : Type 0} (w : Media M) (limits : Limits) (begun : List (NodeParts M)) (why : Reason) (media : List (Option M)) (passes : List Pass) : Type 0 where
   pub nodes : List (NodeParts M)
   pub conductor : Pass
   pub media_are : media ≡ map (λ n. Some n.medium) nodes
   pub passes_are : passes ≡ map (λ n. n.pass) nodes ++ conductor ∷ []
-  pub went : AllZip (GoesOn w.tells w.faults w.reads) begun nodes
-  pub kept : AllZip (IsKeptThrough w.tells w.stages) begun nodes
+  pub come : HaveCome w limits begun why nodes (knows conductor)
   pub rest : All (IsAtRest w) nodes
-  pub all : All (HasAllOf (knows conductor).story) nodes
-  pub owner : (knows conductor).owner ≡ 0
-  pub ticks : tick_count (knows conductor).own ≤ limits.ticks
-  pub wanted : IsTrue w.tells → TicksWereWanted (knows conductor) nodes
-  pub ends : ListEnds w.tells limits why nodes (knows conductor)
+  pub settled : IsTrue w.tells → why ≡ reason.Done → AreSettled nodes
 
 module _ {M Q A : Type 0} (w : Media M) (lock : LockTable WireParts (View WireParts Entry) (Founding WireParts) Q A) (limits : Limits) where
   -- Nodes went in rounds from these on, and then the run's wire closed: their media stand in their places, and this is the end.

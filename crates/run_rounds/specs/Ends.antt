@@ -2,18 +2,22 @@
 use Rattle.std.specs.Prelude.{◌≡◌, ◌⊎◌, ℕ, ◌≤◌, Bool, true, false, List, ◌∷◌, ◌++◌, length}
 use Rattle.std.specs.List.{list_any}
 use Rattle.pseudo_time.specs.declared.nodes.NodeId.{NodeId}
-use Rattle.pseudo_time.specs.Nodes.{broker}
+use Rattle.pseudo_time.specs.Lists.{Has}
+use Rattle.pseudo_time.specs.StampParts.{StampParts}
+use Rattle.pseudo_time.specs.Nodes.{broker, repository}
 use Rattle.plan_form.specs.declared.plans.Plan.{Plan}
 use Rattle.broker_core.specs.Readings.{reading}
 use Rattle.world_core.specs.declared.entries.Entry.{Entry}
 use Rattle.world_core.specs.declared.entries.Entry.TheVariants.{Tick}
 use Rattle.world_core.specs.declared.traces.Trace.{Trace}
-use Rattle.world_core.specs.Walks.{is_down, walk}
+use Rattle.world_core.specs.Walks.{World, is_down, own, walk}
 use Rattle.world_core.specs.Legal.{Idle, base_of, fates_of, in_plan, is_within}
 use Rattle.world_core.specs.Pasts.{WasNotOpened}
 use Rattle.world_core.specs.Readings.{world_after}
 use Rattle.world_core.specs.Counts.{tick_count}
 use Rattle.run_starts.specs.Logs.{is_over}
+use Rattle.run_starts.specs.Costs.{costs}
+use Rattle.run_starts.specs.Doubts.{HasDecided, doubts}
 
 -- some node is down
 abbrev pub some_down : List Entry → Bool
@@ -30,6 +34,14 @@ broker_done plan t b = broker_done_after plan t t.entries b
 abbrev pub AllDone : Plan → Trace → Type 0
 AllDone plan t = (b : ℕ) → is_within b plan.brokers ≡ true → broker_done plan t b ≡ true
 
+-- In a repository's durable log no version is left in doubt whose home, of this run, has decided its attempt.
+abbrev pub IsSettled : Plan → World → ℕ → Type 0
+IsSettled plan w r = (s : StampParts) → is_within s.home plan.repositories ≡ true → Has s (doubts r (w.life (repository r)).gated) → HasDecided (w.life (repository s.home)).gated s → ⊥
+
+-- So it is of each repository of which no crash was counted.
+abbrev pub AllSettled : Plan → Trace → Type 0
+AllSettled plan t = (r : ℕ) → is_within r plan.repositories ≡ true → costs (own (repository r) t.entries) ≡ 0 → IsSettled plan (world_after plan t) r
+
 -- no node that is up has anything to do, and no further Tick may be made
 abbrev pub HasRunOut : (most_ticks : ℕ) → Plan → Trace → Type 0
 HasRunOut most_ticks plan t = Idle (fates_of t.sent) (world_after plan t) × (tick_count t.entries ≡ most_ticks)
@@ -38,11 +50,11 @@ HasRunOut most_ticks plan t = Idle (fates_of t.sent) (world_after plan t) × (ti
 abbrev pub TicksAreWanted : Plan → Trace → Type 0
 TicksAreWanted plan t = (front : List Entry) (moment : ℕ) (rest : List Entry) → t.entries ≡ front ++ Tick moment ∷ rest → (b : ℕ) × (is_within b plan.brokers ≡ true) × (broker_done_after plan t front b ≡ false)
 
--- A run has at most so many Ticks, and ends where a node is down, all brokers are done, enough messages were sent, or it has run out.
+-- A run has at most so many Ticks, and ends if a node is down, all brokers are done and what is decided is settled, enough messages were sent, or it has run out.
 pub record HasEnded (most_ticks enough : ℕ) (plan : Plan) (t : Trace) : Type 0 where
   pub few : tick_count t.entries ≤ most_ticks
   pub wanted : TicksAreWanted plan t
-  pub why : (some_down t.entries ≡ true) ⊎ (AllDone plan t ⊎ ((enough ≤ length t.sent) ⊎ HasRunOut most_ticks plan t))
+  pub why : (some_down t.entries ≡ true) ⊎ ((AllDone plan t × AllSettled plan t) ⊎ ((enough ≤ length t.sent) ⊎ HasRunOut most_ticks plan t))
 
 -- A node of the plan wasn't opened, so that no round began.
 abbrev pub IsUnopened : Plan → Trace → Type 0

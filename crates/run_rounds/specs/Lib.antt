@@ -2,6 +2,7 @@ pub mod Media
 pub mod Kills
 pub mod Ends
 pub mod Runs
+pub mod Settled
 pub mod Finishes
 pub mod Closings
 pub mod Begins

@@ -15,6 +15,7 @@ use Rattle.world_core.specs.declared.traces.Trace.{Trace}
 use Rattle.world_core.specs.Legal.{JustNodes, AllReady, base_of, asked_of, in_plan, is_within}
 use Rattle.world_core.specs.Readings.{IsLegal}
 use Rattle.run_starts.specs.Clocked.{IsClocked, tick_moments}
+use Rattle.run_starts.specs.Learns.{LearnsAreNew}
 use Rattle.trace_report.specs.Replays.{IsOpened}
 use Rattle.run_rounds.specs.Ends.{HasEnded, IsUnopened}
 use Rattle.run_media.specs.Media.{Media}
@@ -30,11 +31,12 @@ pub record Account : Type 0 where
   pub answers_before : Option (List ℕ)
   pub answers : Option (List ℕ)
 
--- The trace is legal for the plan and all that the fates were ever asked. They were asked for its messages, in order, and the clock for its start and its Ticks.
+-- The trace is legal for the plan and all that the fates were ever asked. They were asked for its messages, in order, and the clock for its start and its Ticks. Each of its Learns is new.
 pub record IsTold (plan : Plan) (told : Account) : Type 0 where
   pub legal : IsLegal plan told.asked told.trace
   pub fates : told.asked ≡ told.asked_before ++ map asked_of told.trace.sent
   pub clock : IsClocked told.answers_before told.answers told.trace.start told.trace.entries
+  pub learns : LearnsAreNew (base_of (reading plan.acts) plan told.trace) told.trace.entries
 
 -- Its moments, the numbers of its nodes and the effects of their logs are in range.
 pub record HasRanges (t : Trace) : Type 0 where

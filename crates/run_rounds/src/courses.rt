@@ -1,21 +1,71 @@
 //! The rounds of a run whose nodes were all opened.
-ghost use Rattle.std.specs.Prelude.{◌≡◌, ◌≤◌, ◌<◌, [], length, vec_len, vec_capacity, All};
+ghost use Rattle.std.specs.Prelude.{◌≡◌, ◌≤◌, ◌<◌, [], List, length, vec_len, vec_capacity, All, IsTrue};
 ghost use Rattle.seat_lock.specs.Words.{base_of, knows};
 ghost use Rattle.run_starts.specs.Sights.{IsWirePass};
 ghost use Rattle.world_core.specs.Counts.{tick_count};
-ghost use Rattle.run_starts.specs.Nodes.{IsReady};
-ghost use Rattle.run_rounds.specs.Closings.{HasClosed};
+ghost use Rattle.run_starts.specs.Nodes.{HasAllOf, HasPass, IsReady, IsUp};
+ghost use Rattle.run_starts.specs.TurnNodes.{NodeParts};
+ghost use Rattle.run_rounds.specs.Closings.{HasClosed, HaveCome};
+ghost use Rattle.run_rounds.specs.Settled.{AreSettled};
 ghost use Rattle.run_starts.specs.Deals.{IsDealt, HaveRoom};
 
 use crate::ends::{Ended, Finished, closed_run};
+use crate::settled::settle_nodes;
 use medium_port::Medium;
-use run_starts::{Limits, RunNode, SharedWire, WirePass, collect, conduct, deal, take_apart};
+use run_starts::{
+    Limits, Reason, RunNode, SharedWire, WirePass, collect, conduct, deal, take_apart,
+};
+use std::alloc::Global;
 use std::sync::Wait;
 use std::thread::Threads;
 use stream_port::{Clock, Fates};
 
-/// Lets the nodes go on, node i with worker i mod W, until the run has ended, takes them apart, and closes
-/// the wire. The shares are empty, with room for all nodes; so are the lists of media and passes.
+/// Nodes whose rounds have ended, the conductor's pass, and why no further round follows.
+pub struct Gone<F: Fates, C: Clock, M: Medium> {
+    pub nodes: Vec<RunNode<F, C, M>>,
+    pub conductor: WirePass<F, C, M>,
+    pub reason: Reason,
+}
+
+// Repositories settle if all brokers are done. Else nothing more happens.
+fn settled<F: Fates, C: Clock, M: Medium, R: Wait>(
+    rt: &R,
+    alloc: Global,
+    wire: &SharedWire<F, C, M>,
+    gone: Gone<F, C, M>,
+) -> Gone<F, C, M>
+    requires passes { All (HasPass wire.now.lock) gone.nodes.items × IsWirePass wire.now.lock gone.conductor }
+    requires up { gone.reason ≡ Reason.Done → All IsUp gone.nodes.items }
+    requires all { All (HasAllOf (knows gone.conductor).story) gone.nodes.items }
+    ensures passes { All (HasPass wire.now.lock) result.nodes.items × IsWirePass wire.now.lock result.conductor }
+    ensures come { (limits : Limits) (begun : List (NodeParts M)) →
+        HaveCome M.Medium limits begun gone.reason gone.nodes.items (knows gone.conductor) →
+        HaveCome M.Medium limits begun result.reason result.nodes.items (knows result.conductor) }
+    ensures settled { IsTrue M.tells → result.reason ≡ Reason.Done → AreSettled result.nodes.items }
+    ensures count { length result.nodes.items ≡ length gone.nodes.items }
+{
+    let Gone {
+        mut nodes,
+        mut conductor,
+        reason,
+    } = gone;
+    let Reason::Done = reason else {
+        return Gone {
+            nodes,
+            conductor,
+            reason,
+        };
+    };
+    let reason = settle_nodes(rt, alloc, wire, &mut nodes, &mut conductor);
+    Gone {
+        nodes,
+        conductor,
+        reason,
+    }
+}
+
+/// Lets the nodes go on, node i with worker i mod W, until the run has ended. If all brokers are done, the
+/// repositories settle. Takes the nodes apart, and closes the wire. The shares are empty, with room for all nodes; so are the lists of media and passes.
 pub fn rounds<
     F: Fates + Drop + Send,
     C: Clock + Drop + Send,
@@ -23,6 +73,7 @@ pub fn rounds<
     R: Threads + Wait + Sync,
 >(
     rt: &R,
+    alloc: Global,
     wire: SharedWire<F, C, M>,
     limits: Limits,
     nodes: Vec<RunNode<F, C, M>>,
@@ -45,8 +96,22 @@ pub fn rounds<
 {
     let count = nodes.len();
     let (nodes, shares) = deal(nodes, shares);
-    let (shares, conductor, reason) = conduct(rt, &wire, limits, shares, conductor);
+    let (shares, conductor, reason, _) = conduct(rt, &wire, limits, shares, conductor);
     let nodes = collect(shares, count, nodes);
+    let Gone {
+        nodes,
+        conductor,
+        reason,
+    } = settled(
+        rt,
+        alloc,
+        &wire,
+        Gone {
+            nodes,
+            conductor,
+            reason,
+        },
+    );
     let (media, mut passes) = take_apart(nodes, media, passes);
     passes.push_reserved(conductor);
     closed_run(

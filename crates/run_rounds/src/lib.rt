@@ -4,6 +4,7 @@
 mod courses;
 mod ends;
 mod runs;
+mod settled;
 
 pub use ends::{End, Finished};
 pub use kill_law::place_has_past;

@@ -106,7 +106,9 @@ fn with_nodes<
         let_go(shares);
         return stopped(wire, passes, conductor, media);
     }
-    rounds(rt, wire, limits, nodes, shares, conductor, media, passes)
+    rounds(
+        rt, alloc, wire, limits, nodes, shares, conductor, media, passes,
+    )
 }
 
 // Memory ran out before the first round.

@@ -3,8 +3,11 @@ pub mod AlongLemmas
 pub mod StartLemmas
 pub mod DownLemmas
 pub mod SeatLemmas
+pub use Rattle.node_rounds.proofs.DoubtLemmas
 pub use Rattle.node_rounds.proofs.LifeLemmas
+pub use Rattle.node_rounds.proofs.PairLemmas
 pub use Rattle.node_rounds.proofs.PhaseLemmas
+pub use Rattle.node_rounds.proofs.RoundLemmas
 pub use Rattle.node_rounds.proofs.SightLemmas
 pub use Rattle.node_rounds.proofs.StepLemmas
 pub use Rattle.node_rounds.proofs.TrailLemmas

@@ -6,10 +6,14 @@ pub use Rattle.node_rounds.specs.Clocked
 pub use Rattle.node_rounds.specs.Condition
 pub use Rattle.node_rounds.specs.Cores
 pub use Rattle.node_rounds.specs.Costs
+pub use Rattle.node_rounds.specs.Doubts
+pub use Rattle.node_rounds.specs.Learns
 pub use Rattle.node_rounds.specs.Lives
 pub use Rattle.node_rounds.specs.Logs
 pub use Rattle.node_rounds.specs.Nodes
 pub use Rattle.node_rounds.specs.Reasons
+pub use Rattle.node_rounds.specs.Settled
+pub use Rattle.node_rounds.specs.Settles
 pub use Rattle.node_rounds.specs.Sights
 pub use Rattle.node_rounds.specs.Stories
 pub use Rattle.node_rounds.specs.TurnNodes

@@ -9,6 +9,9 @@ mod starts;
 
 pub use deals::{collect, deal, empty_shares, let_go};
 pub use downs::down_visits;
-pub use node_rounds::{Closed, Limits, Reason, RunNode, SharedWire, Told, WirePass, conduct};
+pub use node_rounds::{
+    Closed, Limits, Reason, RunNode, SharedWire, Told, WirePass, conduct, is_any_down,
+    is_any_wanting, meet_share, settle_all,
+};
 pub use seats::{Seated, open_nodes, take_apart};
 pub use starts::{Begun, wire_for};

@@ -1,7 +1,7 @@
 -- A script that keeps to the repositories of its plan asks for objects of these alone.
 use Rattle.value_form.specs.declared.fail_kinds.FailKind.{FailKind}
 use Rattle.value_form.specs.declared.fail_kinds.FailKind.TheVariants as fails
-use Rattle.serial_law.proofs.Names.{ObjectId, Value, Request, Answer, Got, Stored, Tree, Ends, Says, Reads, Writes, after, InRange, asks, asked_of, ◌≡◌, ℕ, zero, suc, ◌^◌, nat_lt, Bool, true, false, List, [], ◌∷◌, ◌++◌, refl, subst, ap, Some, Result, Ok, Err, if◌then◌else◌, pos, negsuc, same_Some, Spot, Fixed, At, Step, Let, Read, Write, Print, If, IfElse, Repeat, Withdraw, Block, End, Then, value, object_at, condition, count, Onward, asked_with, asked_turns, asked, all_asked, denote}
+use Rattle.serial_law.proofs.Names.{ObjectId, Value, Request, Answer, Got, Stored, Tree, Ends, Says, Reads, Writes, after, InRange, asks, asked_of, ◌≡◌, ℕ, zero, suc, ◌^◌, nat_lt, Bool, true, false, List, [], ◌∷◌, ◌++◌, refl, subst, ap, Some, Result, Ok, Err, if◌then◌else◌, ◌≤◌, arith, pos, negsuc, same_Some, Spot, Fixed, At, Step, Let, Read, Write, Print, If, IfElse, Repeat, Withdraw, Block, End, Then, value, object_at, condition, count, Onward, asked_with, asked_turns, asked, all_asked, denote}
 use Rattle.value_form.specs.declared.values.Value.TheVariants as v
 use Rattle.script_meaning.specs.Names.{Names, with_name}
 use Rattle.script_meaning.specs.Operations.{◌>>=◌, object_in}
@@ -20,6 +20,16 @@ Inside n (Writes o a t) = InRange n o.repository × Inside n t
 -- what comes next keeps to them
 abbrev InsideOn : ℕ → Onward → Type 0
 InsideOn n go = (names : Names) (left : ℕ) → Inside n (go names left)
+
+at_most : (i n m : ℕ) → i ≤ n → n ≤ m → i ≤ m
+at_most i n m h l = omega (arith, h, l)
+
+-- and so of more repositories
+pub inside-more : (n m : ℕ) (t : Tree) → n ≤ m → Inside n t → Inside m t
+inside-more n m (Ends e) l h = tt
+inside-more n m (Says a t) l h = inside-more n m t l h
+inside-more n m (Reads o k) l h = ((h.0.0, at_most o.repository n m h.0.1 l), λ a. inside-more n m (k a) l (h.1 a))
+inside-more n m (Writes o a t) l h = ((h.0.0, at_most o.repository n m h.0.1 l), inside-more n m t l h.1)
 
 pub inside-after : (n : ℕ) (t : Tree) (ans : List Answer) → Inside n t → Inside n (after t ans)
 inside-after n (Ends e) ans h = tt
@@ -70,7 +80,7 @@ inside-with : {A : Type 0} (n : ℕ) (found : Result A FailKind) (l : ℕ) (go :
 inside-with n (Ok x) l go h = h x refl
 inside-with n (Err k) l go h = tt
 
-inside-if : (n : ℕ) (b : Bool) (t u : Tree) → Inside n t → Inside n u → Inside n (if b then t else u)
+pub inside-if : (n : ℕ) (b : Bool) (t u : Tree) → Inside n t → Inside n u → Inside n (if b then t else u)
 inside-if n true t u h k = h
 inside-if n false t u h k = k
 

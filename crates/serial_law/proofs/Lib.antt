@@ -13,6 +13,7 @@ pub mod Main
 pub mod OlderReading
 pub mod Own
 pub mod OwnAnswers
+pub mod PlannedRuns
 pub mod Premises
 pub mod Puts
 pub mod ReasonRuns

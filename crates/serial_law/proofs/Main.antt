@@ -2,7 +2,8 @@
 use Rattle.pseudo_time.specs.declared.decisions.Decision.TheVariants as decision
 use Rattle.serial_law.proofs.Names.{Outcome, Post, Answer, Over, RunLogs, Try, before, committed, marks_at, RunFacts, IsSerial, Serial, Tree, talked, talked_alone, Objects, Ending, Has, MayCommit, ◌≡◌, Bool, true, false, List, refl, subst, Some, false≢true, IsComplete}
 use Rattle.effect_form.specs.declared.outcomes.Outcome.TheVariants as outcome
-use Rattle.serial_law.proofs.Talking.{Alike, alone}
+use Rattle.serial_model.specs.Questions.{AnswersOf}
+use Rattle.serial_law.proofs.Talking.{Alike, alone, answers-alone}
 use Rattle.serial_law.proofs.Settled.{at-home, committed-home}
 use Rattle.serial_law.proofs.Premises.{lone}
 use Rattle.serial_law.proofs.Before.{whole, before-holds}
@@ -36,6 +37,10 @@ serial-try k ever f T a =
     other : (e : Outcome) → T.ended ≡ Some e → (e ≡ outcome.Committed → ⊥) → (b : Bool) → committed k T.stamp ≡ b → committed k T.stamp ≡ false
     other e h n false c = c
     other e h n true c = absurd (not-other k ever f T a e h n c (subst MayCommit h (f.commit_asked T a (f.commit T.stamp (at-home k ever f T.stamp c))).1))
+
+-- its answers are what the map gives, with its own writes so far
+pub answers-try : (k : RunLogs) (ever : List Post) → RunFacts k ever → (T : Try) → Has T k.tries → AnswersOf T.script T.answers (before k T.stamp)
+answers-try k ever f T a = answers-alone T.script T.answers T.stamp (marks_at k) (committed k) (lone k ever f T a) (before k T.stamp) (before-holds k ever f T.stamp)
 
 -- the second part
 pub serial : (k : RunLogs) (ever : List Post) → RunFacts k ever → Serial k

@@ -1,13 +1,38 @@
 -- One reading for a plan and all plans of the runs among earlier calls.
-use Rattle.serial_law.proofs.Names.{Every, Has, repository, TimeParts, has-left, has-right, NodeId, ActSpec, Effect, Asked, Tree, Plan, IsOfLanguage, reading, Scripted, Trace, in_plan, alike, own_reading, IsLegal, World, sent_by, own-reading, walk-same, AreEarlier, AreOfLanguage, Earlier, WereLeftOrRetired, replaced, sent_earlier, Running, Retiring, ◌≡◌, ℕ, List, [], ◌∷◌, ◌++◌, refl, ◌∙◌, ap, subst, reverse, if◌then◌else◌, take, same_node, every-append, MayRetire, forward, Legal, Call, log_left, legal-same, logs_left}
+use Rattle.serial_law.proofs.Names.{Every, Has, repository, TimeParts, has-left, has-right, NodeId, ActSpec, Effect, Asked, Tree, Plan, IsOfLanguage, Scripted, Trace, in_plan, alike, own_reading, IsLegal, World, sent_by, own-reading, walk-same, AreEarlier, AreOfLanguage, Earlier, WereLeftOrRetired, replaced, sent_earlier, Running, Retiring, ◌≡◌, ℕ, List, [], ◌∷◌, ◌++◌, refl, ◌∙◌, ap, subst, reverse, if◌then◌else◌, take, same_node, every-append, MayRetire, forward, Legal, Call, log_left, legal-same, logs_left, EachAct, block, denote, ◌+◌, ◌≤◌, ◌==◌}
+use Rattle.std.specs.Cmp.Lexicographic.{pointwise}
+use Rattle.script_form.specs.RowTexts.{script_text}
 use Rattle.broker_core.specs.Ledgers.{IsBrokerAct}
+use Rattle.broker_core.specs.Readings.{reading}
 use Rattle.broker_core.proofs.ReadingLemmas.{reads-all}
 use Rattle.world_core.proofs.PlanRangeLemmas.{plan-acts}
+use Rattle.serial_law.proofs.Inside.{Inside, inside-if, inside-more, inside-script}
 
 acts_of_all : List Earlier → List ActSpec
 acts_of_all [] = []
 acts_of_all (Running c ∷ cs) = c.plan.acts ++ acts_of_all cs
 acts_of_all (Retiring r at ∷ cs) = acts_of_all cs
+
+-- the script of an act of the language asks for objects of sixteen repositories at most
+IsInside : ActSpec → Type 0
+IsInside a = Inside 16 (denote (block a.script.lines))
+
+inside-acts : (n k first : ℕ) (acts : List ActSpec) → n ≤ 16 → EachAct n k first acts → Every IsInside acts
+unfolding IsInside
+inside-acts n k first [] low h = tt
+inside-acts n k first (a ∷ acts) low h = (inside-more n 16 (denote (block a.script.lines)) low (inside-script n (block a.script.lines) h.0.script.limits), inside-acts n k (first + 1) acts low h.1)
+
+inside-all : (cs : List Earlier) → AreOfLanguage cs → Every IsInside (acts_of_all cs)
+unfolding acts_of_all
+inside-all [] h = tt
+inside-all (Running c ∷ cs) h = every-append IsInside c.plan.acts (acts_of_all cs) (inside-acts c.plan.repositories c.plan.brokers 1 c.plan.acts h.0.repositories.1 h.0.acts) (inside-all cs h.1)
+inside-all (Retiring r at ∷ cs) h = inside-all cs h
+
+-- and so does whatever text they read
+inside-read : (acts : List ActSpec) (text : List ℕ) → Every IsInside acts → Inside 16 (reading acts text)
+unfolding reading IsInside
+inside-read [] text h = tt
+inside-read (a ∷ acts) text h = inside-if 16 (pointwise ◌==◌ (script_text (block a.script.lines)) text) (denote (block a.script.lines)) (reading acts text) h.0 (inside-read acts text h.1)
 
 all-acts : (cs : List Earlier) → AreOfLanguage cs → Every IsBrokerAct (acts_of_all cs)
 unfolding acts_of_all
@@ -73,6 +98,7 @@ pub record OneReading (plan : Plan) (asked : List Asked) (t : Trace) (logs : Nod
   pub legal : Legal script plan asked t
   pub replaced_so : (n : NodeId) → replaced own_reading cs n ≡ replaced (alike script) cs n
   pub sent_so : sent_earlier own_reading cs ≡ sent_earlier (alike script) cs
+  pub inside : (text : List ℕ) → Inside 16 (script text)
 
 pub older-reading : (plan : Plan) (asked : List Asked) (t : Trace) (logs : NodeId → List Effect) → IsOfLanguage plan → IsLegal plan asked t → (left : WereLeftOrRetired logs) → OneReading plan asked t logs left.0
 older-reading plan asked t logs w l left =
@@ -86,4 +112,5 @@ older-reading plan asked t logs w l left =
       legal = legal-same (reading plan.acts) (reading all) plan (own-reading plan w) (reads-all all plan.acts ps (plan-acts plan w) (λ a k. has-left plan.acts (acts_of_all left.0) a k)) asked t l;
       replaced_so = replaced-same all ps left.0 left.1.1 within;
       sent_so = sent-same all ps left.0 left.1.1 within;
+      inside = λ text. inside-read all text (every-append IsInside plan.acts (acts_of_all left.0) (inside-acts plan.repositories plan.brokers 1 plan.acts w.repositories.1 w.acts) (inside-all left.0 left.1.1));
     }

@@ -1,6 +1,6 @@
 -- What holds of all logs and messages of a legal run gives the facts that keep it serial.
 use Rattle.std.proofs.lemmas.List.{append-nil}
-use Rattle.serial_law.proofs.Names.{Every, Has, StampParts, TimeParts, Decision, NodeId, NodeKind, Repository, Broker, every-has, ActSpec, ObjectId, Value, Effect, Outcome, Message, Post, WasSent, Distinct, Viewed, all_stood, Got, Stored, Request, ToRead, ToWrite, Asks, Over, Tree, after, stop, talked, talked-stop, Plan, InRange, IsOfLanguage, is_commit, marks, Once, decide-home, decided-once, book, tries, tries_of, broker, repository, Task, tasks, Scripted, IsAskOf, IsBelow, IsPlayed, IsProven, MayCommit, clocks, distinct, played, proven, acts_of, Base, opened_log, kind_post, node_facts, Causes, Happened, HasReason, HasStood, Try, RunLogs, in_run, Sees, at, asks, asked_of, RunFacts, whole_log, whole_run, attempt, keep, WriteStep, read_step, write_step, lt, each-has, broker-post, some-history, some-log, ◌≡◌, ◌⊎◌, ℕ, ◌+◌, ◌≤◌, true, List, [], ◌∷◌, ◌++◌, map, reverse, refl, sym, ◌∙◌, ap, subst, Some, is_some, inl, inr, ◌==◌, block, IsOnFloor, chain-view, Stop, EachAct, learn-home, decide-cause, task_of, IsCommitOf, IsPlanned, planned, run_of, every-filter, every-at}
+use Rattle.serial_law.proofs.Names.{Every, Has, StampParts, TimeParts, Decision, NodeId, NodeKind, Repository, Broker, every-has, ActSpec, ObjectId, Value, Effect, Outcome, Message, Post, WasSent, Distinct, Viewed, all_stood, Got, Stored, Request, ToRead, ToWrite, Asks, Over, Tree, after, stop, talked, talked-stop, InRange, is_commit, marks, Once, decide-home, decided-once, book, tries, broker, repository, Task, tasks, Scripted, IsAskOf, IsBelow, IsPlayed, IsProven, MayCommit, clocks, distinct, played, proven, Base, kind_post, node_facts, Causes, Happened, HasReason, HasStood, Try, RunLogs, in_run, Sees, at, asks, asked_of, RunFacts, whole_log, whole_run, attempt, WriteStep, read_step, write_step, lt, each-has, broker-post, some-history, some-log, ◌≡◌, ◌⊎◌, ℕ, ◌+◌, ◌≤◌, true, List, [], ◌∷◌, ◌++◌, map, reverse, refl, sym, ◌∙◌, ap, subst, Some, inl, inr, block, IsOnFloor, chain-view, Stop, EachAct, learn-home, decide-cause, task_of, IsCommitOf}
 use Rattle.pseudo_time.specs.declared.decisions.Decision.TheVariants as decision
 use Rattle.value_form.specs.declared.endings.Ending.TheVariants as ending
 use Rattle.effect_form.specs.declared.effects.Effect.TheVariants as effect
@@ -9,12 +9,10 @@ use Rattle.message_form.specs.declared.messages.Message.TheVariants as message
 use Rattle.repository_laws.specs.Facts as repositories
 use Rattle.broker_core.specs.Book as books
 use Rattle.broker_core.specs.Book.{find}
-use Rattle.broker_laws.specs.Fits as brokers
 use Rattle.broker_laws.specs.Posts as posts
 use Rattle.world_facts.specs.Refines as refines
 use Rattle.serial_law.specs.Facts.{Said, request_at, Asked}
-use Rattle.broker_laws.proofs.Kept.{kept}
-use Rattle.serial_law.proofs.Attempts.{IsTryOf, try-of, tries-kept, try-home, of-book, found-try}
+use Rattle.serial_law.proofs.Attempts.{found-in, found-try}
 use Rattle.object_history.specs.declared.steps.WriteStep.TheVariants as write
 use Rattle.object_history.specs.declared.steps.ReadStep.TheVariants as read
 use Rattle.world_core.proofs.Refusals.{Says}
@@ -60,15 +58,27 @@ pub kept-tasks : (script : List ℕ → Tree) (n : ℕ) (acts : List ActSpec) �
 kept-tasks script n [] h = tt
 kept-tasks script n (a ∷ acts) h = (h.0, kept-tasks script n acts h.1)
 
+pub clock-tasks : (c : ℕ) (acts : List ActSpec) → Every (λ (a : ActSpec). c ≤ a.clock) acts → Every (λ (t : Task). c ≤ t.clock) (tasks acts)
+clock-tasks c [] h = tt
+clock-tasks c (a ∷ acts) h = (h.0, clock-tasks c acts h.1)
+
 -- ---- one question, two words
 
 asks-some : (s : Stop) (q : Request) → s ≡ Asks q → request_at s ≡ Some q
 asks-some s q e = ap request_at e
 
-module _ (script : List ℕ → Tree) (b : Base) (plan : Plan) (logs : NodeId → List Effect) (olds : NodeId → List (List Effect)) (past sent : List Post) (May : ℕ → Type 0)
-    (same_run : b.run ≡ plan.run) (same_acts : b.acts ≡ plan.acts) (whole : IsOfLanguage plan) (scripted : Scripted script plan.acts)
-    (opened : (k : ℕ) → 1 ≤ k → k ≤ plan.brokers → is_some (opened_log b.opened (broker k)) ≡ true)
-    (f : refines.OlderFacts (node_facts script) b logs olds past sent May) where
+-- An attempt is this try of a broker's book, of whatever run. Its home, and what its script asks for, lie within these repositories.
+pub record IsBooked (script : List ℕ → Tree) (logs : NodeId → List Effect) (most : ℕ) (a : Try) : Type 0 where
+  pub number : ℕ
+  pub try : books.Try
+  pub has : Has try (tries (book (logs (broker number))))
+  pub is : attempt script try ≡ a
+  pub home : InRange most try.stamp.home
+  pub inside : Inside most (script try.task.script)
+
+-- `attempts` are tries of the brokers' books
+module _ (script : List ℕ → Tree) (b : Base) (most : ℕ) (attempts : List Try) (logs : NodeId → List Effect) (olds : NodeId → List (List Effect)) (past sent : List Post) (May : ℕ → Type 0)
+    (f : refines.OlderFacts (node_facts script) b logs olds past sent May) (booked : (a : Try) → Has a attempts → IsBooked script (λ n. reverse (logs n)) most a) where
   abbrev ever : List Post
   ever = past ++ sent
 
@@ -76,7 +86,7 @@ module _ (script : List ℕ → Tree) (b : Base) (plan : Plan) (logs : NodeId �
   log n = reverse (logs n)
 
   abbrev run : RunLogs
-  run = run_of script plan log
+  run = record { repositories = most; logs = log; tries = attempts }
 
   -- the older logs, newest effect first, and the run with all versions that ever stood
   abbrev before : NodeId → List (List Effect)
@@ -150,19 +160,11 @@ module _ (script : List ℕ → Tree) (b : Base) (plan : Plan) (logs : NodeId �
 
   -- ---- attempts
 
-  ready : (k : ℕ) → 1 ≤ k → k ≤ plan.brokers → brokers.IsReady script k plan.run (tasks (acts_of k plan.acts)) (log (broker k))
-  ready k low high =
-      subst (λ r. brokers.IsReady script k r (tasks (acts_of k plan.acts)) (log (broker k))) same_run
-      (subst (λ x. brokers.IsReady script k b.run (tasks (acts_of k x)) (log (broker k))) same_acts (f.ready (broker k) (opened k low high)))
-
-  all-kept : (k : ℕ) → 1 ≤ k → k ≤ plan.brokers → keep script k plan.run (tasks (acts_of k plan.acts)) (log (broker k)) ≡ log (broker k)
-  all-kept k low high = kept script k plan.run (tasks (acts_of k plan.acts)) (log (broker k)) (f.tidy (broker k)) (ready k low high).same_plan
-
   abbrev Mine : Try → Type 0
-  Mine a = IsTryOf script plan.run log plan.brokers a
+  Mine a = IsBooked script log most a
 
-  mine : (a : Try) → Has a run.tries → Mine a
-  mine a h = try-of script plan.run log plan.brokers a (subst (Has a) (tries-kept script plan.run plan.acts log plan.brokers all-kept) h)
+  mine : (a : Try) → Has a attempts → Mine a
+  mine = booked
 
   module _ (a : Try) (m : Mine a) where
     abbrev me : ℕ
@@ -172,32 +174,16 @@ module _ (script : List ℕ → Tree) (b : Base) (plan : Plan) (logs : NodeId �
     own = log (broker m.number)
 
     its-play : IsPlayed script m.try
-    its-play = every-has (IsPlayed script) (tries (book own)) m.try (played script me own (f.tidy (broker me))) (of-book (book own) m.try m.has)
+    its-play = every-has (IsPlayed script) (tries (book own)) m.try (played script me own (f.tidy (broker me))) m.has
 
     its-proof : IsProven me ever m.try
-    its-proof = every-has (IsProven me ever) (tries (book own)) m.try (proven script me ever own (f.tidy (broker me)) (f.proofs (broker me))) (of-book (book own) m.try m.has)
+    its-proof = every-has (IsProven me ever) (tries (book own)) m.try (proven script me ever own (f.tidy (broker me)) (f.proofs (broker me))) m.has
 
     its-broker : m.try.stamp.broker ≡ me
-    its-broker = (every-has (IsBelow me (book own).clock) (tries (book own)) m.try (clocks script me own (f.tidy (broker me))) (of-book (book own) m.try m.has)).1
+    its-broker = (every-has (IsBelow me (book own).clock) (tries (book own)) m.try (clocks script me own (f.tidy (broker me))) m.has).1
 
     its-place : find m.try.stamp (tries (book own)) ≡ Some m.try
-    its-place = found-try (tries (book own)) m.try (distinct script me own (f.tidy (broker me))) (of-book (book own) m.try m.has)
-
-    its-plan : IsPlanned plan.run (tasks (acts_of me plan.acts)) m.try
-    its-plan =
-        every-has (IsPlanned plan.run (tasks (acts_of me plan.acts))) (tries_of (book own).acts) m.try
-        (planned script me plan.run (tasks (acts_of me plan.acts)) own (f.tidy (broker me))
-        (ready me m.low m.high) m.same_run) m.has
-
-    its-task : IsKept script plan.repositories m.try.task
-    its-task =
-        every-at (IsKept script plan.repositories) (tasks (acts_of me plan.acts)) its-plan.1.0 m.try.task
-        (kept-tasks script plan.repositories (acts_of me plan.acts)
-        (every-filter (λ a. IsKept script plan.repositories (task_of a)) (λ (a : ActSpec). a.broker == me) plan.acts (kept-acts script plan.repositories plan.brokers 1 plan.acts whole.acts scripted)))
-        its-plan.1.1
-
-    its-home : InRange plan.repositories m.try.stamp.home
-    its-home = subst (InRange plan.repositories) (sym (try-home script me own m.try (f.tidy (broker me)) m.has)) its-task.0
+    its-place = found-try (tries (book own)) m.try (distinct script me own (f.tidy (broker me))) m.has
 
     -- what the book of its broker finds by its stamp is this try
     same-try : (x : StampParts) (i : ℕ) (u : books.Try) → x ≡ m.try.stamp → x.broker ≡ i → find x (tries (book (log (broker i)))) ≡ Some u → u ≡ m.try
@@ -233,6 +219,18 @@ module _ (script : List ℕ → Tree) (b : Base) (plan : Plan) (logs : NodeId �
   write-said : (a : Try) (m : Mine a) (t : TimeParts) (o : ObjectId) (v : Value) → Posted (message.Write t o v) → t.stamp ≡ m.try.stamp → Asked (attempt script m.try) t (ToWrite o v)
   write-said a m t o v (Repository, i, to, h) e = absurd (by-repository i to (message.Write t o v) h).2
   write-said a m t o v (Broker, i, to, h) e = let k = by-broker i to (message.Write t o v) h in its-request a m t (ToWrite o v) i e k.0 k.2
+
+  -- the try that asked for a write
+  pub write-of : (x : TimeParts) (o : ObjectId) (v : Value) → Said ever (message.Write x o v) →
+      (t : books.Try) × Has t (tries (book (log (broker x.stamp.broker)))) × (t.stamp ≡ x.stamp) × Asked (attempt script t) x (ToWrite o v)
+  write-of x o v said = by (posted (message.Write x o v) said)
+    where
+      by : Posted (message.Write x o v) → (t : books.Try) × Has t (tries (book (log (broker x.stamp.broker)))) × (t.stamp ≡ x.stamp) × Asked (attempt script t) x (ToWrite o v)
+      by (Repository, i, to, h) = absurd (by-repository i to (message.Write x o v) h).2
+      by (Broker, i, to, h) =
+          let k = by-broker i to (message.Write x o v) h in
+          let found = found-in x.stamp (tries (book (log (broker i)))) k.2.0 k.2.1 in
+          (k.2.0, subst (λ j. Has k.2.0 (tries (book (log (broker j))))) (sym k.0) found.0, found.1, (k.2.2.0, k.2.2.1, k.2.2.2, k.2.2.3, asks-some _ (ToWrite o v) k.2.2.4))
 
   commit-said : (a : Try) (m : Mine a) → Posted (message.Commit m.try.stamp) → ((talked (script m.try.task.script) m.try.answers).stop ≡ Over ending.Finished) × MayCommit m.try.end
   commit-said a m (Repository, i, to, h) = absurd (by-repository i to (message.Commit m.try.stamp) h).2
@@ -284,10 +282,10 @@ module _ (script : List ℕ → Tree) (b : Base) (plan : Plan) (logs : NodeId �
     put = λ r o x v i h. let k = put-once (before (repository r)) (log (repository r)) (effect.Put o x v) h in
         let asked = put-asked script b logs olds past sent May f r k.0 o x v k.1 k.2 in (asked.1, was-said _ _ _ asked.0);
     commit = λ s h. was-said _ _ _ (caused s.home (effect.Decide s decision.Committed) (other s.home (effect.Decide s decision.Committed) (λ z. z) h));
-    home = λ a has. moved (λ x. in_run run x.stamp.home ≡ true) a (mine a has) (in-both run _ (its-home a (mine a has)).0 (its-home a (mine a has)).1);
+    home = λ a has. moved (λ x. in_run run x.stamp.home ≡ true) a (mine a has) (in-both run _ (mine a has).home.0 (mine a has).home.1);
     within = λ a pre post q has. moved (λ x. x.answers ≡ pre ++ post → asks (after x.script pre) ≡ Some q → in_run run (asked_of q).repository ≡ true) a (mine a has)
-        (λ e k. let r = inside-asks plan.repositories (after (script (mine a has).try.task.script) pre) q
-        (inside-after plan.repositories (script (mine a has).try.task.script) pre (its-task a (mine a has)).1) k in in-both run _ r.0 r.1);
+        (λ e k. let r = inside-asks most (after (script (mine a has).try.task.script) pre) q
+        (inside-after most (script (mine a has).try.task.script) pre (mine a has).inside) k in in-both run _ r.0 r.1);
   }
 
   -- ---- causes

@@ -4,7 +4,7 @@ use Rattle.broker_core.specs.Book as books
 use Rattle.broker_core.specs.Sound.{Started, OfAct}
 use Rattle.world_core.specs.Deeds.{attempt, book_tries, run_tries}
 use Rattle.serial_law.proofs.ReasonRuns.{answered-own, reason-same, refused-own}
-use Rattle.serial_law.specs.Serials.{HoldsFinals, IsSerialOver, olds_in, run_in, whole_in}
+use Rattle.serial_law.specs.Serials.{AreLate, HoldsFinals, IsSerialOver, olds_in, run_in, whole_in}
 use Rattle.broker_laws.proofs.TestLemmas.{and-both}
 use Rattle.broker_core.proofs.SoundLemmas.{sound-kept}
 use Rattle.broker_core.proofs.SameTurns.{book-same}
@@ -59,6 +59,7 @@ known-log false x y e = cc
 pub record Placed (plan : Plan) (t : Trace) (cs : List Earlier) : Type 0 where
   pub place : Position
   pub repositories : place.plan.repositories ≡ plan.repositories
+  pub acts : place.plan.acts ≡ plan.acts
   pub logs : (r : ℕ) → (nat_le 1 r && nat_le r plan.repositories) ≡ true → log_at place (repository r) ≡ reverse (gated_log plan t (repository r))
   pub olds : (n : NodeId) → olds_at place n ≡ olds_in cs n
   pub tries : (run_at place).tries ≡ (run_in plan t).tries
@@ -79,6 +80,7 @@ placed plan asked t w l logs left agrees =
     record {
       place = p;
       repositories = refl;
+      acts = refl;
       logs = λ r i. there (repository r) i;
       olds = λ n. ap (map reverse) (sym (r.replaced_so n));
       tries = all-same r.script (reading plan.acts) plan.run plan.acts r.legal.scripted own (log_at p) (λ n. reverse (gated_log plan t n)) plan.brokers
@@ -133,3 +135,9 @@ module _ (facts : (p : Position) → RunFacts (whole_at p) (sent_before p)) (law
       let f : RunFacts (whole_at k.place) (sent_before k.place) = facts k.place in
       reason-same (run_at k.place) (run_in plan t) (λ r i. k.logs r (subst (λ n. (nat_le 1 r && nat_le r n) ≡ true) k.repositories i)) (olds_at k.place) (olds_in left.0) k.olds (happened_before k.place) (happened_by plan t left.0)
       k.ticked k.answered k.refused try o (f.home try there) (λ q. f.within try try.answers [] q there (sym (append-nil try.answers))) (law k.place try o there e)
+
+module _ (law : (p : Position) (c : ℕ) → Every (λ (a : ActSpec). c ≤ a.clock) p.plan.acts → (try : Try) → Has try (run_at p).tries → c ≤ try.stamp.clock) where
+  pub late-over : (plan : Plan) (asked : List Asked) (t : Trace) → IsOfLanguage plan → IsLegal plan asked t → AreLate plan t
+  late-over plan asked t w l logs left agrees c all try h =
+      let k = placed plan asked t w l logs left agrees in
+      law k.place c (subst (Every (λ (a : ActSpec). c ≤ a.clock)) (sym k.acts) all) try (subst (Has try) (sym k.tries) h)

@@ -80,7 +80,11 @@ right-at t ans s marks sure f m before pre post (Got v) e =
     (value t ans s marks sure f m before pre post v g.0 (kinds-front t ans s marks sure f pre (Got v ∷ post) e) e g.1)
 right-at t ans s marks sure f m before pre post Stored e = let g = f.wrote pre post e in subst (λ r. Right r Stored (left_after t pre m)) (sym g.2) tt
 
--- for every try, committed or not
+-- for every try, committed or not: its answers agree
+pub answers-alone : (t : Tree) (ans : List Answer) (s : StampParts) (marks : ObjectId → List Mark) (sure : StampParts → Bool) → Lone t ans s marks sure →
+    (m : Objects) → Holds_below marks sure s m → AnswersOf t ans m
+answers-alone t ans s marks sure f m before = agrees t ans m (right-at t ans s marks sure f m before)
+
 pub alone : (t : Tree) (ans : List Answer) (s : StampParts) (marks : ObjectId → List Mark) (sure : StampParts → Bool) → Lone t ans s marks sure →
     (m : Objects) → Holds_below marks sure s m → Alike t ans m
-alone t ans s marks sure f m before = alike t ans m (agrees t ans m (right-at t ans s marks sure f m before))
+alone t ans s marks sure f m before = alike t ans m (answers-alone t ans s marks sure f m before)

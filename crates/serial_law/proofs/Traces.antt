@@ -10,8 +10,12 @@ use Rattle.broker_laws.specs.Posts.{Distinct, IsWithinLimits, PostHolds}
 use Rattle.broker_laws.proofs.Limits.{within}
 use Rattle.stream_port.specs.declared.fates.Fate.{Fate}
 use Rattle.world_core.proofs.Refusals.{Says, says-map}
+use Rattle.world_core.specs.Deeds.{Try}
 use Rattle.world_facts.specs.Refines as refines
-use Rattle.serial_law.proofs.RunFacts.{run-facts, run-causes, ToldRequest}
+use Rattle.serial_law.proofs.PlannedRuns.{run-above, run-booked}
+use Rattle.value_form.specs.declared.acts.ActSpec.{ActSpec}
+use Rattle.world_core.specs.Deeds as deeds
+use Rattle.serial_law.proofs.RunFacts.{IsBooked, run-facts, run-causes, ToldRequest}
 use Rattle.serial_law.proofs.Main.{serial}
 use Rattle.serial_law.proofs.Standing.{finals-stand, no-here, puts-stand, yes-here}
 use Rattle.serial_law.proofs.WholeFacts.{kept-or-gone, same-last}
@@ -28,13 +32,23 @@ module _ (p : Position) where
   brokers-opened : (k : ℕ) → 1 ≤ k → k ≤ p.plan.brokers → is_some (opened_log p.trace.opened (broker k)) ≡ true
   brokers-opened k low high = p.legal.nodes.just (broker k) ∙ and-both (nat_le 1 k) (nat_le k p.plan.brokers) (le-leb 1 k low) (le-leb k p.plan.brokers high)
 
+  booked : (a : Try) → Has a (run_at p).tries → IsBooked p.script (log_at p) p.plan.repositories a
+  booked =
+      run-booked p.script (base_of p.script p.plan p.trace) p.plan (logs_at p.logs (world_at p)) (replaced (alike p.script) p.past.0) (sent_earlier (alike p.script) p.past.0) (sent_by (world_at p)) (TickedBefore p) refl refl p.whole
+      p.legal.scripted brokers-opened place-facts
+
   pub place-serial-facts : RunFacts (whole_at p) ever
   place-serial-facts =
-      run-facts p.script (base_of p.script p.plan p.trace) p.plan (logs_at p.logs (world_at p)) (replaced (alike p.script) p.past.0) (sent_earlier (alike p.script) p.past.0) (sent_by (world_at p)) (TickedBefore p) refl refl p.whole
-      p.legal.scripted brokers-opened place-facts
+      run-facts p.script (base_of p.script p.plan p.trace) p.plan.repositories (run_at p).tries (logs_at p.logs (world_at p)) (replaced (alike p.script) p.past.0) (sent_earlier (alike p.script) p.past.0) (sent_by (world_at p)) (TickedBefore p)
+      place-facts booked
 
   pub place-serial : Serial (whole_at p)
   place-serial = serial (whole_at p) ever place-serial-facts
+
+  pub place-above : (c : ℕ) → Every (λ (a : ActSpec). c ≤ a.clock) p.plan.acts → (a : deeds.Try) → Has a (run_at p).tries → c ≤ a.stamp.clock
+  place-above =
+      run-above p.script (base_of p.script p.plan p.trace) p.plan (logs_at p.logs (world_at p)) (replaced (alike p.script) p.past.0) (sent_earlier (alike p.script) p.past.0) (sent_by (world_at p)) (TickedBefore p) refl refl p.whole
+      p.legal.scripted brokers-opened place-facts
 
   pub place-puts : KeepsPuts (run_at p)
   place-puts =
@@ -119,8 +133,8 @@ module _ (p : Position) where
 
   pub place-causes : Causes (run_at p) (olds_at p) (happened_before p)
   place-causes =
-      run-causes p.script (base_of p.script p.plan p.trace) p.plan (logs_at p.logs (world_at p)) (replaced (alike p.script) p.past.0) (sent_earlier (alike p.script) p.past.0) (sent_by (world_at p)) (TickedBefore p) refl refl p.whole
-      p.legal.scripted brokers-opened place-facts (AnsweredBefore p) (RefusedBefore p) tells
+      run-causes p.script (base_of p.script p.plan p.trace) p.plan.repositories (run_at p).tries (logs_at p.logs (world_at p)) (replaced (alike p.script) p.past.0) (sent_earlier (alike p.script) p.past.0) (sent_by (world_at p)) (TickedBefore p)
+      place-facts booked (AnsweredBefore p) (RefusedBefore p) tells
 
   -- ---- logs of repositories
 

@@ -1,12 +1,14 @@
 -- A run by its plan and its trace, over logs that earlier runs left, and retirements.
-use Rattle.std.specs.Prelude.{◌≡◌, List, map, reverse}
+use Rattle.std.specs.Prelude.{◌≡◌, ◌≤◌, ℕ, List, map, reverse}
+use Rattle.pseudo_time.specs.Lists.{Every, Has}
 use Rattle.pseudo_time.specs.declared.nodes.NodeId.{NodeId}
+use Rattle.value_form.specs.declared.acts.ActSpec.{ActSpec}
 use Rattle.value_form.specs.declared.objects.ObjectId.{ObjectId}
 use Rattle.value_form.specs.Objects.{value_at}
 use Rattle.effect_form.specs.declared.effects.Effect.{Effect}
 use Rattle.plan_form.specs.declared.plans.Plan.{Plan}
 use Rattle.world_core.specs.declared.traces.Trace.{Trace}
-use Rattle.world_core.specs.Deeds.{RunLogs, finals}
+use Rattle.world_core.specs.Deeds.{RunLogs, Try, finals}
 use Rattle.world_core.specs.Pasts.{OpenedWith, own_reading}
 use Rattle.world_core.specs.Readings.{gated_log}
 use Rattle.world_facts.specs.Earlier.{Earlier, WereLeftOrRetired, replaced}
@@ -36,3 +38,8 @@ IsSerialOver plan t = (logs : NodeId → List Effect) (left : WereLeftOrRetired 
 abbrev pub HoldsFinals : Plan → Trace → Type 0
 HoldsFinals plan t = (logs : NodeId → List Effect) (left : WereLeftOrRetired logs) → OpenedWith t.opened logs → (o : ObjectId) →
     value_at (last_values (run_in plan t)) o ≡ value_at (finals (whole_in left.0 plan t)) o
+
+-- The stamp of each attempt has at least a clock that all acts of the plan have. So if that is above the clocks of all that stood in the logs, the attempt lies after it in the serial order,
+-- and reads what finished runs committed.
+abbrev pub AreLate : Plan → Trace → Type 0
+AreLate plan t = (logs : NodeId → List Effect) (left : WereLeftOrRetired logs) → OpenedWith t.opened logs → (c : ℕ) → Every (λ (a : ActSpec). c ≤ a.clock) plan.acts → (try : Try) → Has try (run_in plan t).tries → c ≤ try.stamp.clock

@@ -1,6 +1,6 @@
 // A place of a trace is the entries before it, so each law holds at the trace's end and after each entry.
-ghost use Rattle.pseudo_time.specs.Lists.{Every};
-ghost use Rattle.std.specs.Prelude.{◌≡◌, ℕ, List, ◌∷◌, ◌++◌};
+ghost use Rattle.pseudo_time.specs.Lists.{Every, Has};
+ghost use Rattle.std.specs.Prelude.{◌≡◌, ◌≤◌, ℕ, List, ◌∷◌, ◌++◌};
 ghost use Rattle.pseudo_time.specs.StampParts.{StampParts};
 ghost use Rattle.effect_form.specs.declared.effects.Effect.{Effect};
 ghost use Rattle.effect_form.specs.declared.effects.Effect.TheVariants as effect;
@@ -14,9 +14,10 @@ ghost use Rattle.broker_laws.specs.Posts.{IsWithinLimits};
 ghost use Rattle.world_facts.specs.AnyRules.{log_before};
 ghost use Rattle.serial_law.specs.Added.{AnyPlace, any_log, EndCause};
 ghost use Rattle.serial_law.specs.Causes.{Causes, IsSpent};
+ghost use Rattle.value_form.specs.declared.acts.ActSpec.{ActSpec};
 ghost use Rattle.value_form.specs.declared.objects.ObjectId.{ObjectId};
 ghost use Rattle.value_form.specs.Objects.{value_at};
-ghost use Rattle.world_core.specs.Deeds.{RunLogs, before, finals};
+ghost use Rattle.world_core.specs.Deeds.{RunLogs, Try, before, finals};
 ghost use Rattle.trace_report.specs.Finals.{last_values};
 ghost use Rattle.serial_law.specs.Facts.{RunFacts};
 ghost use Rattle.serial_law.specs.Runs.{Position, happened_before, log_at, olds_at, run_at, whole_at};
@@ -50,6 +51,13 @@ pub fn law_before()
     ensures places { (p : Position) (s : StampParts) → HoldsBefore (whole_at p) s (before (whole_at p) s) }
     ensures facts { (k : RunLogs) (ever : List Post) → RunFacts k ever → (s : StampParts) →
         HoldsBefore k s (before k s) }
+{}
+
+/// The clock of each attempt of a run is at least one that all acts of its plan have. So where that is above
+/// the clocks of a past, the map before an attempt has all that the past committed.
+pub fn law_clocks()
+    ensures { (p : Position) (c : ℕ) → Every (λ (a : ActSpec). c ≤ a.clock) p.plan.acts →
+        (try : Try) → Has try (run_at p).tries → c ≤ try.stamp.clock }
 {}
 
 /// Each End of an attempt of the run has its cause in the logs, or in older ones that were retired: a

@@ -5,11 +5,11 @@ ghost use Rattle.plan_form.specs.declared.plans.Plan.{Plan};
 ghost use Rattle.plan_form.specs.PlanTexts.{IsOfLanguage};
 ghost use Rattle.world_core.specs.declared.traces.Trace.{Trace};
 ghost use Rattle.world_core.specs.Readings.{IsLegal};
-ghost use Rattle.serial_law.specs.Serials.{HoldsFinals, IsSerialOver};
+ghost use Rattle.serial_law.specs.Serials.{AreLate, HoldsFinals, IsSerialOver};
 ghost use Rattle.serial_law.specs.Reasons.{AddedHaveReasons, HaveReasons};
 ghost use Rattle.serial_law.specs.Acknowledged.{KeepsAnswers, SpendsRightly};
 
-use crate::{law_causes, law_facts, law_finals, law_serial};
+use crate::{law_causes, law_clocks, law_facts, law_finals, law_serial};
 
 /// Every attempt of a run reads, writes and ends as its script does alone, after the committed deeds before
 /// its stamp (Bernstein et al. 1987, chapter 5): of each legal trace of a plan of the language, whatever
@@ -59,6 +59,14 @@ pub fn law_of_spent_acts()
         SpendsRightly plan t }
 {
     law_causes();
+}
+
+/// No attempt of a run has a clock below that which all acts of its plan have. So a plan whose clocks are
+/// above all that stand in the logs reads what finished runs committed.
+pub fn law_of_late_attempts()
+    ensures { (plan : Plan) (asked : List Asked) (t : Trace) → IsOfLanguage plan → IsLegal plan asked t → AreLate plan t }
+{
+    law_clocks();
 }
 
 /// Over whatever logs, also over those that no run left, each End that the run added has its cause.

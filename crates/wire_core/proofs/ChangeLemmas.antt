@@ -1,6 +1,7 @@
 -- What happens to a node, and time that passes.
 use Rattle.wire_core.proofs.Names.{DownCause, NodeId, is_broker, Asked, Adds, Arrival, IsFront, State, waiting, taken, passed, was_shut, FlightParts, state_of, Take, Go, Learn, Hear, Crash, Down, Tick, Sent, Base, World, numbered, opened_log, step, start_world, walk, is_behind, fates_of, Story, IsQuiet, next_moment, posted, IsTied, IsFlown, IsSound, parts_with, HasOneMore, Origin, base_from, ◌≡◌, ℕ, ◌≤◌, Bool, true, false, List, [], ◌∷◌, length, refl, sym, ap, subst, ◌∙◌, Option, Some, IsTrue, arith, unwrap_or, HasGone, MayTake, MayTick, IsDecidedAs}
 use Rattle.pseudo_time.specs.StampParts.{StampParts}
+use Rattle.wire_core.specs.Learns.{IsNewTo}
 use Rattle.wire_core.proofs.CopyLemmas.{tied-take, tied-tick, tied-down}
 use Rattle.wire_core.proofs.DueLemmas.{due-front, fate-of, front-cons, numbered-to}
 use Rattle.wire_core.proofs.FitLemmas.{up-known}
@@ -20,32 +21,32 @@ module _ (told : Bool) (o : Origin) (s s' : Story) (sent : List Sent) (asked : L
   pub go-more : (n : NodeId) → HasOneMore s s' (Go n) → (w.flags n).up ≡ true → is_broker n.kind ≡ true → (w.flags n).gone ≡ false
       → IsSound told (parts_with o s' sent asked answers flight false) s'.nodes.entries s'.ticks s'.last
   go-more n more up broker fresh = sound-left told o s s' (Go n) sent asked answers flight broken h more whole (record { sends = λ v. refl; last = λ l. refl; moments = refl }) (record { taken = λ l. refl; ticks = λ k. refl; up = refl })
-      (λ t. record { up = up; broker = broker; fresh = fresh })
+      (λ t. record { up = up; broker = broker; fresh = fresh }) (λ t. tt)
 
   -- a node hears
   pub hear-more : (n : NodeId) → HasOneMore s s' (Hear n) → (w.flags n).up ≡ true → is_behind w n ≡ true
       → IsSound told (parts_with o s' sent asked answers flight false) s'.nodes.entries s'.ticks s'.last
   hear-more n more up behind = sound-left told o s s' (Hear n) sent asked answers flight broken h more whole (record { sends = λ v. refl; last = λ l. refl; moments = refl }) (record { taken = λ l. refl; ticks = λ k. refl; up = refl })
-      (λ t. record { up = up; some = (behind-parts w n behind).0; behind = (behind-parts w n behind).1 })
+      (λ t. record { up = up; some = (behind-parts w n behind).0; behind = (behind-parts w n behind).1 }) (λ t. tt)
 
   -- a repository learns
-  pub learn-more : (n : NodeId) (stamp : StampParts) (committed : Bool) → HasOneMore s s' (Learn n stamp committed) → (w.flags n).up ≡ true → is_broker n.kind ≡ false → (IsTrue told → IsDecidedAs w stamp committed)
+  pub learn-more : (n : NodeId) (stamp : StampParts) (committed : Bool) → HasOneMore s s' (Learn n stamp committed) → (w.flags n).up ≡ true → is_broker n.kind ≡ false → (IsTrue told → IsDecidedAs w stamp committed) → (IsTrue told → IsNewTo (w.life n) stamp)
       → IsSound told (parts_with o s' sent asked answers flight false) s'.nodes.entries s'.ticks s'.last
-  learn-more n stamp committed more up repository stands = sound-left told o s s' (Learn n stamp committed) sent asked answers flight broken h more whole (record { sends = λ v. refl; last = λ l. refl; moments = refl }) (record { taken = λ l. refl; ticks = λ k. refl; up = refl })
-      (λ t. record { up = up; repository = repository; stands = stands t })
+  learn-more n stamp committed more up repository stands new = sound-left told o s s' (Learn n stamp committed) sent asked answers flight broken h more whole (record { sends = λ v. refl; last = λ l. refl; moments = refl }) (record { taken = λ l. refl; ticks = λ k. refl; up = refl })
+      (λ t. record { up = up; repository = repository; stands = stands t }) new
 
   -- a node stops and is opened again
   pub crash-more : (n : NodeId) (kept : ℕ) → HasOneMore s s' (Crash n kept) → (w.flags n).up ≡ true → (IsTrue told → kept ≤ length (w.life n).fresh)
       → IsSound told (parts_with o s' sent asked answers flight false) s'.nodes.entries s'.ticks s'.last
   crash-more n kept more up most = sound-left told o s s' (Crash n kept) sent asked answers flight broken h more whole (record { sends = λ v. refl; last = λ l. refl; moments = refl }) (record { taken = λ l. refl; ticks = λ k. refl; up = refl })
-      (λ t. record { up = up; most = most t })
+      (λ t. record { up = up; most = most t }) (λ t. tt)
 
   -- a node stops for good
   pub down-more : (n : NodeId) (cause : DownCause) (after : FlightParts) → HasOneMore s s' (Down n cause) → (w.flags n).up ≡ true → (w.moved ≡ false → unwrap_or (opened_log o.opened n) [] ≡ []) → state_of after ≡ was_shut (state_of flight) n
       → IsSound told (parts_with o s' sent asked answers after false) s'.nodes.entries s'.ticks s'.last
   down-more n cause after more up none flew = sound-still told o s s' (Down n cause) sent asked answers flight broken h more after whole (record { sends = λ v. refl; last = λ l. refl; moments = refl })
       (λ t. record { up = up; none = none })
-      (λ marks tied. subst (λ (x : State). IsTied x (step b w (Down n cause)) sent marks) (sym flew) (tied-down b w sent marks (state_of flight) n cause (λ m. up-known w s.nodes.entries s.ticks s.last h.fits m) tied))
+      (λ marks tied. subst (λ (x : State). IsTied x (step b w (Down n cause)) sent marks) (sym flew) (tied-down b w sent marks (state_of flight) n cause (λ m. up-known w s.nodes.entries s.ticks s.last h.fits m) tied)) (λ t. tt)
 
   -- a copy is taken
   take-rule : IsTrue told → (n : NodeId) (number : ℕ) (rest : List ℕ) → (w.flags n).up ≡ true → HasGone w n → is_behind w n ≡ false → waiting (state_of flight) n ≡ number ∷ rest → MayTake (fates_of sent) w n number
@@ -72,7 +73,7 @@ module _ (told : Bool) (o : Origin) (s s' : Story) (sent : List Sent) (asked : L
       let cut = front-cons (waiting (state_of flight) n) number (front.front ∙ ap Some (sym is)) in
       sound-still told o s s' (Take n number) sent asked answers flight broken h more after whole (record { sends = λ v. refl; last = λ l. refl; moments = refl })
       (λ t. take-rule t n number cut.0 up gone behind cut.1)
-      (λ marks tied. subst (λ (x : State). IsTied x (step b w (Take n number)) sent marks) (sym flew) (tied-take b w sent marks (state_of flight) n number cut.0 cut.1 tied))
+      (λ marks tied. subst (λ (x : State). IsTied x (step b w (Take n number)) sent marks) (sym flew) (tied-take b w sent marks (state_of flight) n number cut.0 cut.1 tied)) (λ t. tt)
 
   -- time passes
   last-is : unwrap_or w.last o.start ≡ unwrap_or s.last o.start
@@ -107,3 +108,4 @@ module _ (told : Bool) (o : Origin) (s s' : Story) (sent : List Sent) (asked : L
       (clocked-tick o.answers answers now o.start (unwrap_or s.last o.start) s.entries.items a m (sym last-is ∙ last-from b (start_world b) s.entries.items o.start) is adds (h.clocked whole))
       (subst (λ (x : State). IsTied x (step b w (Tick m)) sent f.marks) (sym flew) (tied-tick b w sent f.marks (state_of flight) m f.tied))
       f.walked
+      (λ t. tt)

@@ -71,7 +71,8 @@ module _ (told : Bool) (o : Origin) (s s' : Story) (sent : List Sent) (asked : L
       (later_is ∙ ap (λ l. l ++ map asked_of news) (h.asked whole_yet) ∙ append_assoc o.asked (map asked_of sent) (map asked_of news) ∙ ap (λ l. o.asked ++ l) (sym (map-append asked_of sent news)))
       (clocked-still o.answers answers o.start s.entries.items (Gate node) refl (h.clocked whole_yet))
       (tied-left b w (sent ++ news) (f.marks ++ all_marked w.ticks news) (state_of after) (Gate node) (record { taken = λ l. refl; ticks = λ k. refl; up = refl }) (tie w sent f.marks f.tied))
-      (λ t. gate-walked w sent news node (left t) f.marks (f.walked t)))
+      (λ t. gate-walked w sent news node (left t) f.marks (f.walked t))
+      (λ t. tt))
 
 news-length : (n : NodeId) (outs : List Out) (news : List Sent) → map post_of news ≡ posts n outs → length news ≡ length outs
 news-length n outs news h = sym (length-map news post_of) ∙ ap length h ∙ length-map outs (post n)

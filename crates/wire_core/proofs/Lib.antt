@@ -4,6 +4,7 @@ pub mod Crosses
 pub mod DueLemmas
 pub mod FitLemmas
 pub mod GateLemmas
+pub mod LearnLemmas
 pub mod MomentLemmas
 pub mod NewLemmas
 pub mod NodeMaps

@@ -1,6 +1,7 @@
 -- A new wire is sound.
 use Rattle.wire_core.proofs.Names.{Every, NodeId, same_node, Asked, Adds, State, start, FlightParts, state_of, Entry, Sent, Base, World, Sending, opened_log, start_world, walk_from, walk, Meets, NodeFlags, Story, tick_moments, IsTied, new_flags, shown, names_of, IsSound, parts_with, Fits, IsOpened, Origin, base_from, ◌≡◌, ℕ, ◌<◌, ◌^◌, Bool, true, false, ◌||◌, ◌&&◌, ◌==◌, List, [], ◌∷◌, map, length, if◌then◌else◌, refl, sym, ap, subst, ◌∙◌, Option, Some, None, is_some, arith, unwrap_or, list_any, append-nil, blank_tally, made, tallied_start, opened_flags, counted}
 use Rattle.world_core.specs.declared.traces.Opened.{Opened}
+use Rattle.wire_core.proofs.LearnLemmas.{none-learned}
 
 -- ---- which nodes were opened
 
@@ -69,6 +70,7 @@ new-sound told o s sent asked answers flight a none asked_is adds start_is is fl
       moments = subst (Every (λ moment. moment < 2 ^ 63)) (sym (ap tick_moments is.entries)) tt;
       sent = λ t. ap (λ (v : World). map (λ (x : Sending). x.post) v.sendings) (sym there);
       meets = λ t. subst (Meets (base_from o) [] (start_world (base_from o))) (sym is.entries) (none-met (base_from o));
+      learns = λ t. none-learned (base_from o) s.entries.items is.entries;
       asked = λ _. asked_is ∙ sym (append-nil o.asked);
       clocked = λ _. record { first = a; rest = []; added = adds; start_is = start_is; moments = ap tick_moments is.entries };
       flown = λ _. record {

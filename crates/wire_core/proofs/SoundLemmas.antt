@@ -5,7 +5,9 @@ use Rattle.broker_core.specs.Tasks.{Scripted}
 use Rattle.world_core.proofs.Lives.{walk-more}
 use Rattle.wire_core.proofs.CopyLemmas.{LeavesCopies, tied-left}
 use Rattle.wire_core.proofs.FitLemmas.{fits-on}
+use Rattle.wire_core.proofs.LearnLemmas.{learns-more}
 use Rattle.wire_core.proofs.MomentLemmas.{moments-append, clocked-still}
+use Rattle.wire_core.specs.Learns.{LearnsAreNew, IsNewIn}
 
 -- an entry that sends nothing, and at which no time passes
 pub record IsStill (e : Entry) : Type 0 where
@@ -35,9 +37,9 @@ module _ (told : Bool) (o : Origin) (s s' : Story) (e : Entry) (sent : List Sent
       → (IsTrue told → Meets b (fates_of all) (start_world b) es)
       → (IsTrue told → Rule b (fates_of all) w e)
       → later ≡ o.asked ++ map asked_of all → IsClocked o.answers now o.start (es ++ e ∷ [])
-      → IsTied (state_of after) (step b w e) all marks → (IsTrue told → sendings_after w e ≡ map posted marks)
+      → IsTied (state_of after) (step b w e) all marks → (IsTrue told → sendings_after w e ≡ map posted marks) → (IsTrue told → IsNewIn w e)
       → IsSound told (parts_with o s' all later now after false) s'.nodes.entries s'.ticks s'.last
-  sound-step all later now after marks moment moments numbers count ranges posts meets rule asks clocked tied walked = record {
+  sound-step all later now after marks moment moments numbers count ranges posts meets rule asks clocked tied walked new = record {
     fits = subst (λ (v : World). Fits v s'.nodes.entries s'.ticks s'.last) (sym step-is) (fits-on b w e s s' more h.fits);
     numbers = numbers;
     in_range = ranges;
@@ -50,6 +52,7 @@ module _ (told : Bool) (o : Origin) (s s' : Story) (e : Entry) (sent : List Sent
     moments = subst (Every (λ moment. moment < 2 ^ 63)) (sym (moments-append es (e ∷ [])) ∙ sym (ap tick_moments more.entries)) (every-append (λ moment. moment < 2 ^ 63) (tick_moments es) (tick_moments (e ∷ [])) h.moments moments);
     sent = λ t. posts t ∙ ap sent_by (sym step-is);
     meets = λ t. subst (Meets b (fates_of all) (start_world b)) (sym more.entries) (meets-more b (fates_of all) (start_world b) es e (meets t) (rule t));
+    learns = λ t. subst (LearnsAreNew b) (sym more.entries) (learns-more b es e (h.learns t) (new t));
     asked = λ _. asks;
     clocked = λ _. subst (IsClocked o.answers now o.start) (sym more.entries) clocked;
     flown = λ _. record {
@@ -64,9 +67,9 @@ module _ (told : Bool) (o : Origin) (s s' : Story) (e : Entry) (sent : List Sent
 
   -- an entry that sends nothing, and at which no time passes
   pub sound-still : (after : FlightParts) → broken ≡ false → IsStill e → (IsTrue told → Rule b (fates_of sent) w e)
-      → ((marks : List Marked) → IsTied (state_of flight) w sent marks → IsTied (state_of after) (step b w e) sent marks)
+      → ((marks : List Marked) → IsTied (state_of flight) w sent marks → IsTied (state_of after) (step b w e) sent marks) → (IsTrue told → IsNewIn w e)
       → IsSound told (parts_with o s' sent asked answers after false) s'.nodes.entries s'.ticks s'.last
-  sound-still after whole still rule tied =
+  sound-still after whole still rule tied new =
       let f : IsFlown told (parts_with o s sent asked answers flight broken) = h.flown whole in
       sound-step sent asked answers after f.marks (still-moment still) (subst (Every (λ moment. moment < 2 ^ 63)) (sym still.moments) tt) h.numbers h.count h.in_range
       (λ t. h.sent t ∙ ap (map (λ (x : Sending). x.post)) (sym (still.sends w)))
@@ -76,11 +79,12 @@ module _ (told : Bool) (o : Origin) (s s' : Story) (e : Entry) (sent : List Sent
       (clocked-still o.answers answers o.start es e still.moments (h.clocked whole))
       (tied f.marks f.tied)
       (λ t. still.sends w ∙ f.walked t)
+      new
 
   -- and that leaves the flight
-  pub sound-left : broken ≡ false → IsStill e → LeavesCopies e → (IsTrue told → Rule b (fates_of sent) w e)
+  pub sound-left : broken ≡ false → IsStill e → LeavesCopies e → (IsTrue told → Rule b (fates_of sent) w e) → (IsTrue told → IsNewIn w e)
       → IsSound told (parts_with o s' sent asked answers flight false) s'.nodes.entries s'.ticks s'.last
-  sound-left whole still leaves rule = sound-still flight whole still rule (λ marks tied. tied-left b w sent marks (state_of flight) e leaves tied)
+  sound-left whole still leaves rule new = sound-still flight whole still rule (λ marks tied. tied-left b w sent marks (state_of flight) e leaves tied) new
 
 -- ---- the trace so far is legal
 
@@ -103,3 +107,7 @@ is-legal plan w is meets posts numbers = record {
 pub sound-legal : (told : Bool) (w : WireParts) (nodes : List (NodeId × NodeFlags)) (ticks : ℕ) (last : Option ℕ) → IsSound told w nodes ticks last → IsTrue told → (plan : Plan) → IsRunOf plan w.origin
     → IsLegal plan (w.origin.asked ++ map asked_of w.sent) (trace_of w)
 sound-legal told w nodes ticks last h t plan is = is-legal plan w is (h.meets t) (h.sent t) h.numbers
+
+-- each of its Learns is new
+pub sound-learns : (told : Bool) (w : WireParts) (nodes : List (NodeId × NodeFlags)) (ticks : ℕ) (last : Option ℕ) → IsSound told w nodes ticks last → IsTrue told → LearnsAreNew (base_from w.origin) w.entries
+sound-learns told w nodes ticks last h t = h.learns t

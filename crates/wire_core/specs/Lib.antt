@@ -3,6 +3,7 @@ pub mod Changes
 pub mod Clocked
 pub mod Copies
 pub mod Flagged
+pub mod Learns
 pub mod Sound
 pub mod Stories
 pub mod Wires

@@ -15,6 +15,7 @@ use Rattle.wire_core.specs.declared.flags.NodeFlags.{NodeFlags}
 use Rattle.wire_core.specs.declared.stories.Story.{Story}
 use Rattle.wire_core.specs.Wires.{WireParts, Origin, base_from, world_of}
 use Rattle.wire_core.specs.Clocked.{IsClocked, tick_moments}
+use Rattle.wire_core.specs.Learns.{LearnsAreNew}
 use Rattle.wire_core.specs.Copies.{Marked, posted, IsTied}
 use Rattle.wire_core.specs.Stories.{Fits}
 
@@ -39,6 +40,7 @@ pub record IsSound (told : Bool) (w : WireParts) (nodes : List (NodeId × NodeFl
   -- where media tell their content, the trace is legal
   pub sent : IsTrue told → map post_of w.sent ≡ sent_by (world_of w)
   pub meets : IsTrue told → Meets (base_from w.origin) (fates_of w.sent) (start_world (base_from w.origin)) w.entries
+  pub learns : IsTrue told → LearnsAreNew (base_from w.origin) w.entries
   -- until memory ran out
   pub asked : w.broken ≡ false → w.asked ≡ w.origin.asked ++ map asked_of w.sent
   pub clocked : w.broken ≡ false → IsClocked w.origin.answers w.answers w.origin.start w.entries

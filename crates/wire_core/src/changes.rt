@@ -6,6 +6,7 @@ ghost use Rattle.message_form.specs.Ranges.{AreOuts};
 ghost use Rattle.world_core.specs.declared.entries.Entry.TheVariants as entry;
 ghost use Rattle.world_core.specs.Walks.{opened_log, sent_by};
 ghost use Rattle.world_core.specs.Legal.{HasGone, IsDecidedAs, Idle, is_behind, post_of, fates_of};
+ghost use Rattle.wire_core.specs.Learns.{IsNewTo};
 ghost use Rattle.wire_core.specs.Wires.{world_of};
 ghost use Rattle.wire_core.specs.Changes.{HasMore, HasGated, IsBroken, Takes, IfArrived, IfNothing, IsCopyOf, TookAll, owed, Ticks, JustWhere};
 
@@ -86,11 +87,12 @@ impl<F: Fates, C: Clock, M: Medium> Wire<F, C, M> {
         Ok(moment)
     }
 
-    /// The repository learns how an attempt was decided.
+    /// The repository learns how an attempt was decided, of which its log doesn't know.
     pub fn learn(&mut self, node: NodeId, stamp: Stamp, committed: bool) -> Result<(), AllocError>
         requires up { ((world_of self.old).flags node).up ≡ true }
         requires repository { is_broker node.kind ≡ false }
         requires stands { IsTrue M.tells → IsDecidedAs (world_of self.old) stamp committed }
+        requires new { IsTrue M.tells → IsNewTo ((world_of self.old).life node) stamp }
         ensures ok { OnOk result (HasMore self.old self.new (entry.Learn node stamp committed)) }
         ensures err { OnErr result (IsBroken self.old self.new) }
     {

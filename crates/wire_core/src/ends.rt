@@ -5,7 +5,8 @@ ghost use Rattle.plan_form.specs.declared.plans.Plan.{Plan};
 ghost use Rattle.world_core.specs.Walks.{sent_by};
 ghost use Rattle.world_core.specs.Legal.{Idle, is_behind, Numbered, post_of, fates_of, asked_of};
 ghost use Rattle.world_core.specs.Readings.{IsLegal};
-ghost use Rattle.wire_core.specs.Wires.{world_of, IsRunOf, trace_of};
+ghost use Rattle.wire_core.specs.Learns.{LearnsAreNew};
+ghost use Rattle.wire_core.specs.Wires.{base_from, world_of, IsRunOf, trace_of};
 ghost use Rattle.wire_core.specs.Changes.{IsQuiet};
 ghost use Rattle.wire_core.specs.Clocked.{IsClocked, tick_moments};
 ghost use Rattle.wire_core.specs.Sound.{IsFlown};
@@ -64,6 +65,7 @@ impl<F: Fates, C: Clock, M: Medium> Wire<F, C, M> {
         ensures trace { result.0 ≡ trace_of self }
         ensures legal { IsTrue M.tells → (plan : Plan) → IsRunOf plan self.origin →
             IsLegal plan (self.origin.asked ++ map asked_of self.sent) result.0 }
+        ensures learns { IsTrue M.tells → LearnsAreNew (base_from self.origin) self.entries }
         ensures sent { IsTrue M.tells → map post_of self.sent ≡ sent_by (world_of self) }
         ensures numbers { Numbered 1 self.sent }
         ensures moments { Every (λ moment. moment < 2 ^ 63) (tick_moments self.entries) }

@@ -138,6 +138,13 @@ impl<F: Fates, C: Clock, M: Medium> Wire<F, C, M> {
         self.sent.len() as u32
     }
 
+    /// How many entries there are.
+    pub fn entry_count(&self) -> u32
+        ensures { result ≡ length self.now.entries }
+    {
+        self.story.entries.len() as u32
+    }
+
     /// Whether a change found no memory.
     pub fn is_broken(&self) -> bool
         ensures { result ≡ self.now.broken }

@@ -9,6 +9,7 @@ use Rattle.world_core.specs.Legal.{Numbered, post_of, asked_of}
 use Rattle.world_core.specs.Readings.{IsLegal}
 use Rattle.wire_core.specs.Wires.{Origin, IsRunOf, WireParts, base_from}
 use Rattle.wire_core.specs.Clocked.{IsClocked, tick_moments}
+use Rattle.wire_core.specs.Learns.{LearnsAreNew}
 use Rattle.atomic_table.specs.declared.shared.Seat.{Seat}
 use Rattle.seat_lock.specs.declared.views.View.{View}
 use Rattle.seat_lock.specs.Rule.{IsOneOf}
@@ -36,6 +37,7 @@ pub record IsWhole (told : Bool) (o : Origin) (t : Trace) (asked : List Asked) (
   -- where media tell their content
   pub sent : IsTrue told → map post_of t.sent ≡ sent_by (end_of o t)
   pub legal : IsTrue told → (plan : Plan) → IsRunOf plan o → IsLegal plan asked t
+  pub learns : IsTrue told → LearnsAreNew (base_from o) t.entries
 
 -- The trace of a wire with this origin that is reported to no one, since memory ran out. Where media tell their content it is legal, with the fates that were asked for its
 -- messages.

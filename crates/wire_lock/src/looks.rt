@@ -18,6 +18,8 @@ use world_core::Entry;
 pub struct Seen {
     /// How many messages were sent.
     pub sent: u32,
+    /// How many entries there are.
+    pub entries: u32,
     /// No node that is up has anything to do.
     pub idle: bool,
 }
@@ -58,7 +60,7 @@ impl<F: Fates, C: Clock, M: Medium> SharedWire<F, C, M> {
         (visit.leave(), Ok(Some(moment)), left)
     }
 
-    /// How many messages the wire has sent, and whether it is idle: over media that tell their
+    /// How many messages the wire has sent, how many entries it has, and whether it is idle: over media that tell their
     /// content, just where no node that is up has anything to do. After memory ran out in an earlier
     /// visit it isn't idle.
     pub fn look<R: Wait>(
@@ -70,6 +72,7 @@ impl<F: Fates, C: Clock, M: Medium> SharedWire<F, C, M> {
         ensures pass { IsWirePass self.now.lock result.0 }
         ensures looked { Looked (knows pass) (knows result.0) }
         ensures sent { IsTrue M.tells → result.1.sent ≡ length (sent_by (world_at (knows result.0))) }
+        ensures entries { result.1.entries ≡ length (knows result.0).story }
         ensures rest { IsTrue result.1.idle → HasNothingOpen (world_at (knows result.0)) }
         ensures left { IsLeft result.2.value (knows result.0) }
         ensures idle { IsTrue M.tells → (IsTrue result.1.idle ↔
@@ -79,6 +82,7 @@ impl<F: Fates, C: Clock, M: Medium> SharedWire<F, C, M> {
         let wire = visit.value();
         let seen = Seen {
             sent: wire.sent(),
+            entries: wire.entry_count(),
             idle: wire.idle(),
         };
         let left = Snapshot::of(wire);

@@ -6,6 +6,7 @@ ghost use Rattle.seat_lock.specs.Words.{knows};
 ghost use Rattle.world_core.specs.Walks.{sent_by};
 ghost use Rattle.world_core.specs.Legal.{HasGone, IsDecidedAs, is_behind};
 ghost use Rattle.wire_core.specs.Changes.{IfArrived, IfNothing, IsCopyOf};
+ghost use Rattle.wire_core.specs.Learns.{IsNewTo};
 ghost use Rattle.wire_lock.specs.Sights.{IsWirePass, IsOf, HadNothing, world_at, life_at, flags_at};
 ghost use Rattle.wire_lock.specs.Sights.{Looked, TakesOne, Goes, Hears, Learns, Crashes, Falls, IsLeft, HasNoneDue};
 
@@ -116,7 +117,7 @@ impl<F: Fates, C: Clock, M: Medium> SharedWire<F, C, M> {
         }
     }
 
-    /// The repository learns how an attempt was decided.
+    /// The repository learns how an attempt was decided, of which its log doesn't know.
     pub fn learn<R: Wait>(
         &self,
         rt: &R,
@@ -130,6 +131,7 @@ impl<F: Fates, C: Clock, M: Medium> SharedWire<F, C, M> {
         requires up { (flags_at (knows pass) node).up ≡ true }
         requires repository { is_broker node.kind ≡ false }
         requires stands { IsTrue M.tells → IsDecidedAs (world_at (knows pass)) stamp committed }
+        requires new { IsTrue M.tells → IsNewTo (life_at (knows pass) node) stamp }
         ensures pass { IsWirePass self.now.lock result.0 }
         ensures ok { OnOk result.1 (Learns M.tells node (knows pass) (knows result.0) stamp committed) }
         ensures err { OnErr result.1 (Looked (knows pass) (knows result.0)) }

@@ -1,11 +1,11 @@
 use denote.Exit.{no}
 use denote.Param.{param}
 use denote.Param.Send.{param_send, param_sync, arg_send, arg_sync}
-use Rattle.node_rounds.proofs.Names.{sym, subst, knows, SomeNode, Follows, HasTicked, IsLate}
+use Rattle.node_rounds.proofs.Names.{sym, subst, knows, SomeNode, Follows, SawMore, HasTicked, IsLate}
 use Rattle.node_rounds.specs.declared.reasons.Next.TheVariants as next
 use Rattle.broker_node.proofs.Crosses.{shared_sync}
 use Rattle.node_rounds.proofs.Crosses.{run_send}
-use Rattle.node_rounds.proofs.TickLemmas.{follows-looked, follows-met, follows-begins, follows-none}
+use Rattle.node_rounds.proofs.TickLemmas.{follows-looked, follows-met, follows-begins, follows-none, more-met}
 use Rattle.node_rounds.proofs.WantedLemmas.{round-wanted, still-wanted}
 use Rattle.node_rounds.proofs.WentLemmas.{all-more, passes-after, same-names, went-round, went-met, kept-round, kept-again}
 use Rattle.node_rounds.proofs.conductors.go_round.Goals as goal
@@ -47,6 +47,17 @@ returns-in-Ticked-clause-next g c =
     (follows-met tells limits first asked (knows c.meet_all-in-Ticked.new.pass) nodes c.meet_all-in-Ticked.new.shares.items c.meet_all-in-Ticked.ensures.met c.meet_all-in-Ticked.ensures.looked
     (follows-looked tells limits first met asked next.Ticked nodes c.meet_all.ensures.looked ticked))
 
+pub returns-in-Ticked-clause-more : goal.returns-in-Ticked-clause-more
+returns-in-Ticked-clause-more g c =
+    let tells = g.M.Medium.tells in
+    let limits = c.args.limits in
+    let nodes = c.meet_all.new.shares.items in
+    let asked = knows c.asked-pass.result.0 in
+    let said = subst (λ ns. SawMore tells limits c.args.before c.asked-pass.result.2 c.asked-pass.result.1 ns asked) c.as_slice.ensures.value c.asked-pass.ensures.more in
+    let ticked = subst (λ what. SawMore tells limits c.args.before c.asked-pass.result.2 what nodes asked) c.in-Ticked.is said in
+    subst (λ what. SawMore tells limits c.args.before c.asked-pass.result.2 what c.meet_all-in-Ticked.new.shares.items (knows c.meet_all-in-Ticked.new.pass)) (sym c.in-Ticked.is)
+    (more-met tells limits c.args.before c.asked-pass.result.2 nodes c.meet_all-in-Ticked.new.shares.items asked (knows c.meet_all-in-Ticked.new.pass) c.meet_all-in-Ticked.ensures.looked ticked)
+
 pub returns-in-Ticked-clause-wanted : goal.returns-in-Ticked-clause-wanted
 returns-in-Ticked-clause-wanted g c = λ told wanted.
     let tells = g.M.Medium.tells in
@@ -79,6 +90,7 @@ returns g c =
       kept = kept-round c.args.wire.now.lock g.M.Medium c.args.shares.items c.round.new.shares.items nodes c.round.ensures.does c.meet_all.ensures.met;
       all = all-more met.story asked.story nodes (follows-begins tells limits met asked c.asked-pass.result.1 nodes said) c.meet_all.ensures.all;
       next = follows-looked tells limits (knows c.args.pass) met asked c.asked-pass.result.1 nodes c.meet_all.ensures.looked said;
+      more = subst (λ ns. SawMore tells limits c.args.before c.asked-pass.result.2 c.asked-pass.result.1 ns asked) c.as_slice.ensures.value c.asked-pass.ensures.more;
       wanted = λ told wanted.
           still-wanted c.args.wire.now.lock (knows c.args.pass) asked c.args.shares.items nodes c.requires.conductor c.requires.pass.own c.asked-pass.ensures.pass.own
           (follows-none tells limits (knows c.args.pass) asked c.asked-pass.result.1 nodes c.in_default.not-Ticked (follows-looked tells limits (knows c.args.pass) met asked c.asked-pass.result.1 nodes c.meet_all.ensures.looked said))

@@ -1,6 +1,6 @@
-use Rattle.node_turn.proofs.Names.{Effect, AskNobody, knows, base_at, life_at, ◌∙◌, sym, ap, subst, arith, List, length}
+use Rattle.node_turn.proofs.Names.{Effect, Life, AskNobody, knows, base_at, life_at, ◌∙◌, sym, ap, subst, arith, List, length}
 use Rattle.node_inputs.specs.Decisions.{decided_by}
-use Rattle.node_inputs.proofs.LifeLemmas.{on-ok, on-err, up-stored, stored-looked}
+use Rattle.node_inputs.proofs.LifeLemmas.{on-ok, on-err, up-stored, stored-looked, life-looked}
 use Rattle.node_inputs.proofs.TrailLemmas.{trail-none, trail-looked, trail-gated}
 use Rattle.node_turn.proofs.AppendLemmas.{appended-at, full-same, cause-append, after-append, stored-appended, up-gated, owed-is}
 use Rattle.node_turn.proofs.PhaseLemmas.{passes-stored, passes-appended, passes-ungated, passes-closed}
@@ -89,3 +89,9 @@ returns-in-Err-gated-clause-passes g c = λ told. passes-ungated g.M.Medium g.me
 
 pub returns-clause-passes : goal.returns-clause-passes
 returns-clause-passes g c = λ told. passes-closed g.M.Medium g.met.M.Medium.only_now c.requires.up (appended-at (c.as_slice-2.ensures.value ∙ c.into_parts-effects.ensures.effects) c.append-core.ensures) told _ c.in-Ok-appended.is c.requires.pass.own (on-ok _ _ _ c.in-Ok-gated.is c.gate-pass.ensures.ok)
+
+pub returns-in-Err-gated-clause-still : goal.returns-in-Err-gated-clause-still
+returns-in-Err-gated-clause-still g c = λ told. life-looked c.args.node c.requires.up.own (on-err _ _ _ c.in-Err-gated.is c.gate-pass.ensures.err)
+
+pub returns-clause-gated : goal.returns-clause-gated
+returns-clause-gated g c = λ told. ap (λ (l : Life). l.gated) ((on-ok _ _ _ c.in-Ok-gated.is c.gate-pass.ensures.ok).lives told)

@@ -3,6 +3,7 @@ use Rattle.node_inputs.proofs.LifeLemmas.{on-ok, on-err, stored-looked}
 use Rattle.node_inputs.proofs.TrailLemmas.{trail-looked, trail-added}
 use Rattle.node_turn.proofs.FallLemmas.{had-nothing, down-fallen}
 use Rattle.node_turn.proofs.PhaseLemmas.{passes-seen, passes-fallen}
+use Rattle.node_turn.proofs.SettleLemmas.{closes-none}
 use Rattle.node_turn.proofs.falls.go_down.Goals as goal
 
 pub down-pass-requires-clause-none : goal.down-pass-requires-clause-none
@@ -32,3 +33,9 @@ returns-in-Err-clause-names g c = λ ne. absurd (ne refl)
 
 pub returns-in-Ok-clause-names : goal.returns-in-Ok-clause-names
 returns-in-Ok-clause-names g c = λ ne. refl
+
+pub returns-in-Err-clause-closes : goal.returns-in-Err-clause-closes
+returns-in-Err-clause-closes g c = λ told ne. absurd (ne refl)
+
+pub returns-in-Ok-clause-closes : goal.returns-in-Ok-clause-closes
+returns-in-Ok-clause-closes g c = λ told ne. closes-none _ _ ((on-ok _ _ _ c.in-Ok.is c.down-pass.ensures.ok).lives told)

@@ -1,9 +1,10 @@
-use Rattle.node_turn.proofs.Names.{knows, base_at, costs, PaysFor, ◌<◌, ◌+◌, ◌∙◌, ℕ, refl, sym, subst, arith, [], up-known}
+use Rattle.node_turn.proofs.Names.{knows, base_at, life_at, costs, PaysFor, ◌<◌, ◌+◌, ◌∙◌, ℕ, refl, sym, subst, arith, [], up-known}
 use Rattle.node_turn.proofs.CostLemmas.{pays-none}
 use Rattle.node_inputs.proofs.LifeLemmas.{on-ok, on-err, stored-looked}
 use Rattle.node_inputs.proofs.TrailLemmas.{trail-none, trail-looked, trail-added, trail-cost, grew-added}
 use Rattle.node_turn.proofs.PhaseLemmas.{passes-on, passes-reopened, passes-unnoted, passes-crashed}
 use Rattle.node_turn.proofs.FallLemmas.{crash-few, up-crashed, stored-reopened, struck-reopened, opening-cause, opening-pays, opening-dear}
+use Rattle.node_turn.proofs.SettleLemmas.{closes-crashed}
 use Rattle.node_turn.proofs.falls.open_anew.Goals as goal
 
 pub note_crash-pass-requires-clause-kept : goal.note_crash-pass-requires-clause-kept
@@ -88,3 +89,12 @@ returns-in-None-clause-passes g c = λ told. passes-reopened g.M.Medium g.met.M.
 
 pub returns-in-Some-clause-passes : goal.returns-in-Some-clause-passes
 returns-in-Some-clause-passes g c = λ told. passes-on (passes-reopened g.M.Medium g.met.M.Medium.only_now c.requires.struck c.reopen-core.ensures told) (c.go_down-pass.ensures.passes told)
+
+pub returns-in-Ok-noted-clause-closes : goal.returns-in-Ok-noted-clause-closes
+returns-in-Ok-noted-clause-closes g c = λ told ne. closes-crashed _ _ (life_at (knows c.args.pass) c.args.node) (life_at (knows c.note_crash-pass.result.0) c.args.node) ((on-ok _ _ _ c.in-Ok-noted.is c.note_crash-pass.ensures.ok).lives told)
+
+pub returns-in-Err-noted-clause-closes : goal.returns-in-Err-noted-clause-closes
+returns-in-Err-noted-clause-closes g c = λ told ne. absurd (ne refl)
+
+pub returns-in-None-clause-closes : goal.returns-in-None-clause-closes
+returns-in-None-clause-closes g c = λ told ne. absurd (ne refl)

@@ -1,4 +1,5 @@
 use Rattle.node_turn.proofs.Names.{is_broker, NodeId, knows, Life, all_effects, Learning, place_of, Decided, base_at, life_at, flags_at, ◌≡◌, ◌∙◌, ap, refl, sym, subst, [], ◌∷◌, inl, inr, true, is_known}
+use Rattle.node_inputs.specs.Learns.{IsNewTo}
 use Rattle.node_inputs.proofs.LifeLemmas.{on-ok, on-err, learned-up, up-added, after-added, cause-added, up-tested, up-stored, stored-looked, life-tested, life-looked, log-same, log-told, log-joins}
 use Rattle.node_inputs.proofs.TrailLemmas.{trail-looked, trail-added, trail-tested, trail-joins}
 use Rattle.node_turn.proofs.SeekLemmas.{sought-learnt, seeks-none, none-found, all-found, missed-one, found-one}
@@ -8,6 +9,11 @@ use Rattle.node_turn.proofs.lookups.look_up.Goals as goal
 pub returns-then-knows-clause-seeks : goal.returns-then-knows-clause-seeks
 returns-then-knows-clause-seeks g c =
     seeks-none c.args.node (knows c.args.pass) _ (λ t. inl (sym (c.knows.ensures (ap (λ (n : NodeId). is_broker n.kind) c.requires.up.node ∙ c.requires.repository) t (base_at (knows c.args.pass)) (life_at (knows c.args.pass) c.args.node) (c.requires.up.life t).core) ∙ c.if-knows.true))
+
+pub learn-pass-requires-clause-new : goal.learn-pass-requires-clause-new
+learn-pass-requires-clause-new g c = λ t.
+    subst (λ (l : Life). IsNewTo l c.args.stamp) (sym (life-tested c.args.node c.requires.up.own c.decided.ensures.tested))
+    (sym (c.knows.ensures (ap (λ (n : NodeId). is_broker n.kind) c.requires.up.node ∙ c.requires.repository) t (base_at (knows c.args.pass)) (life_at (knows c.args.pass) c.args.node) (c.requires.up.life t).core) ∙ c.if-knows.false)
 
 pub returns-in_default-clause-up : goal.returns-in_default-clause-up
 returns-in_default-clause-up g c = up-tested c.requires.up c.decided.ensures.tested

@@ -1,9 +1,11 @@
-use Rattle.node_turn.proofs.Names.{knows, owed, world_at, IsIntact, IsStruck, ◌+◌, ◌∙◌, refl, sym, ap, subst, arith, [], Err}
+use Rattle.node_turn.proofs.Names.{knows, life_at, owed, world_at, IsIntact, IsStruck, ◌+◌, ◌∙◌, refl, sym, ap, subst, arith, [], Err}
 use Rattle.node_turn.proofs.CostLemmas.{pays-none, pays-one}
 use Rattle.node_inputs.proofs.LifeLemmas.{on-ok, if-ok, on-err, if-err}
 use Rattle.node_inputs.proofs.TrailLemmas.{trail-joins, trail-cost}
 use Rattle.node_turn.proofs.PageLemmas.{whole-same}
 use Rattle.node_turn.proofs.PhaseLemmas.{passes-on}
+use Rattle.node_turn.proofs.SettleLemmas.{closes-after, closes-gated, up-found}
+use Rattle.node_turn.specs.declared.conditions.Condition.TheVariants as condition
 use Rattle.node_turn.proofs.turns.end.Goals as goal
 
 pub returns-in-Ok-clause-keeps : goal.returns-in-Ok-clause-keeps
@@ -88,3 +90,30 @@ returns-in-Medium-clause-passes g c = λ told. passes-on (c.close-pass.ensures.p
 
 pub returns-in-Full-clause-passes : goal.returns-in-Full-clause-passes
 returns-in-Full-clause-passes g c = λ told. passes-on (c.close-pass.ensures.passes told) (c.go_down-pass.ensures.passes told)
+
+pub returns-in-Ok-clause-closes : goal.returns-in-Ok-clause-closes
+returns-in-Ok-clause-closes g c = λ told ne. closes-gated (life_at (knows c.args.pass) c.args.node) (life_at (knows c.close-pass.result.0) c.args.node) (on-ok _ _ _ c.in-Ok.is (c.close-pass.ensures.gated told))
+
+pub returns-in-Ok-clause-gated : goal.returns-in-Ok-clause-gated
+returns-in-Ok-clause-gated g c = λ told up same. on-ok _ _ _ c.in-Ok.is (c.close-pass.ensures.gated told)
+
+pub returns-in-NoMemory-clause-closes : goal.returns-in-NoMemory-clause-closes
+returns-in-NoMemory-clause-closes g c = λ told ne. absurd (ne refl)
+
+pub returns-in-NoMemory-clause-gated : goal.returns-in-NoMemory-clause-gated
+returns-in-NoMemory-clause-gated g c = λ told up same. absurd (up-found condition.Wanting up refl)
+
+pub returns-in-Medium-clause-closes : goal.returns-in-Medium-clause-closes
+returns-in-Medium-clause-closes g c = λ told ne. closes-after (life_at (knows c.args.pass) c.args.node) (life_at (knows c.close-pass.result.0) c.args.node) (life_at (knows c.open_anew.result.0) c.args.node) (on-err _ _ _ c.in-Err.is (c.close-pass.ensures.still told)) (c.open_anew.ensures.closes told ne)
+
+pub returns-in-Medium-clause-gated : goal.returns-in-Medium-clause-gated
+returns-in-Medium-clause-gated g c = λ told up same.
+    let e = trail-cost (on-err _ _ _ c.in-Err.is c.close-pass.ensures.unsent) in
+    let d = c.open_anew.ensures.dear told (up-found _ up) in
+    absurd (omega (arith, e, d, same))
+
+pub returns-in-Full-clause-closes : goal.returns-in-Full-clause-closes
+returns-in-Full-clause-closes g c = λ told ne. closes-after (life_at (knows c.args.pass) c.args.node) (life_at (knows c.close-pass.result.0) c.args.node) (life_at (knows c.go_down-pass.result.0) c.args.node) (on-err _ _ _ c.in-Err.is (c.close-pass.ensures.still told)) (c.go_down-pass.ensures.closes told ne)
+
+pub returns-in-Full-clause-gated : goal.returns-in-Full-clause-gated
+returns-in-Full-clause-gated g c = λ told up same. absurd (c.go_down-pass.ensures.stops up)

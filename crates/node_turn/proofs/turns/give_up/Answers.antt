@@ -56,3 +56,6 @@ returns-in-Medium-clause-names g c = subst (λ (f : HistoryFault). NamesPage f c
 
 pub returns-in-Damaged-clause-names : goal.returns-in-Damaged-clause-names
 returns-in-Damaged-clause-names g c = subst (λ (f : HistoryFault). NamesPage f c.go_down-pass.result.1) (sym c.in-Damaged.is) c.go_down-pass.ensures.names
+
+pub returns-in-NoMemory-clause-closes : goal.returns-in-NoMemory-clause-closes
+returns-in-NoMemory-clause-closes g c = λ told ne. absurd (ne refl)

@@ -6,11 +6,11 @@ use Rattle.repository_node.proofs.cores.RepositoryCoreStoredCore.take.Goals as g
 pub returns-in-Open : goal.returns-in-Open
 returns-in-Open g c =
     let old = c.in-Open.core in
-    let new = c.take.new.self in
+    let new = c.take-gave.new.self in
     let m = medium_of (store_of old.histories) in
     let n = medium_of (store_of new.histories) in
     let name = repository c.args.self.now.number in
-    let called = c.take.ensures.called in
+    let called = c.take-gave.ensures.called in
     let was = sym (ap (λ z. medium_in z) c.in-Open.is) in
     let both = λ (t : IsTrue g.M.Medium.tells). told-same g.M.Medium.tells (g.M.Medium.reads n) (g.M.Medium.reads m) (g.M.Medium.stages n) (g.M.Medium.stages m) t (ap (λ (b : BeneathParts). b.medium) called.stays) in
     let same = λ (t : IsTrue g.M.Medium.tells). (both t).0 in
@@ -18,11 +18,11 @@ returns-in-Open g c =
     record {
       given = record {
         same = record { node = refl; run = λ b f. f; later = subst (λ z. g.M.Medium.faults z ≤ g.M.Medium.faults n) was called.cause.faults_stay };
-        able = able-called c.take.result new.is_failed called.failed;
+        able = able-called c.take-gave.result new.is_failed called.failed;
         gave = λ t b l f h.
             let o = subst (λ z. HasLife z name l) c.in-Open.is h in
-            gave-repository b name l old new c.take.result (turns.Taking c.args.from c.args.message.now) (Taking c.args.from c.args.message.now) refl o.0 (c.take.ensures.gives t) called.log called.number (stored ∙ o.1);
-        owed = λ es o. owed-more c.take.result old.log (ledger_of old.histories).log new.log (ledger_of new.histories).log es stored (subst (λ z. Owes z es) c.in-Open.is o) called.log;
+            gave-repository b name l old new c.take-gave.result (turns.Taking c.args.from c.args.message.now) (Taking c.args.from c.args.message.now) refl o.0 (c.take-gave.ensures.gives t) called.log called.number (stored ∙ o.1);
+        owed = λ es o. owed-more c.take-gave.result old.log (ledger_of old.histories).log new.log (ledger_of new.histories).log es stored (subst (λ z. Owes z es) c.in-Open.is o) called.log;
         in_range = called.in_range;
         still = λ t. same t ∙ ap g.M.Medium.reads was;
         stages_still = λ t. (both t).1 ∙ ap g.M.Medium.stages was;

@@ -1,7 +1,12 @@
 use Rattle.wire_core.proofs.Names.{Plan, asked_of, IsLegal, WireParts, IsRunOf, ◌++◌, map, IsTrue, sym, subst}
 use Rattle.world_core.specs.declared.traces.Trace.{Trace}
-use Rattle.wire_core.proofs.SoundLemmas.{sound-legal}
+use Rattle.wire_core.proofs.SoundLemmas.{sound-learns, sound-legal}
+use Rattle.wire_core.specs.Learns.{LearnsAreNew}
+use Rattle.wire_core.specs.Wires.{base_from}
 use Rattle.wire_core.proofs.wires.Wire.finish.Goals as goal
+
+pub returns-clause-learns : goal.returns-clause-learns
+returns-clause-learns g c = λ t. subst (λ (v : WireParts). LearnsAreNew (base_from v.origin) v.entries) c.self.view_is (sound-learns _ _ _ _ _ c.self.invariant t)
 
 pub returns-clause-legal : goal.returns-clause-legal
 returns-clause-legal g c =

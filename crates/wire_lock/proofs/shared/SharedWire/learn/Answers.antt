@@ -1,4 +1,5 @@
-use Rattle.wire_lock.proofs.Names.{same_node-refl, knows, sees, Entry, Learn, World, Flags, IsDecidedAs, base_at, List, [], ◌∷◌, ◌++◌, refl, sym, ap, subst, ◌∙◌}
+use Rattle.wire_lock.proofs.Names.{same_node-refl, knows, sees, Entry, Learn, World, Life, Flags, IsDecidedAs, base_at, List, [], ◌∷◌, ◌++◌, refl, sym, ap, subst, ◌∙◌}
+use Rattle.wire_core.specs.Learns.{IsNewTo}
 use Rattle.wire_lock.proofs.SightLemmas.{finds, origin-of, entries-in, story-of, lock-origin, noted-kept, looked-of, visited-of, stands-later}
 use Rattle.wire_lock.proofs.shared.SharedWire.learn.Goals as goal
 
@@ -13,6 +14,12 @@ learn-requires-clause-stands g c =
     let x = c.enter-visit.ensures.value in
     let s = finds c.args.self.now.lock c.args.pass x.0 c.value.result.now _ c.requires.pass x.2 x.3 c.enter-visit.ensures.carries (c.value.ensures.value x.0 x.1) in
     λ t. subst (λ (w : World). IsDecidedAs w c.args.stamp c.args.committed) (sym s.world) (stands-later (base_at (knows c.args.pass)) _ _ c.args.stamp c.args.committed c.enter-visit.ensures.carries.begins (c.requires.stands t))
+
+pub learn-requires-clause-new : goal.learn-requires-clause-new
+learn-requires-clause-new g c =
+    let x = c.enter-visit.ensures.value in
+    let s = finds c.args.self.now.lock c.args.pass x.0 c.value.result.now _ c.requires.pass x.2 x.3 c.enter-visit.ensures.carries (c.value.ensures.value x.0 x.1) in
+    λ t. subst (λ (l : Life). IsNewTo l c.args.stamp) (sym (ap (λ (w : World). w.life c.args.node) s.world ∙ s.before.life c.args.node c.requires.node)) (c.requires.new t)
 
 pub leave-requires : goal.leave-requires
 leave-requires g c =

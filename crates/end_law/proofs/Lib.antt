@@ -1,0 +1,4 @@
+pub mod KnowsLemmas
+pub mod Learns
+pub mod Loads
+pub mod Steps
