@@ -46,8 +46,8 @@ pub fn fallen(line: Result<Bytes, AllocError>) -> Outcome
     }
 }
 
-// Why there is no map.
-fn refusal(alloc: Global, fault: &AsOfFault) -> Outcome
+/// Why there is no map.
+pub fn refusal(alloc: Global, fault: &AsOfFault) -> Outcome
     ensures { spec.RefusesFor fault.now result }
 {
     match fault {

@@ -10,8 +10,9 @@ mod outcomes;
 mod questions;
 mod versions;
 
-pub use answers::{fallen, refused, told};
+pub use answers::{fallen, refusal, refused, told};
 pub use archives::{Archived, archived_of};
 pub use calls::ask;
+pub use maps::{push_mark, push_values};
 pub use outcomes::Outcome;
 pub use questions::Question;

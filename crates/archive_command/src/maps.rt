@@ -10,8 +10,8 @@ use report_writer::{push_named, push_object, push_time};
 use std::alloc::{AllocError, Global};
 use value_form::{Bytes, ObjectId, Value};
 
-// Appends the mark, and ends the line.
-fn push_mark(alloc: Global, out: &mut Vec<u8>, mark: PseudoTime) -> Result<(), AllocError>
+/// Appends the mark, and ends the line.
+pub fn push_mark(alloc: Global, out: &mut Vec<u8>, mark: PseudoTime) -> Result<(), AllocError>
     ensures { OnOk result (out.new.items ≡ out.old.items ++ spec.mark_text mark) }
 {
     out.extend_from_slice(b" mark ")?;
@@ -62,8 +62,12 @@ fn push_moved(alloc: Global, out: &mut Vec<u8>, moved: &Moved<Value>) -> Result<
     }
 }
 
-// Appends the lines of objects.
-fn push_all(alloc: Global, out: &mut Vec<u8>, list: &[Moved<Value>]) -> Result<(), AllocError>
+/// Appends the lines of objects.
+pub fn push_values(
+    alloc: Global,
+    out: &mut Vec<u8>,
+    list: &[Moved<Value>],
+) -> Result<(), AllocError>
     ensures { OnOk result (out.new.items ≡ out.old.items ++ flat_map spec.moved_line list.now) }
 {
     for moved in list {
@@ -83,6 +87,6 @@ pub fn asof_text(
 {
     let mut out = Vec::new(alloc);
     push_head(alloc, &mut out, repository, mark)?;
-    push_all(alloc, &mut out, list)?;
+    push_values(alloc, &mut out, list)?;
     Ok(Bytes::of(out))
 }

@@ -19,13 +19,13 @@ use Rattle.archive_law.specs.Audits.{HasHolder, ListsAll, versions_in}
 use Rattle.archive_law.proofs.ArchiveLemmas.{archive-is}
 use Rattle.archive_law.proofs.AuditLemmas.{all-listed, version-held}
 use Rattle.archive_law.proofs.IdleLemmas.{idle-tells}
-use Rattle.watch_command.specs.Outcome.{Outcome}
-use Rattle.watch_command.specs.Outcome.TheVariants.{Told, Refused, Fallen, NoMemory}
-use Rattle.watch_command.specs.Question.{Question}
-use Rattle.watch_command.specs.Question.TheVariants.{AsOf, Audit}
-use Rattle.watch_command.specs.Answers.{Gives, IsAsOf}
-use Rattle.watch_command.specs.Archives.{Complete, archive_of, complete, holding_volume, newest_first, volume_at, volumes_of}
-use Rattle.watch_command.specs.Versions.{audit_text}
+use Rattle.snapshot_command.specs.Outcome.{Outcome}
+use Rattle.snapshot_command.specs.Outcome.TheVariants.{Told, Refused, Fallen, NoMemory}
+use Rattle.snapshot_command.specs.Question.{Question}
+use Rattle.snapshot_command.specs.Question.TheVariants.{AsOf, Audit}
+use Rattle.snapshot_command.specs.Answers.{Gives, IsAsOf}
+use Rattle.snapshot_command.specs.Archives.{Complete, archive_of, complete, holding_volume, newest_first, volume_at, volumes_of}
+use Rattle.snapshot_command.specs.Versions.{audit_text}
 use Rattle.archive_promise.specs.Answered.{IsHolder, IsLawful, IsOfStamp, TellsPlainMap, TellsWholeAudit, WereLeft, listed_value}
 
 -- ---- complete volumes
@@ -55,7 +55,7 @@ module _ (cs : List Earlier) (r : ℕ) (logs : List (List Effect)) (left : WereL
 
 -- ---- the map
 
-entry-value : (o : ObjectId) (q : Option Seen) → listed_value (entry_of o q) ≡ value_of q
+pub entry-value : (o : ObjectId) (q : Option Seen) → listed_value (entry_of o q) ≡ value_of q
 entry-value o None = refl
 entry-value o (Some q) = refl
 

@@ -1,3 +1,5 @@
 pub mod AnsweredLemmas
+pub mod SnappedLemmas
 pub mod WatchedLemmas
-pub use Rattle.watch_command.proofs.KeptLemmas
+pub use Rattle.snapshot_command.proofs.KeptLemmas
+pub use Rattle.snapshot_command.proofs.RepositoryLemmas

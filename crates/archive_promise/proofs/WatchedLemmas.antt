@@ -20,10 +20,10 @@ use Rattle.archive_law.proofs.Growths.{filter-has}
 use Rattle.archive_law.specs.Totals.{archive_then, calls_of, totals_of}
 use Rattle.archive_law.specs.Totals.Event.{Watching}
 use Rattle.archive_law.proofs.TotalLemmas.{some-counted, whole-counted}
-use Rattle.watch_command.specs.Archives.{if_of, last_total, newest_first, total_put}
+use Rattle.snapshot_command.specs.Archives.{if_of, last_total, newest_first, total_put}
 use Rattle.command_words.specs.declared.rules.Rule.{Rule}
-use Rattle.watch_command.specs.Totals.{AreTotals, new_puts, next_of, outcome_of, total_effect, went_on}
-use Rattle.watch_command.specs.Watches.{IsReady}
+use Rattle.snapshot_command.specs.Totals.{AreTotals, new_puts, next_of, outcome_of, total_effect, went_on}
+use Rattle.snapshot_command.specs.Watches.{IsReady}
 use Rattle.archive_promise.specs.Watched.{CountsOn}
 use Rattle.archive_promise.proofs.AnsweredLemmas.{archive-left}
 

@@ -16,12 +16,12 @@ use Rattle.archive_law.specs.Earlier.{Earlier}
 use Rattle.archive_law.specs.Archives.{IsPast, WasDecided, volumes_left}
 use Rattle.archive_law.specs.AsOf.{first_of, idle_run, value_in}
 use Rattle.archive_law.specs.Audits.{ListsAll}
-use Rattle.watch_command.specs.Outcome.{Outcome}
-use Rattle.watch_command.specs.Outcome.TheVariants.{Told, Refused, Fallen, NoMemory}
-use Rattle.watch_command.specs.Question.{Question}
-use Rattle.watch_command.specs.Question.TheVariants.{AsOf, Audit}
-use Rattle.watch_command.specs.Archives.{Complete, complete}
-use Rattle.watch_command.specs.ArchiveLines.{asof_text, audit_head, version_line}
+use Rattle.snapshot_command.specs.Outcome.{Outcome}
+use Rattle.snapshot_command.specs.Outcome.TheVariants.{Told, Refused, Fallen, NoMemory}
+use Rattle.snapshot_command.specs.Question.{Question}
+use Rattle.snapshot_command.specs.Question.TheVariants.{AsOf, Audit}
+use Rattle.snapshot_command.specs.Archives.{Complete, complete}
+use Rattle.snapshot_command.specs.ArchiveLines.{asof_text, audit_head, version_line}
 
 -- the complete ones among these volumes have the logs that the calls left of the repository
 pub record WereLeft (cs : List Earlier) (r : ℕ) (logs : List (List Effect)) : Type 0 where

@@ -1,6 +1,9 @@
 pub mod Answered
+pub mod Snapped
 pub mod Watched
-pub use Rattle.watch_command.specs.Answers
-pub use Rattle.watch_command.specs.Outcome
-pub use Rattle.watch_command.specs.Question
-pub use Rattle.watch_command.specs.Watches
+pub use Rattle.snapshot_command.specs.Answers
+pub use Rattle.snapshot_command.specs.Outcome
+pub use Rattle.snapshot_command.specs.Question
+pub use Rattle.snapshot_command.specs.Repositories
+pub use Rattle.snapshot_command.specs.Snapshots
+pub use Rattle.snapshot_command.specs.Watches

@@ -1,5 +1,5 @@
 -- What a watch tells, and what it leaves of its totals, where a past of runs, retirements and watches left what it found.
-use Rattle.std.specs.Prelude.{◌≡◌, ℕ, ℤ, pos, List, ◌∷◌, ◌++◌, map, take, Option, Some, None, Ok}
+use Rattle.std.specs.Prelude.{◌≡◌, ℕ, ℤ, pos, List, ◌∷◌, ◌++◌, map, take, Some, None, Ok}
 use Rattle.value_form.specs.declared.objects.ObjectId.{ObjectId}
 use Rattle.effect_form.specs.declared.effects.Effect.{Effect}
 use Rattle.object_history.specs.Settled.{settled_versions}
@@ -8,11 +8,11 @@ use Rattle.commit_watch.specs.Folds.{moved_over, version_of}
 use Rattle.commit_watch.specs.Lists.{AreRising, moved_at}
 use Rattle.archive_law.specs.Totals.{AreWatches, CountsAll, Event, archive_then, calls_of, totals_of}
 use Rattle.archive_law.specs.Totals.Event.{Watching}
-use Rattle.watch_command.specs.Archives.{last_total, newest_first}
+use Rattle.snapshot_command.specs.Archives.{last_total, newest_first}
 use Rattle.command_words.specs.declared.rules.Rule.{Rule}
-use Rattle.watch_command.specs.Lines.{watch_text}
-use Rattle.watch_command.specs.Totals.{next_of}
-use Rattle.watch_command.specs.Watches.{IsReady}
+use Rattle.snapshot_command.specs.Lines.{watch_text}
+use Rattle.snapshot_command.specs.Totals.{next_of}
+use Rattle.snapshot_command.specs.Watches.{IsReady}
 use Rattle.archive_promise.specs.Answered.{WereLeft}
 
 -- the repository's volumes have the logs that the runs and retirements left, and the log of totals has the totals that the watches left

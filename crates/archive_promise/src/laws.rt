@@ -1,11 +1,14 @@
-ghost use Rattle.std.specs.Prelude.{ℕ, List};
+ghost use Rattle.std.specs.Prelude.{◌≤◌, ℕ, List, length, Option};
 ghost use Rattle.effect_form.specs.declared.effects.Effect.{Effect};
-ghost use Rattle.watch_command.specs.Outcome.{Outcome};
-ghost use Rattle.watch_command.specs.Question.{Question};
-ghost use Rattle.watch_command.specs.Answers.{Gives};
-ghost use Rattle.watch_command.specs.Archives.{archive_of, volumes_of};
+ghost use Rattle.snapshot_command.specs.Outcome.{Outcome};
+ghost use Rattle.snapshot_command.specs.Question.{Question};
+ghost use Rattle.snapshot_command.specs.Answers.{Gives};
+ghost use Rattle.snapshot_command.specs.Archives.{archive_of, volumes_of};
 ghost use Rattle.command_words.specs.declared.rules.Rule.{Rule};
 ghost use Rattle.archive_promise.specs.Answered.{IsLawful, IsOfStamp};
+ghost use Rattle.snapshot_command.specs.Repositories.{all_joined};
+ghost use Rattle.snapshot_command.specs.Snapshots.{Gives as GivesMaps};
+ghost use Rattle.archive_promise.specs.Snapped.{IsLawfulSnapshot};
 ghost use Rattle.archive_promise.specs.Watched.{CountsOver};
 
 /// Over whatever past: what `asof` tells is the plain map, and what `audit` tells are all versions that ever
@@ -13,6 +16,13 @@ ghost use Rattle.archive_promise.specs.Watched.{CountsOver};
 pub fn law_of_questions()
     ensures { (q : Question) (logs : List (List Effect)) (r : Outcome) → IsOfStamp q →
         Gives (archive_of logs) (volumes_of logs) q r → IsLawful q logs r }
+{}
+
+/// What `snapshot` tells is the one plain map of all repositories, each cut to its objects: that of all committed
+/// attempts below the mark, also where a repository doesn't know how one was decided.
+pub fn law_of_snapshots()
+    ensures { (clock : Option ℕ) (logs : List (List (List Effect))) (r : Outcome) → 1 ≤ length logs →
+        GivesMaps clock (all_joined logs) r → IsLawfulSnapshot clock logs r }
 {}
 
 /// And what `watch` tells are totals of all committed versions; so they are too that it leaves, also where it

@@ -19,7 +19,7 @@ top-some x (Some y) = either (lt x y)
     either true = refl
     either false = refl
 
-floor-both : (xs ys : List Mark) → floor_of xs ≡ None → floor_of ys ≡ None → floor_of (xs ++ ys) ≡ None
+pub floor-both : (xs ys : List Mark) → floor_of xs ≡ None → floor_of ys ≡ None → floor_of (xs ++ ys) ≡ None
 unfolding floor_of
 floor-both [] ys h k = k
 floor-both (Put o x v ∷ xs) ys h k = floor-both xs ys h k

@@ -1,3 +1,5 @@
+pub mod Clocks
+pub mod Homes
 pub mod Joined
 pub mod Latest
 pub mod Met

@@ -1,5 +1,5 @@
 -- What the code keeps of the puts that were met.
-use Rattle.std.specs.Prelude.{◌≡◌, Bool, List, is_some}
+use Rattle.std.specs.Prelude.{◌≡◌, List, is_some}
 use Rattle.std.specs.Ordering.{ordering_then}
 use Rattle.std.specs.declared.cmp.Ordering.{Ordering}
 use Rattle.std.specs.BTreeMap.{get}

@@ -10,8 +10,8 @@ use object_history::Mark;
 use pseudo_time::PseudoTime;
 use std::alloc::{AllocError, Global};
 
-// An equal mark.
-fn copy_of(alloc: Global, mark: &Mark) -> Result<Mark, AllocError>
+/// An equal mark.
+pub fn copy_of(alloc: Global, mark: &Mark) -> Result<Mark, AllocError>
     ensures { IfOk result (λ f. f ≡ mark.now) }
 {
     match mark {

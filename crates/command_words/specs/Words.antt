@@ -1,5 +1,5 @@
 -- The words of the top call.
-use Rattle.std.specs.Prelude.{◌≡◌, ◌≢◌, ◌⊎◌, ℕ, ◌≤◌, ◌-◌, ◌^◌, List, [], ◌∷◌, codes, get_or, length, map, Some, None}
+use Rattle.std.specs.Prelude.{◌≡◌, ◌≢◌, ◌⊎◌, ℕ, ◌≤◌, ◌-◌, ◌^◌, List, [], ◌∷◌, codes, get_or, length, map, Option, Some, None}
 use Rattle.std.specs.Borrow.{Bor}
 use Rattle.std.specs.Fmt.{decimal}
 use Rattle.std.specs.Option.{unwrap_or}
@@ -9,7 +9,7 @@ use Rattle.command_words.specs.declared.commands.Options.{Options}
 use Rattle.command_words.specs.declared.rules.Rule.{Rule}
 use Rattle.command_words.specs.declared.rules.Rule.TheVariants.{Count, Sum, Last}
 use Rattle.command_words.specs.declared.commands.Command.{Command}
-use Rattle.command_words.specs.declared.commands.Command.TheVariants.{Run, Load, History, Retire, Votes, Watch, AsOf, Audit}
+use Rattle.command_words.specs.declared.commands.Command.TheVariants.{Run, Load, History, Retire, Votes, Watch, AsOf, Audit, Snapshot}
 use Rattle.command_words.specs.declared.options.Given.{Given}
 
 -- ---- numbers
@@ -108,6 +108,11 @@ pub record IsWatch (repository : ℕ) (rule : Rule) (words : List (List ℕ)) : 
   pub are : words ≡ codes "watch" ∷ repository_word ∷ rule_word rule ∷ []
   pub repository_is : IsNumber 1 16 repository repository_word
 
+-- this word, and behind it a clock, if one is asked for
+abbrev pub IsSnapshot : Option ℕ → List (List ℕ) → Type 0
+IsSnapshot None words = words ≡ codes "snapshot" ∷ []
+IsSnapshot (Some clock) words = (word : List ℕ) × (words ≡ codes "snapshot" ∷ word ∷ []) × IsNumber 1 (2 ^ 40 - 1) clock word
+
 -- the words are this command
 abbrev pub AreWords : Command → List (List ℕ) → Type 0
 AreWords (Run o) words = (more : List (List ℕ)) × (words ≡ codes "run" ∷ more) × AreOptions o more
@@ -118,6 +123,7 @@ AreWords (Votes o) words = (more : List (List ℕ)) × (words ≡ codes "votes" 
 AreWords (Watch repository rule) words = IsWatch repository rule words
 AreWords (AsOf repository clock) words = IsAsOf repository clock words
 AreWords (Audit object) words = IsAudit object words
+AreWords (Snapshot clock) words = IsSnapshot clock words
 
 -- what the words of a call are
 abbrev pub said : List (Bor (List ℕ)) → List (List ℕ)

@@ -1,8 +1,8 @@
 //! The commands.
-ghost use Rattle.std.specs.Prelude.{◌≡◌, ◌∷◌, ℕ, codes, None, IfSome, MatchOption};
+ghost use Rattle.std.specs.Prelude.{◌≡◌, ◌∷◌, ℕ, codes, Option, None, IfSome, MatchOption};
 ghost use Rattle.value_form.specs.declared.objects.ObjectId.{ObjectId};
 ghost use Rattle.command_words.specs.declared.rules.Rule.{Rule};
-ghost use Rattle.command_words.specs.Words.{AreWords, AreNone, IsLoad, IsHistory, IsRetire, IsWatch, IsAsOf, IsAudit, said};
+ghost use Rattle.command_words.specs.Words.{AreWords, AreNone, IsLoad, IsHistory, IsRetire, IsWatch, IsAsOf, IsAudit, IsSnapshot, said};
 
 use crate::numbers::{number, object};
 use crate::options::{options, vote_options};
@@ -57,6 +57,11 @@ pub enum Command {
     },
     /// Tell all versions of an object, and which volume has each.
     Audit(ObjectId),
+    /// Tell the map of all repositories as of the first pseudotime of this clock.
+    Snapshot {
+        /// 1 to 1,099,511,627,775; or else the one above all clocks of the repositories.
+        clock: Option<u64>,
+    },
 }
 
 // A load: its seed, its count and its options.
@@ -141,11 +146,26 @@ fn audit(words: &[&str]) -> Option<Command>
     Some(Command::Audit(object(word)?))
 }
 
+// A snapshot: its clock, if one is asked for.
+fn snapshot(words: &[&str]) -> Option<Command>
+    ensures { MatchOption result ((clock : Option ℕ) → IsSnapshot clock (codes "snapshot" ∷ said words.now) → ⊥)
+        (λ c. AreWords c (codes "snapshot" ∷ said words.now)) }
+{
+    match words {
+        [] => Some(Command::Snapshot { clock: None }),
+        [word] => Some(Command::Snapshot {
+            clock: Some(number(word, 1, 1_099_511_627_775)?),
+        }),
+        _ => None,
+    }
+}
+
 /// The command that the words are: `run OPTIONS`, `load SEED COUNT OPTIONS`, `history R.N`,
-/// `retire R CLOCK`, `votes OPTIONS`, `watch R RULE`, `asof R CLOCK` or `audit R.N`. OPTIONS are any of
-/// `--workers W` (1 unless given; not of votes), `--ticks T` (10,000) and `--messages N` (200,000), in any
-/// order, each at most once, name and number as two words. RULE is `count`, `sum` or `last`. Numbers are
-/// decimal digits without a sign or a zero in front. None where they are no command.
+/// `retire R CLOCK`, `votes OPTIONS`, `watch R RULE`, `asof R CLOCK`, `audit R.N`, `snapshot CLOCK` or
+/// `snapshot`. OPTIONS are any of `--workers W` (1 unless given; not of votes), `--ticks T` (10,000) and
+/// `--messages N` (200,000), in any order, each at most once, name and number as two words. RULE is `count`,
+/// `sum` or `last`. Numbers are decimal digits without a sign or a zero in front. None where they are no
+/// command.
 pub fn read_words(words: &[&str]) -> Option<Command>
     ensures words { IfSome result (λ c. AreWords c (said words.now)) }
     ensures none { result ≡ None → AreNone (said words.now) }
@@ -162,6 +182,7 @@ pub fn read_words(words: &[&str]) -> Option<Command>
         "watch" => watch(more),
         "asof" => asof(more),
         "audit" => audit(more),
+        "snapshot" => snapshot(more),
         _ => None,
     }
 }

@@ -2,9 +2,11 @@
 //! comes from standard input, and its report goes to standard output.
 #![tactic(auto)]
 
+mod full_sinks;
 mod progress;
 
-use medium_port::FileShelf;
+use full_sinks::FullSink;
+use medium_port::{FileMedium, FileShelf};
 use progress::ToldFates;
 use std::alloc::{AllocError, Global};
 use std::fs::{self, File};
@@ -14,7 +16,7 @@ use std::sync::Wait;
 use std::thread::Threads;
 use std::{env, io};
 use stream_port::{MemoryFates, ReadSource, SecondsClock, WriteSink};
-use swallow_top::swallow;
+use swallow_top::{Finish, Kept, swallow};
 
 /// The status where the report can't be written.
 const NO_OUTPUT: u8 = 4;
@@ -39,7 +41,7 @@ fn hold_streams(rt: &HostRuntime) -> io::Result<(File, File, File)> {
 fn is_look(words: &[String]) -> bool {
     match words.first() {
         Some(word) => match word.as_str() {
-            "history" | "asof" | "audit" => true,
+            "history" | "asof" | "audit" | "snapshot" => true,
             _ => false,
         },
         None => false,
@@ -73,6 +75,14 @@ fn shown_of(alloc: Global, words: &[String]) -> Result<Vec<&str>, AllocError> {
     Ok(shown)
 }
 
+// Says of each file that grows when it is opened again that it does so.
+fn tell_growth(media: Vec<Kept<FileMedium>>) {
+    for kept in media {
+        let Kept { medium, .. } = kept;
+        medium.tell_growth();
+    }
+}
+
 // The top call over the files of a folder. Gives its status. `threads` is the runtime too: the one that
 // may make threads and wait.
 fn run<R: Threads + Wait + Sync>(
@@ -92,7 +102,7 @@ fn run<R: Threads + Wait + Sync>(
         return Err(AllocError);
     };
     let mut source = ReadSource::new(rt.reader());
-    let mut sink = WriteSink::new(io::writer(rt));
+    let mut sink = FullSink::new(WriteSink::new(io::writer(rt)));
     let ended = swallow(
         threads,
         alloc,
@@ -103,7 +113,11 @@ fn run<R: Threads + Wait + Sync>(
         ToldFates::new(MemoryFates::new(alloc, Vec::new(alloc)), rt, rt.stderr()),
         SecondsClock::new(rt),
     );
-    Ok(ended.status)
+    let Finish { status, media, .. } = ended;
+    if sink.is_full() {
+        tell_growth(media.into_vec());
+    }
+    Ok(status)
 }
 
 // The program behind the standard streams. Gives its status.

@@ -13,8 +13,8 @@ use Rattle.plan_volumes.proofs.PlaceLemmas.{node-given, node-there, volume-at, w
 use Rattle.run_rounds.proofs.DealLemmas.{some-within}
 
 -- the status of a complete run
-pub complete-status : (plan : Plan) (t : Trace) → WentSmoothly plan t → status_of plan t ≡ 0
-complete-status plan t c =
+pub complete-status : (most_ticks : ℕ) (plan : Plan) (t : Trace) → WentSmoothly most_ticks plan t → status_of plan t ≡ 0
+complete-status most_ticks plan t c =
     ap (λ (d : Bool). if d then 6 else (if open_acts plan t == 0 then 0 else 5)) (none-down t.entries c.quiet)
     ∙ ap (λ (n : ℕ). if n == 0 then 0 else 5) (none-open _ c.acts)
 
@@ -211,10 +211,10 @@ module _ {M : Type 0} (w : Media M) (old new : ShelfSight) (plan : Plan) where
         plain = smooth.plain;
       }
 
-      pub over-smooth : IsOfLanguage plan → Ran w o.ticks o.messages plan (account_of t told) media left → WentSmoothly plan t
+      pub over-smooth : IsOfLanguage plan → Ran w o.ticks o.messages plan (account_of t told) media left → WentSmoothly o.ticks plan t
       over-smooth language ran = complete w tells o.ticks o.messages most plan language (account_of t told) media left ran smooth-run
 
 -- a smooth run is complete
 pub run-complete : {M : Type 0} (w : Media M) (old new : ShelfSight) (plan : Plan) (language : IsOfLanguage plan) (o : Options) (told : Tellers) (volumes : List (NodeVolumes w)) (left : List (Option M)) (kept : List (Kept M)) → HasVolumes w old new plan volumes left kept → IsTrue w.tells
-    → (t : Trace) → Ran w o.ticks o.messages plan (account_of t told) (map work_taken volumes) left → (s : Sinking) (most : ℕ) → IsSmooth {M = M} w old new kept plan o (account_of t told) s most → WentSmoothly plan t
+    → (t : Trace) → Ran w o.ticks o.messages plan (account_of t told) (map work_taken volumes) left → (s : Sinking) (most : ℕ) → IsSmooth {M = M} w old new kept plan o (account_of t told) s most → WentSmoothly o.ticks plan t
 run-complete w old new plan language o told volumes left kept has tells t ran s most smooth = over-smooth w old new plan o told volumes left kept has tells t s most smooth language ran

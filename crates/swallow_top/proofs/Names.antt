@@ -65,7 +65,7 @@ pub use Rattle.swallow_top.specs.Contract.{CameOf, Completes, HasNoRun, IsNoPlan
 pub use Rattle.swallow_top.specs.Finished.{AllBegun}
 pub use Rattle.swallow_top.specs.Histories.{AskedNothing, TellsHistory, TellsText, TellsVolumes, home_of}
 pub use Rattle.swallow_top.specs.Inputs.{OfInput}
-pub use Rattle.swallow_top.specs.Outcomes.{TellsAnswer, TellsOutcome, TellsWatch}
+pub use Rattle.swallow_top.specs.Outcomes.{TellsAnswer, TellsSnapshot, TellsOutcome, TellsWatch}
 pub use Rattle.swallow_top.specs.Plans.{IsReadAs, ReadsPlan}
 pub use Rattle.swallow_top.specs.Retirements.{TellsRetired, TellsRetirement, mark_at}
 pub use Rattle.swallow_top.specs.Smooth.{IsFinal, IsFinished, IsSmoothRun, WasRefused, WentSmoothly, pages_for, volumes_of_blank}

@@ -1,13 +1,19 @@
 -- How it is told what came of a question to an archive or of a watch, and what is handed back of it.
-use Rattle.swallow_top.proofs.Names.{AllZip-long, Opening, Media, HasOpened, medium_in, Kept, AllKept, kept_under, ShelfSight, first_names, logs_of, all-kept, back-all, Rule, AskedNothing, IsOfStamp, TellsAnswer, TellsWatch, Sinking, Ends, ◌⊎◌, ◌≤◌, inl, inr, ℕ, List, length, map, ap, sym, subst, ◌∙◌, arith, IsLawful, TellsOutcome}
+use Rattle.swallow_top.proofs.Names.{AllZip-long, Opening, Media, HasOpened, medium_in, Kept, AllKept, kept_under, ShelfSight, first_names, logs_of, all-kept, back-all, Rule, AskedNothing, IsOfStamp, TellsAnswer, TellsSnapshot, TellsWatch, Sinking, Ends, ◌⊎◌, ◌≤◌, inl, inr, ℕ, List, Option, Some, None, length, map, ap, sym, subst, ◌∙◌, arith, IsLawful, TellsOutcome}
+use Rattle.std.specs.Prelude.{IfSome}
+use Rattle.command_words.specs.Words.{IsSnapshot}
 use Rattle.archive_promise.specs.Outcome.{Outcome}
 use Rattle.archive_promise.specs.Outcome.TheVariants.{Told, Refused, Fallen, NoMemory}
 use Rattle.archive_promise.specs.Question.{Question}
 use Rattle.archive_promise.specs.Question.TheVariants.{AsOf, Audit}
 use Rattle.archive_promise.specs.Answers.{Answers, AnswersOver, TookNothing, asked_of}
+use Rattle.archive_promise.specs.Repositories.{Shows, SnapshotOver, Volumes, all_logs}
+use Rattle.archive_promise.specs.Snapped.{IsLawfulSnapshot}
 use Rattle.archive_promise.specs.Watches.{StopsBefore, WatchesOver}
 use Rattle.archive_promise.proofs.KeptLemmas.{watch-kept}
 use Rattle.archive_promise.proofs.AnsweredLemmas.{is-lawful}
+use Rattle.archive_promise.proofs.RepositoryLemmas.{as-many-logs, repositories-kept}
+use Rattle.archive_promise.proofs.SnappedLemmas.{lawful-snapshot}
 use Rattle.archive_promise.proofs.WatchedLemmas.{counts-on}
 
 module _ {M : Type 0} (w : Media M) (old new : ShelfSight) (kept : List (Kept M)) (s : Sinking) (status : ℕ) where
@@ -31,7 +37,20 @@ module _ {M : Type 0} (w : Media M) (old new : ShelfSight) (kept : List (Kept M)
   tells-watch repository rule r (inl none) told = inl (asked-nothing r none told)
   tells-watch repository rule r (inr over) told = inr (record { outcome = r; over = over; lawful = λ o log puts text ready. counts-on rule repository (logs_of o.openings) log puts text ready; told = told })
 
+  lawful-map : (clock : Option ℕ) (vs : List (Volumes w)) (r : Outcome) → Shows w clock vs r → IsLawfulSnapshot clock (all_logs vs) r
+  lawful-map clock vs (Told text) came = lawful-snapshot clock (all_logs vs) (Told text) (let a = as-many-logs w vs in let b = came.count in omega (arith, a, b)) came.gives
+  lawful-map clock vs (Refused line) came = tt
+  lawful-map clock vs (Fallen line) came = tt
+  lawful-map clock vs NoMemory came = tt
+
+  pub tells-snapshot : (clock : Option ℕ) (r : Outcome) → TookNothing w old new kept r ⊎ SnapshotOver w old new clock kept r → TellsOutcome r status s → AskedNothing w old new kept status ⊎ TellsSnapshot w old new clock kept s status
+  tells-snapshot clock r (inl none) told = inl (asked-nothing r none told)
+  tells-snapshot clock r (inr over) told = inr (record { outcome = r; over = over; lawful = lawful-map clock over.volumes r over.came; told = told })
+
   -- each medium that was taken is handed back
+  pub tellssnapshot-kept : (clock : Option ℕ) → TellsSnapshot w old new clock kept s status → AllKept old new kept
+  tellssnapshot-kept clock h = repositories-kept w old new h.over.volumes kept h.over.are
+
   pub tellswatch-kept : (repository : ℕ) (rule : Rule) → TellsWatch w old new repository rule kept s status → AllKept old new kept
   tellswatch-kept repository rule h = watch-kept w old new repository rule kept h.outcome h.over
 
@@ -50,3 +69,8 @@ outcome-most (Told text) s status h = told-most status s 0 text (omega arith) h
 outcome-most (Refused line) s status h = let e = h.0 in omega (arith, e)
 outcome-most (Fallen line) s status h = told-most status s 6 line (omega arith) h
 outcome-most NoMemory s status h = omega (arith, h)
+
+-- a clock that words ask for is one that a stamp has
+pub clock-within : (clock : Option ℕ) (words : List (List ℕ)) → IsSnapshot clock words → IfSome clock (λ c. (1 ≤ c) × (c ≤ 1099511627775))
+clock-within None words are = tt
+clock-within (Some c) words are = let is = are.2 in let high = is.high in (is.low, omega (arith, high))

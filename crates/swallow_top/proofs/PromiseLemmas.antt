@@ -1,11 +1,11 @@
 -- What the parts of a call say, said in the words of its promise.
 use Rattle.votes_command.specs.Tellings.{some_down as voters_down}
-use Rattle.swallow_top.proofs.Names.{Every, Plan, IsPlanFault, IsPlan, IsOfLanguage, Trace, open_acts, ObjectId, no_trace, Options, AreWords, Media, some_down, Account, AllKept, Kept, Wanted, Stop, CameOf, HasNoRun, RefusedAs, RunsPlan, AskedNothing, TellsHistory, TellsVolumes, ReadsPlan, ShelfSight, Retired, Rule, TellsAnswer, TellsWatch, TellsRetired, TellsRetirement, mark_at, status_of, Sinking, Ends, EndsIfAny, VoteEnd, Told, IsInputFault, IsInput, IsPoll, PollLine, HavePolled, ReadsPolls, TellsVotes, limits_of, tellers_of, votes_status, Vec, Global, ◌≡◌, ◌⊎◌, ◌≤◌, ◌==◌, inl, inr, ℕ, Bool, true, false, List, [], ◌∷◌, length, Option, Ok, Err, refl, sym, subst, arith, if◌then◌else◌, AreGiven, AreOptions, IsWith, IsNoPlan, AreNoPolls}
+use Rattle.swallow_top.proofs.Names.{Every, Plan, IsPlanFault, IsPlan, IsOfLanguage, Trace, open_acts, ObjectId, no_trace, Options, AreWords, Media, some_down, Account, AllKept, Kept, Wanted, Stop, CameOf, HasNoRun, RefusedAs, RunsPlan, AskedNothing, TellsHistory, TellsVolumes, ReadsPlan, ShelfSight, Retired, Rule, TellsAnswer, TellsSnapshot, TellsWatch, TellsRetired, TellsRetirement, mark_at, status_of, Sinking, Ends, EndsIfAny, VoteEnd, Told, IsInputFault, IsInput, IsPoll, PollLine, HavePolled, ReadsPolls, TellsVotes, limits_of, tellers_of, votes_status, Vec, Global, ◌≡◌, ◌⊎◌, ◌≤◌, ◌==◌, inl, inr, ℕ, Bool, true, false, List, [], ◌∷◌, length, Option, Ok, Err, refl, sym, subst, arith, if◌then◌else◌, AreGiven, AreOptions, IsWith, IsNoPlan, AreNoPolls}
 use Rattle.std.specs.Option.{unwrap_or}
 use Rattle.plan_form.specs.Making.{made_plan}
 use Rattle.plan_form.proofs.PlanTextLemmas.{plan_is_whole}
 use Rattle.command_words.specs.declared.commands.Command.{Command}
-use Rattle.command_words.specs.declared.commands.Command.TheVariants.{Run, Load, History, Retire, Votes, Watch, AsOf, Audit}
+use Rattle.command_words.specs.declared.commands.Command.TheVariants.{Run, Load, History, Retire, Votes, Watch, AsOf, Audit, Snapshot}
 use Rattle.command_words.specs.declared.options.Given.{Given}
 use Rattle.swallow_top.specs.declared.reports.Wanted.TheVariants.{Report, Summary}
 use Rattle.swallow_top.specs.declared.stops.Stop.TheVariants as stop
@@ -18,7 +18,7 @@ use Rattle.votes_command.specs.Statuses.{all_held}
 use Rattle.swallow_top.proofs.VoteLemmas.{votes-kept}
 use Rattle.swallow_top.proofs.HistoryLemmas.{history-kept}
 use Rattle.swallow_top.proofs.InputLemmas.{of_input-all, of_input-with}
-use Rattle.swallow_top.proofs.OutcomeLemmas.{outcome-most, tellsanswer-kept, tellswatch-kept}
+use Rattle.swallow_top.proofs.OutcomeLemmas.{outcome-most, tellsanswer-kept, tellssnapshot-kept, tellswatch-kept}
 use Rattle.swallow_top.proofs.RetirementLemmas.{retirement-kept}
 
 -- ---- statuses
@@ -169,6 +169,16 @@ module _ {M : Type 0} (c : Call M) where
     votes = inl votes;
   }
 
+  promise-snapshot : (clock : Option ℕ) → IsUnread c → AreWords (Snapshot clock) c.words → AskedNothing c.media_are c.shelf_before c.shelf c.media c.status ⊎ TellsSnapshot c.media_are c.shelf_before c.shelf clock c.media c.sink c.status →
+      HasNoRun c.told → c.votes ≡ no_trace → Promise c
+  promise-snapshot clock unread words (inl nothing) none votes = promise-unasked nothing none votes
+  promise-snapshot clock unread words (inr tells) none votes = record {
+    done = inr (inr (Snapshot clock, words, (unread, tells, none)));
+    kept = tellssnapshot-kept c.media_are c.shelf_before c.shelf c.media c.sink c.status clock tells;
+    statuses = outcome-most tells.outcome c.sink c.status tells.told;
+    votes = inl votes;
+  }
+
   promise-map : (repository clock : ℕ) → IsUnread c → AreWords (AsOf repository clock) c.words →
       AskedNothing c.media_are c.shelf_before c.shelf c.media c.status ⊎ TellsAnswer c.media_are c.shelf_before c.shelf (question.AsOf repository (mark_at clock)) c.media c.sink c.status → HasNoRun c.told → c.votes ≡ no_trace → Promise c
   promise-map repository clock unread words (inl nothing) none votes = promise-unasked nothing none votes
@@ -196,6 +206,7 @@ module _ {M : Type 0} (c : Call M) where
   promise-asked (Watch repository rule) unread words tells none votes = promise-watch repository rule unread words tells none votes
   promise-asked (AsOf repository clock) unread words tells none votes = promise-map repository clock unread words tells none votes
   promise-asked (Audit object) unread words tells none votes = promise-audit object unread words tells none votes
+  promise-asked (Snapshot clock) unread words tells none votes = promise-snapshot clock unread words tells none votes
   promise-asked (Run o) unread words (inl nothing) none votes = promise-unasked nothing none votes
   promise-asked (Run o) unread words (inr tells) none votes = absurd tells
   promise-asked (Load seed count o) unread words (inl nothing) none votes = promise-unasked nothing none votes

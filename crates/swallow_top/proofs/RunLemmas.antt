@@ -3,7 +3,7 @@ use Rattle.swallow_top.proofs.Names.{AllZip, AllZip-long, Plan, IsOfLanguage, Tr
 use Rattle.stream_port.specs.declared.fates.Asked.{Asked}
 use Rattle.run_rounds.specs.declared.ends.End.{End}
 use Rattle.run_rounds.specs.declared.ends.End.TheVariants as end
-use Rattle.complete_law.specs.Serials.{HoldsFinals, IsSerialOver}
+use Rattle.complete_law.specs.Serials.{AreLate, HoldsFinals, IsSerialOver}
 use Rattle.complete_law.specs.Acknowledged.{KeepsAnswers, SpendsRightly}
 use Rattle.complete_law.specs.Reasons.{AddedHaveReasons, HaveReasons}
 use Rattle.run_rounds.specs.Places.{PlacesHavePasts}
@@ -41,6 +41,7 @@ module _ {M : Type 0} (w : Media M) (old new : ShelfSight) (plan : Plan) (o : Op
   runs-kept e ends = all-kept w old new plan volumes left kept has (end-back w o.ticks o.messages plan told media left e ends)
 
   module _ (language : IsOfLanguage plan) (serial : (p : Plan) (asked : List Asked) (t : Trace) → IsOfLanguage p → IsLegal p asked t → IsSerialOver p t)
+      (late : (p : Plan) (asked : List Asked) (t : Trace) → IsOfLanguage p → IsLegal p asked t → AreLate p t)
       (finals : (p : Plan) (asked : List Asked) (t : Trace) → IsOfLanguage p → IsLegal p asked t → HoldsFinals p t) (reasons : (p : Plan) (asked : List Asked) (t : Trace) → IsOfLanguage p → IsLegal p asked t → HaveReasons p t)
       (answers : (p : Plan) (asked : List Asked) (t : Trace) → IsOfLanguage p → IsLegal p asked t → KeepsAnswers p t) (spent : (p : Plan) (asked : List Asked) (t : Trace) → IsOfLanguage p → IsLegal p asked t → SpendsRightly p t)
       (added : (p : Plan) (asked : List Asked) (t : Trace) → AddedHaveReasons p asked t) (pasts : (p : Plan) (asked : List Asked) (t : Trace) → IsOfLanguage p → IsLegal p asked t → PlacesHavePasts p t) where
@@ -52,6 +53,7 @@ module _ {M : Type 0} (w : Media M) (old new : ShelfSight) (plan : Plan) (o : Op
       memory = memory;
       ran = ran;
       serial = λ tells. serial plan told.asked t language (ran.is_told tells).legal;
+      late = λ tells. late plan told.asked t language (ran.is_told tells).legal;
       finals = λ tells. finals plan told.asked t language (ran.is_told tells).legal;
       answers = λ tells. answers plan told.asked t language (ran.is_told tells).legal;
       reasons = λ tells. reasons plan told.asked t language (ran.is_told tells).legal;
@@ -102,7 +104,7 @@ module _ {M : Type 0} (w : Media M) (old new : ShelfSight) (plan : Plan) (o : Op
       completes wanted (end.Ran r) status t s ends (same, inr (inr failed)) tells most smooth = absurd (smooth.sink failed.1.1)
       completes wanted (end.Ran r) status t s ends (same, inr (inl written)) tells most smooth =
           let done = run-complete w old new plan language o told volumes left kept has tells t (subst (λ (z : Trace). Ran w o.ticks o.messages plan (account_of z told) media left) (sym same) ends) s most smooth in
-          inr (written.0 ∙ (ap (status_of plan) (sym same) ∙ complete-status plan t done), done)
+          inr (written.0 ∙ (ap (status_of plan) (sym same) ∙ complete-status o.ticks plan t done), done)
       completes wanted (end.Refused fault) status t s ends (none, inl seven) tells most smooth = inl seven
       completes wanted (end.Refused fault) status t s ends (none, inr two) tells most smooth = absurd (unrefused w old new plan o told volumes left kept has tells t s most smooth fault ends.2)
       completes wanted end.NoMemory status t s ends told-as tells most smooth = inl told-as.1

@@ -1,5 +1,9 @@
 -- A smooth run is complete.
 use Rattle.swallow_top.proofs.Names.{eqb-true, append-nil, length-map, filter-append, Every, Has, every-has, NodeId, DownCause, broker, same_node-refl, RoseBy, rise_of_fewer, Effect, Outcome, pages_apart, Plan, InRange, IsOfLanguage, Act, Book, Try, book, keep, reading, Entry, Take, Crash, Down, Tick, Trace, Base, names, own, start_world, walk, Meets, in_plan, IsLegal, counted_by, shown_end, tasks_of, Media, IsBack, place_of, some_down, Became, inner, medium_at, Account, Ran, HasOutcome, filled_by, AllBegun, WentSmoothly, IsSmoothRun, blank-none, ◌≡◌, ◌⊎◌, ◌+◌, ◌≤◌, ◌∙◌, ◌++◌, ◌&&◌, ◌==◌, ℕ, zero, suc, Bool, true, false, IsTrue, List, [], ◌∷◌, Option, Some, None, is_some, length, reverse, slice_get, cond, inl, inr, refl, ap, sym, subst, arith, if◌then◌else◌, every-right, every-left, every-map, has-right, tries_of, Life, all_effects, base_of, fates_of, post_of, gated_log, life_after, HasEnded, IsUnopened, AllDone, CalmPlace, CalmRun, IsUnstopped, MayStop, book_at, log_at, most_pages, WasRefused, blank-count, filling-apart, and-left, down_cause, named-opened, one-down, told-of}
+use Rattle.pseudo_time.specs.Nodes.{repository}
+use Rattle.world_core.specs.Counts.{tick_count}
+use Rattle.world_core.specs.Readings.{world_after}
+use Rattle.swallow_top.specs.Smooth.{LeavesNoDoubt}
 use Rattle.pseudo_time.specs.declared.down_causes.DownCause.TheVariants as down
 use Rattle.effect_form.specs.declared.outcomes.Outcome.TheVariants as ended
 use Rattle.value_form.proofs.ValueLaws.{ok_is}
@@ -31,6 +35,13 @@ none-down (Crash node kept ∷ es) h = absurd h.0
 none-down (Down node cause ∷ es) h = absurd h.0
 none-down (Tick moment ∷ es) h = absurd h.0
 none-down (e ∷ es) h = none-down es h.1
+
+no-ticks : (es : List Entry) → Every IsUnstopped es → tick_count es ≡ 0
+no-ticks [] h = refl
+no-ticks (Crash node kept ∷ es) h = absurd h.0
+no-ticks (Down node cause ∷ es) h = absurd h.0
+no-ticks (Tick moment ∷ es) h = absurd h.0
+no-ticks (e ∷ es) h = no-ticks es h.1
 
 no-cause : (n : NodeId) (es : List Entry) → Every IsUnstopped es → down_cause n es ≡ None
 no-cause n [] h = refl
@@ -257,18 +268,34 @@ module _ {M : Type 0} (w : Media M) (told : IsTrue w.tells) (most_ticks enough m
   abbrev end : CalmPlace
   end = record { run = run; front = t.entries; rest = []; here = sym (append-nil t.entries); quiet = whole-quiet }
 
+  too-many : enough ≤ length t.sent → ⊥
+  too-many many =
+      let few = few-messages end most smooth.asks in
+      let bound = smooth.few in
+      let sent : length t.sent ≡ length (calm.sent_at end) = sym (length-map t.sent post_of) ∙ ap length legal.sent in
+      omega (arith, many, few, bound, sent)
+
   all-done : AllDone end
   all-done = by has-ended.why
     where
-      by : (some_down t.entries ≡ true) ⊎ (ends.AllDone plan t ⊎ ((enough ≤ length t.sent) ⊎ ends.HasRunOut most_ticks plan t)) → AllDone end
+      by : (some_down t.entries ≡ true) ⊎ ((ends.AllDone plan t × ends.AllSettled plan t) ⊎ ((enough ≤ length t.sent) ⊎ ends.HasRunOut most_ticks plan t)) → AllDone end
       by (inl d) = absurd (let z : true ≡ false = sym d ∙ none-down t.entries whole-quiet in cc z)
-      by (inr (inl d)) = λ b inside. d b (within b plan.brokers inside)
-      by (inr (inr (inl many))) = absurd (
-          let few = few-messages end most smooth.asks in
-          let bound = smooth.few in
-          let sent : length t.sent ≡ length (calm.sent_at end) = sym (length-map t.sent post_of) ∙ ap length legal.sent in
-          omega (arith, many, few, bound, sent))
+      by (inr (inl d)) = λ b inside. d.0 b (within b plan.brokers inside)
+      by (inr (inr (inl many))) = absurd (too-many many)
       by (inr (inr (inr out))) = never-stuck end out.0
+
+  -- and nothing is in doubt
+  settled : 1 ≤ most_ticks → LeavesNoDoubt plan t
+  settled some r inside = by has-ended.why
+    where
+      n : NodeId
+      n = repository r
+
+      by : (some_down t.entries ≡ true) ⊎ ((ends.AllDone plan t × ends.AllSettled plan t) ⊎ ((enough ≤ length t.sent) ⊎ ends.HasRunOut most_ticks plan t)) → ends.IsSettled plan (world_after plan t) r
+      by (inl d) = absurd (let z : true ≡ false = sym d ∙ none-down t.entries whole-quiet in cc z)
+      by (inr (inl d)) = d.1 r inside (costless n inside (all-opened n inside))
+      by (inr (inr (inl many))) = absurd (too-many many)
+      by (inr (inr (inr out))) = absurd (let none = no-ticks t.entries whole-quiet in let all = out.1 in omega (arith, some, none, all))
 
   -- nothing is open
   all-durable : (b : ℕ) → InRange plan.brokers b → book_at end b ≡ counted_by plan b (gated_log plan t (broker b))
@@ -285,8 +312,9 @@ module _ {M : Type 0} (w : Media M) (told : IsTrue w.tells) (most_ticks enough m
       subst (λ (k : Book). AllBegun plan b k × Every HasOutcome k.acts) (all-durable b within) (begun-by plan b (book_at end b) ((calm.world_at end).life (broker b)).mind.heard (all-done b within), outcomes end all-done b)
 
   -- the run is complete
-  pub complete : WentSmoothly plan t
+  pub complete : WentSmoothly most_ticks plan t
   complete = record {
+    settled = settled;
     quiet = whole-quiet;
     acts = all-finished plan lang (gated_log plan t) done-each;
     one = λ one. all-tries plan lang (gated_log plan t) done-each (λ o. WasRefused o → ⊥) (λ b within.

@@ -16,7 +16,7 @@ use Rattle.run_rounds.specs.Stories.{no_trace}
 use Rattle.command_words.specs.declared.commands.Options.{Options}
 use Rattle.plan_volumes.specs.Media.{Media, IsLeftAlone}
 use Rattle.run_rounds.specs.Runs.{Account, Ran, RanUntold, IsFirstFault}
-use Rattle.complete_law.specs.Serials.{HoldsFinals, IsSerialOver}
+use Rattle.complete_law.specs.Serials.{AreLate, HoldsFinals, IsSerialOver}
 use Rattle.complete_law.specs.Acknowledged.{KeepsAnswers, SpendsRightly}
 use Rattle.complete_law.specs.Reasons.{AddedHaveReasons, HaveReasons}
 use Rattle.complete_law.specs.Calm.{IsPlain}
@@ -55,6 +55,7 @@ module _ {M : Type 0} (w : Media M) (old new : ShelfSight) (kept : List (Kept M)
       pub memory : HadMemory w volumes
       pub ran : Ran w o.ticks o.messages plan told (map work_taken volumes) left
       pub serial : IsTrue w.tells → IsSerialOver plan told.trace
+      pub late : IsTrue w.tells → AreLate plan told.trace
       pub finals : IsTrue w.tells → HoldsFinals plan told.trace
       pub answers : IsTrue w.tells → KeepsAnswers plan told.trace
       pub reasons : IsTrue w.tells → HaveReasons plan told.trace
@@ -109,7 +110,7 @@ module _ {M : Type 0} (w : Media M) (old new : ShelfSight) (kept : List (Kept M)
 
     -- Where all is smooth the run is complete, and its text is written, unless memory ran out.
     abbrev pub Completes : Options → Account → Sinking → ℕ → Type 0
-    Completes o told s status = IsTrue w.tells → (most : ℕ) → IsSmooth o told s most → (status ≡ 7) ⊎ ((status ≡ 0) × WentSmoothly plan told.trace)
+    Completes o told s status = IsTrue w.tells → (most : ℕ) → IsSmooth o told s most → (status ≡ 7) ⊎ ((status ≡ 0) × WentSmoothly o.ticks plan told.trace)
 
     -- what came of running the plan; and what must succeed, succeeds
     pub record RunsPlan (wanted : Wanted) (o : Options) (told : Account) (s : Sinking) (status : ℕ) : Type 0 where

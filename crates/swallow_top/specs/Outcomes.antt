@@ -1,5 +1,5 @@
 -- How it is reported what came of a command over the volumes of a repository: a question to its archive, or a watch.
-use Rattle.std.specs.Prelude.{◌≡◌, ◌⊎◌, ℕ, List}
+use Rattle.std.specs.Prelude.{◌≡◌, ◌⊎◌, ℕ, List, Option}
 use Rattle.plan_volumes.specs.Media.{Media}
 use Rattle.plan_volumes.specs.KeptMedium.{Kept}
 use Rattle.plan_volumes.specs.Shelves.{ShelfSight}
@@ -10,6 +10,8 @@ use Rattle.archive_promise.specs.Question.{Question}
 use Rattle.archive_promise.specs.Answers.{AnswersOver}
 use Rattle.command_words.specs.declared.rules.Rule.{Rule}
 use Rattle.archive_promise.specs.Answered.{IsLawful}
+use Rattle.archive_promise.specs.Repositories.{SnapshotOver, all_logs}
+use Rattle.archive_promise.specs.Snapped.{IsLawfulSnapshot}
 use Rattle.archive_promise.specs.Watched.{CountsOver}
 use Rattle.archive_promise.specs.Watches.{StopsBefore, WatchesOver}
 use Rattle.swallow_top.specs.Written.{Sinking, Ends, GotLine}
@@ -34,4 +36,11 @@ module _ {M : Type 0} (w : Media M) (old new : ShelfSight) where
     pub outcome : Outcome
     pub over : StopsBefore w old new repository rule kept outcome ⊎ WatchesOver w old new repository rule kept outcome
     pub lawful : (o : WatchesOver w old new repository rule kept outcome) → CountsOver rule repository (logs_of o.openings)
+    pub told : TellsOutcome outcome status s
+
+  -- The volumes of the repositories were taken and opened, this came of the snapshot, and so it was reported: over whatever past left them all, lawfully. Nothing was written to the volumes, which are handed back.
+  pub record TellsSnapshot (clock : Option ℕ) (kept : List (Kept M)) (s : Sinking) (status : ℕ) : Type 0 where
+    pub outcome : Outcome
+    pub over : SnapshotOver w old new clock kept outcome
+    pub lawful : IsLawfulSnapshot clock (all_logs over.volumes) outcome
     pub told : TellsOutcome outcome status s

@@ -7,7 +7,7 @@ use Rattle.plan_form.specs.Plans.{IsPlan}
 use Rattle.plan_form.specs.Making.{made_plan}
 use Rattle.command_words.specs.declared.commands.Options.{Options}
 use Rattle.command_words.specs.declared.commands.Command.{Command}
-use Rattle.command_words.specs.declared.commands.Command.TheVariants.{Run, Load, History, Retire, Votes, Watch, AsOf, Audit}
+use Rattle.command_words.specs.declared.commands.Command.TheVariants.{Run, Load, History, Retire, Votes, Watch, AsOf, Audit, Snapshot}
 use Rattle.command_words.specs.Words.{AreWords, AreNone}
 use Rattle.plan_volumes.specs.Media.{Media}
 use Rattle.run_rounds.specs.Runs.{Account}
@@ -20,7 +20,7 @@ use Rattle.swallow_top.specs.Inputs.{OfInput}
 use Rattle.swallow_top.specs.Lines.{words_line, source_line}
 use Rattle.plan_volumes.specs.Shelves.{ShelfSight}
 use Rattle.archive_promise.specs.Question.TheVariants as question
-use Rattle.swallow_top.specs.Outcomes.{TellsAnswer, TellsWatch}
+use Rattle.swallow_top.specs.Outcomes.{TellsAnswer, TellsSnapshot, TellsWatch}
 use Rattle.swallow_top.specs.Retirements.{TellsRetirement, mark_at}
 use Rattle.swallow_top.specs.Votes.{AreNoPolls, HavePolled}
 use Rattle.swallow_top.specs.Written.{Sinking, GotLine}
@@ -93,6 +93,7 @@ module _ {M : Type 0} (c : Call M) where
   WasDone (Watch repository rule) = IsUnread × TellsWatch c.media_are c.shelf_before c.shelf repository rule c.media c.sink c.status × HasNoRun c.told
   WasDone (AsOf repository clock) = IsUnread × TellsAnswer c.media_are c.shelf_before c.shelf (question.AsOf repository (mark_at clock)) c.media c.sink c.status × HasNoRun c.told
   WasDone (Audit object) = IsUnread × TellsAnswer c.media_are c.shelf_before c.shelf (question.Audit object) c.media c.sink c.status × HasNoRun c.told
+  WasDone (Snapshot clock) = IsUnread × TellsSnapshot c.media_are c.shelf_before c.shelf clock c.media c.sink c.status × HasNoRun c.told
 
   -- but for votes nobody votes
   abbrev pub VotesAlone : Type 0

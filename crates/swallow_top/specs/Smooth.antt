@@ -11,8 +11,8 @@ use Rattle.plan_form.specs.declared.plans.Plan.{Plan}
 use Rattle.broker_core.specs.Readings.{reading}
 use Rattle.broker_core.specs.Tasks.{task_of}
 use Rattle.world_core.specs.declared.traces.Trace.{Trace}
-use Rattle.world_core.specs.Legal.{fates_of, in_plan}
-use Rattle.world_core.specs.Readings.{gated_log}
+use Rattle.world_core.specs.Legal.{fates_of, in_plan, is_within}
+use Rattle.world_core.specs.Readings.{gated_log, world_after}
 use Rattle.report_writer.specs.declared.records.ActReport.{ActReport}
 use Rattle.report_writer.specs.declared.records.TryReport.{TryReport}
 use Rattle.report_writer.specs.declared.records.TryOutcome.{TryOutcome}
@@ -21,6 +21,7 @@ use Rattle.report_writer.specs.declared.records.ActOutcome.{ActOutcome}
 use Rattle.report_writer.specs.declared.records.ActOutcome.TheVariants as standing
 use Rattle.report_writer.specs.Standings.{standing_of}
 use Rattle.run_rounds.specs.Acts.{acts_shown}
+use Rattle.run_rounds.specs.Ends.{IsSettled}
 use Rattle.plan_volumes.specs.Media.{Media}
 use Rattle.run_rounds.specs.Media.{Became, medium_at}
 use Rattle.complete_law.specs.Calm.{AsksAtMost, IsPlain, IsUnstopped, tries_in}
@@ -79,8 +80,14 @@ WasRefused _ = ⊥
 abbrev pub IsUnrefused : ActReport → Type 0
 IsUnrefused a = Every (λ (t : TryReport). WasRefused t.outcome → ⊥) a.tries
 
--- Time stood still, and no node stopped. Each act was committed, withdrawn, failed or spent, or its last allowed attempt was refused. With one broker none was.
-pub record WentSmoothly (plan : Plan) (t : Trace) : Type 0 where
+-- No version of a repository is left in doubt whose home, of this run, has decided its attempt.
+abbrev pub LeavesNoDoubt : Plan → Trace → Type 0
+LeavesNoDoubt plan t = (r : ℕ) → is_within r plan.repositories ≡ true → IsSettled plan (world_after plan t) r
+
+-- Time stood still, and no node stopped. Each act was committed, withdrawn, failed or spent, or its last allowed attempt was refused. With one broker none was. Unless no
+-- Tick was allowed at all, nothing that was decided is left in doubt.
+pub record WentSmoothly (most_ticks : ℕ) (plan : Plan) (t : Trace) : Type 0 where
+  pub settled : 1 ≤ most_ticks → LeavesNoDoubt plan t
   pub quiet : Every IsUnstopped t.entries
   pub acts : Every IsFinished (acts_shown plan (gated_log plan t))
   pub one : plan.brokers ≡ 1 → Every IsUnrefused (acts_shown plan (gated_log plan t))

@@ -1,15 +1,15 @@
 //! What came of a question to an archive, and of a watch.
-ghost use Rattle.std.specs.Prelude.{◌≡◌, ◌⊎◌, ◌≤◌, ◌^◌, ◌-◌};
+ghost use Rattle.std.specs.Prelude.{◌≡◌, ◌⊎◌, ◌≤◌, ◌^◌, ◌-◌, IfSome};
 ghost use Rattle.plan_volumes.specs.Shelves.{shelf_sight};
 ghost use Rattle.swallow_top.specs.Histories.{AskedNothing};
-ghost use Rattle.swallow_top.specs.Outcomes.{TellsAnswer, TellsOutcome, TellsWatch};
+ghost use Rattle.swallow_top.specs.Outcomes.{TellsAnswer, TellsOutcome, TellsSnapshot, TellsWatch};
 ghost use Rattle.swallow_top.specs.Retirements.{mark_at};
 ghost use Rattle.swallow_top.specs.Written.{sinking};
 
 use crate::histories::tell_text;
 use crate::retirements::mark_of;
 use crate::streams::write_all;
-use archive_promise::{Outcome, Question, ask, watch};
+use archive_promise::{Outcome, Question, ask, snapshot, watch};
 use command_words::Rule;
 use medium_port::{Medium, Shelf};
 use plan_volumes::Kept;
@@ -89,5 +89,24 @@ pub fn tell_watch<O: Sink, S: Shelf>(
         (sinking (O.taken sink.old) (O.taken sink.new) (O.faults sink.old) (O.faults sink.new)) result.0 }
 {
     let (outcome, media) = watch(alloc, repository, rule, shelf);
+    (tell_outcome(outcome, sink), media)
+}
+
+/// Writes the map of all repositories as of a clock, or else as of one above all theirs. The answer is the status,
+/// and the media that were taken, in the order of the repositories and volumes.
+pub fn tell_snapshot<O: Sink, S: Shelf>(
+    alloc: Global,
+    clock: Option<u64>,
+    sink: &mut O,
+    shelf: &mut S,
+) -> (u8, Vec<Kept<S::Medium>>)
+    requires { IfSome clock (λ c. (1 ≤ c) × (c ≤ 1099511627775)) }
+    ensures { AskedNothing S.Medium.Medium (shelf_sight S.Shelf shelf.old)
+        (shelf_sight S.Shelf shelf.new) result.1.items result.0
+        ⊎ TellsSnapshot S.Medium.Medium (shelf_sight S.Shelf shelf.old)
+        (shelf_sight S.Shelf shelf.new) clock result.1.items
+        (sinking (O.taken sink.old) (O.taken sink.new) (O.faults sink.old) (O.faults sink.new)) result.0 }
+{
+    let (outcome, media) = snapshot(alloc, clock, shelf);
     (tell_outcome(outcome, sink), media)
 }

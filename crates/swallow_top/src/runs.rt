@@ -15,8 +15,8 @@ use crate::media::{Finish, no_votes, quiet};
 use crate::reports::{Wanted, tell};
 use command_words::Options;
 use complete_law::{
-    law_of_added_reasons, law_of_answers, law_of_finals, law_of_reasons, law_of_serial_runs,
-    law_of_spent_acts,
+    law_of_added_reasons, law_of_answers, law_of_finals, law_of_late_attempts, law_of_reasons,
+    law_of_serial_runs, law_of_spent_acts,
 };
 use medium_port::{Medium, Shelf};
 use plan_form::Plan;
@@ -130,6 +130,7 @@ where
     );
     let kept = keep_nodes(plan, asides, media.into_vec(), kept);
     law_of_serial_runs();
+    law_of_late_attempts();
     law_of_finals();
     law_of_answers();
     law_of_reasons();

@@ -12,7 +12,7 @@ ghost use Rattle.swallow_top.specs.Written.{sinking};
 use crate::histories::tell_history;
 use crate::lines::fault_line;
 use crate::media::{Finish, quiet};
-use crate::outcomes::{tell_audit, tell_map, tell_watch};
+use crate::outcomes::{tell_audit, tell_map, tell_snapshot, tell_watch};
 use crate::plans::read_plan;
 use crate::reports::Wanted;
 use crate::retirements::tell_retirement;
@@ -85,6 +85,7 @@ fn tell_asked<O: Sink, S: Shelf>(
         Command::Watch { repository, rule } => tell_watch(alloc, repository, rule, sink, shelf),
         Command::AsOf { repository, clock } => tell_map(alloc, repository, clock, sink, shelf),
         Command::Audit(object) => tell_audit(alloc, object, sink, shelf),
+        Command::Snapshot { clock } => tell_snapshot(alloc, clock, sink, shelf),
         Command::Run(_) | Command::Load { .. } | Command::Votes(_) => (7, Vec::new(alloc)),
     }
 }
@@ -102,7 +103,9 @@ fn tell_asked<O: Sink, S: Shelf>(
 /// - `watch` brings the totals of a repository's objects by a rule up to date, which stand in its volume
 ///   1,001, 1,002 or 1,003, over all committed versions that its complete volumes have, and writes them;
 /// - `asof` writes the map of a repository's objects as of a mark, by its complete volumes together;
-/// - `audit` writes all versions of an object that they have, and which volume has each.
+/// - `audit` writes all versions of an object that they have, and which volume has each;
+/// - `snapshot` writes the map of all repositories as of a mark, by the complete volumes of all of them: what
+///   one doesn't know of an attempt is what the attempt's home knows.
 ///
 /// The status in the answer is the one with which a program ends:
 ///
@@ -120,8 +123,9 @@ fn tell_asked<O: Sink, S: Shelf>(
 /// - 7: memory runs out;
 /// - 8: the repository may not be retired at the mark, and nothing was written to its media:
 ///   `swallow: last volume`, `swallow: old mark FLOOR` or `swallow: undecided OBJECT START` says why; or
-///   there is no map as of the mark, and `swallow: undecided OBJECT START` says why; or no number holds
-///   a total, no total was written, and `swallow: overflow OBJECT START` says why.
+///   there is no map as of the mark, and `swallow: undecided OBJECT START` says why; or no clock is above
+///   those of the repositories, and `swallow: last clock` says so; or no number holds a total, no total was
+///   written, and `swallow: overflow OBJECT START` says why.
 pub fn swallow<
     I: Source,
     O: Sink,

@@ -4,3 +4,6 @@ pub mod RangeLemmas
 pub mod WatchLemmas
 pub mod KeptLemmas
 pub mod Names
+pub use Rattle.archive_command.proofs.AnswerLemmas
+pub use Rattle.run_volumes.proofs.ShelfLemmas
+pub use Rattle.run_volumes.proofs.StandLemmas

@@ -11,5 +11,8 @@ mod volumes;
 mod watching;
 mod writing;
 
-pub use archive_command::{Outcome, Question, ask};
+pub use archive_command::{
+    Outcome, Question, archived_of, ask, fallen, push_mark, push_values, refusal, refused, told,
+};
+pub use run_volumes::{Kept, Opening, Standing, give_back, keep_volumes, open_volumes, stand_of};
 pub use watching::watch;

@@ -65,7 +65,7 @@ returns-clause-ran g c =
     let s = sinking (k.taken c.args.sink.now) (k.taken c.tell-status.new.sink) (k.faults c.args.sink.now) (k.faults c.tell-status.new.sink) in
     let has = has-volumes w old new plan volumes openings c.open_nodes-openings.result.asides.items c.open_nodes-openings.result.wanting left c.of.result a.1 c.open_nodes-openings.ensures.count.1
     (c.of.ensures ∙ (c.keep_nodes-kept.ensures.kept volumes a.1.aside ∙ ap (λ l. kept_under (names_from plan 0 volumes) (all_left volumes l)) c.into_vec.ensures)) in
-    runs-plan w old new plan o told volumes left c.of.result has c.requires.plan c.law_of_serial_runs.ensures c.law_of_finals.ensures c.law_of_reasons.ensures c.law_of_answers.ensures c.law_of_spent_acts.ensures c.law_of_added_reasons.ensures c.place_has_past.ensures.past
+    runs-plan w old new plan o told volumes left c.of.result has c.requires.plan c.law_of_serial_runs.ensures c.law_of_late_attempts.ensures c.law_of_finals.ensures c.law_of_reasons.ensures c.law_of_answers.ensures c.law_of_spent_acts.ensures c.law_of_added_reasons.ensures c.place_has_past.ensures.past
     c.open_nodes-openings.result.wanting a.1.memory c.args.wanted c.run_opened-end.result.end c.tell-status.result.0 c.tell-status.result.1 s (c.run_opened-end.ensures.ends media a.1.given)
     (λ is. let e = c.run_opened-end.ensures.memory is in (e.0, subst (AllZip (IsLeftAlone w) media) (sym e.1) (opened-left w media openings a.1.given))) c.tell-status.ensures
 

@@ -1,0 +1,3 @@
+pub mod PartLemmas
+pub mod RepositoryLemmas
+pub use Rattle.watch_command.proofs.KeptLemmas

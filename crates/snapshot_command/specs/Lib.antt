@@ -1,0 +1,12 @@
+pub mod Repositories
+pub mod Snapshots
+pub mod Texts
+pub use Rattle.watch_command.specs.Answers
+pub use Rattle.watch_command.specs.ArchiveLines
+pub use Rattle.watch_command.specs.Archives
+pub use Rattle.watch_command.specs.Lines
+pub use Rattle.watch_command.specs.Outcome
+pub use Rattle.watch_command.specs.Question
+pub use Rattle.watch_command.specs.Totals
+pub use Rattle.watch_command.specs.Versions
+pub use Rattle.watch_command.specs.Watches
