@@ -74,6 +74,27 @@ for name in few many; do
 done
 awk -v few="$(least 2 < "$work/ours-few")" -v many="$(least 2 < "$work/ours-many")" 'BEGIN { printf "ten times as many acts: %.2f times as much each (wanted: 1.1)\n", many / few / 10 }'
 
+# The instructions of the words with the input $1, by callgrind: the same whatever else the machine does. Each byte
+# that the C library moves with one string instruction would count as one, so it is told to use others.
+counted() {
+  GLIBC_TUNABLES=glibc.cpu.x86_rep_stosb_threshold=1000000000:glibc.cpu.x86_rep_movsb_threshold=1000000000 \
+    valgrind --tool=callgrind --callgrind-out-file=/dev/null "${@:2}" < "$1" 2>&1 > /dev/null | awk '/Collected/ { print $4 }'
+}
+
+if command -v valgrind > /dev/null; then
+  echo "instructions of an act of a read and a write, opening (a run of one act over the same files) apart"
+  plan 1 1 > "$work/one"
+  for name in one few; do
+    folder "$memory/data" "$few" 1
+    counted "$work/$name" "$program" "$memory/data" run --messages 1000000 > "$work/count-ours-$name"
+    folder "$memory/data" "$few" 1
+    counted "$work/$name" "$work/peer" "$memory/data" > "$work/count-theirs-$name"
+  done
+  awk -v acts="$few" -v o1="$(cat "$work/count-ours-one")" -v o="$(cat "$work/count-ours-few")" -v t1="$(cat "$work/count-theirs-one")" -v t="$(cat "$work/count-theirs-few")" 'BEGIN {
+    ours = (o - o1) / (acts - 1); theirs = (t - t1) / (acts - 1)
+    printf "swallow %.0f, peer %.0f: %.2f times (wanted: 2.0); one act with opening: swallow %.0f, peer %.0f\n", ours, theirs, ours / theirs, o1, t1 }'
+fi
+
 echo "seconds over a disk, least of $turns"
 for turn in $(seq "$turns"); do
   folder "$work/data" "$few" 1

@@ -7,6 +7,7 @@ help_swallow_main() {
 ./swallow FOLDER watch R RULE               totals of repository R's objects, carried on: count, sum or last
 ./swallow FOLDER asof R CLOCK               writes the map of repository R's objects as of a clock
 ./swallow FOLDER audit OBJECT               writes all versions of an object that ever stood
+./swallow FOLDER snapshot [CLOCK]           writes the map of all repositories as of a clock, or as of now
 ./swallow FOLDER votes [OPTIONS] < POLLS    lets repositories 1 to 3 vote, and writes how each poll stands
 ./swallow FOLDER load SEED COUNT [OPTIONS]  runs COUNT + 1 acts made from SEED, and writes a summary
 ./swallow build                             proves and builds the program here, and compares it with release/
