@@ -169,7 +169,7 @@ lost() {
   name=${line%% *}
   (cd "$folder" && "$@")
   refused "$what" "$folder" "$name" "$line"
-  has "line of the look, $what" "$work/err" "$line"
+  has "line of the look, $what" "$work/err" "${look_line:-$line}"
   has "page of the look, $what" "$work/page" "can't be read"
   rm -rf "$folder" && cp -a "$work/copy" "$folder"
   "$program" "$folder" audit 1.1 > "$work/out" 2> "$work/err"
@@ -180,7 +180,8 @@ lost "a missing volume 1" "repository-1-1 is missing, and repository-1-2 is ther
 lost "a missing volume 0" "repository-1-0 is missing, and repository-1-1 is there" rm repository-1-0
 lost "a missing volume 2" "repository-1-2 is missing, and repository-1-3 is there" rm repository-1-2
 lost "two missing volumes" "repository-1-1 is missing, and repository-1-3 is there" rm repository-1-1 repository-1-2
-lost "an emptied volume 1" "repository-1-1 is blank, and repository-1-2 is there" truncate -s 0 repository-1-1
+# Of a file without bytes the look says that it can't be read.
+look_line="repository-1-1 is no medium that can be read" lost "an emptied volume 1" "repository-1-1 is blank, and repository-1-2 is there" truncate -s 0 repository-1-1
 
 # A blank file can be read, so the page shows it as blank, and the line alone tells.
 rm "$folder/repository-1-1" && truncate -s 16777216 "$folder/repository-1-1"
