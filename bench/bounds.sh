@@ -10,7 +10,7 @@ trap 'rm -rf "$work" "$memory"' EXIT
 . "$top/release/start.sh" && find_program swallow_lab || exit 1
 lab="$program"
 find_program swallow_main || exit 1
-rustc -O -o "$work/peer" "$top/bench/peer.rs" && cc -O2 -o "$work/syncs" "$top/bench/syncs.c" &&
+rustc --edition 2021 -O -o "$work/peer" "$top/bench/peer.rs" && cc -O2 -o "$work/syncs" "$top/bench/syncs.c" &&
   cc -O2 -shared -fPIC -o "$work/slow.so" "$top/bench/slow.c" && cc -O2 -o "$work/measure" "$top/bench/measure.c" || exit 1
 few=${1:-1000}
 many=$((few * 10))

@@ -11,6 +11,7 @@ help_swallow_main() {
 ./swallow FOLDER votes [OPTIONS] < POLLS    lets repositories 1 to 3 vote, and writes how each poll stands
 ./swallow FOLDER load SEED COUNT [OPTIONS]  runs COUNT + 1 acts made from SEED, and writes a summary
 ./swallow build                             proves and builds the program here, and compares it with release/
+./swallow test                              tries the program and what the pages show: some minutes, with no toolchain
 
 --workers W    threads, 1 to 16; 1 where it isn't given; votes has one
 --ticks T      the run ends after so many moments, 0 to 1,000,000; 10,000
