@@ -1,6 +1,6 @@
 #!/usr/bin/env bash
-# What `./swallow test` runs, with no toolchain: the sums of release/, all examples and what the pages show (docs.sh), the
-# system's mistakes (real.sh), 20 kills (kills.sh) and 200 power cuts (cuts.sh), some of them side by side. What can't be
+# What `./swallow test` runs, with no toolchain: the sums of release/, all examples and what the pages show (docs.sh), what
+# the starter prints (prompt.sh), the system's mistakes (real.sh), 20 kills (kills.sh) and 200 power cuts (cuts.sh), some of them side by side. What can't be
 # run here is skipped, with the reason. Its last line is `N passed, M failed`, and its status 0 if nothing failed.
 top="$(cd "$(dirname "${BASH_SOURCE[0]}")/.." && pwd)" || exit 1
 . "$top/release/start.sh" || exit 70
@@ -53,12 +53,15 @@ if has strace "power cuts" && has python3 "power cuts"; then
 fi
 begin sums "$top/bench/release.sh" check
 begin pages "$top/bench/docs.sh"
+begin prompt "$top/bench/prompt.sh"
 [ -z "$kills" ] || begin system "$top/bench/real.sh" 1
 [ -z "$cuts" ] || begin cuts "$top/bench/cuts.sh" "$cuts"
 [ -z "$kills" ] || begin kills "$top/bench/kills.sh" "$kills"
 wait
 count sums 1
 count pages 1
+count prompt 1
+grep '^skipped' "$work/prompt"
 if [ -n "$kills" ]; then
   grep 'left out\|^skip' "$work/system" | sed 's/^/system: /'
   count system 1

@@ -214,29 +214,61 @@ build_and_compare() {
   return 1
 }
 
-# Starts the program for somebody who reads standard error, and says what to do where the folder has another run.
+# Whether the words ask for help: there are none, or the last one is `--help` or `-h`, or `help` alone. No command has such words.
+asks_for_help() {
+  [ "$#" -ne 0 ] || return 0
+  case "${!#}" in
+  help) [ "$#" -eq 1 ] ;;
+  --help | -h) [ "$#" -eq 1 ] || [ "${@: -2:1}" != --words ] ;;
+  *) return 1 ;;
+  esac
+}
+
+# The lines of the help on a command of the program, and on its options; or on all commands if there is no such command.
+say_usage() {
+  local lines
+  . "$top/release/help.sh"
+  if lines=$("help_$crate" | grep -F "./$name FOLDER $1 "); then
+    [[ "$lines" != *OPTIONS* ]] || lines+=$'\n'$("help_$crate" | grep '^--')
+  else
+    lines=$("help_$crate" | grep -F "./$name ")
+  fi
+  say "these words aren't a command; './$name --help' has more:"
+  echo "$lines" >&2
+}
+
+# Starts the program for somebody who reads standard error, and says what it waits for and what to do about its status.
 start_before_a_reader() {
   local status
+  case "$crate ${2-}" in
+  "swallow_main run" | "swallow_main votes") [ ! -t 0 ] || say "'$2' reads from the terminal. Control-D ends the input; '< FILE' takes a file" ;;
+  esac
   "$program" "$@"
   status=$?
-  [ "$status" -ne 2 ] ||
-    say "for 'other plan' and 'old run': raise the number of 'run' in the plan's second line, or take another folder (docs/COMMANDS.md)"
-  [ "$status" -ne 126 ] || return
+  case $status in
+  1) say_usage "${2-}" ;;
+  2) say "for 'other plan' and 'old run': raise the number of 'run' in the plan's second line, or take another folder (docs/COMMANDS.md)" ;;
+  126) return ;;
+  esac
   exit "$status"
 }
 
-# Starts the program of a crate with the words behind it. One word alone may be the starter's: `build`, `--help`, `--version`.
+# Starts the program of a crate with the words after it. Some words are the starter's: those that ask for help, and `build` or
+# `--version` alone.
 start() {
   local words=("${@:2}")
+  if asks_for_help "${words[@]}"; then
+    name_program "$1"
+    . "$top/release/help.sh" && "help_$1"
+    exit
+  fi
   if [ "${#words[@]}" -eq 1 ]; then
     case "${words[0]}" in
     build) build_and_compare "$1"; exit ;;
-    --help) . "$top/release/help.sh" && "help_$1"; exit ;;
     --version) . "$top/release/help.sh" && tell_version "$1"; exit ;;
     esac
   fi
   find_program "$1" || exit 70
-  [ "$program" = "$built" ] || [ ! -t 2 ] || say "this is the program of release/; './$name build' proves and builds it here, and compares them"
   trap '' XFSZ # the program gets a limit on the size of files as an error of its write
   [ ! -t 2 ] || start_before_a_reader "${words[@]}"
   shopt -s execfail
