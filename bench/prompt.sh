@@ -57,6 +57,10 @@ if command -v script > /dev/null; then
   check terminal 'head -n 4 examples/first.plan | sed "s/run 1/run 2/" | ./swallow data run && ./swallow data run < examples/first.plan' 2 "raise the number of 'run'"
   check terminal './swallow fresh run' 2 "'run' reads from the terminal"
   check terminal './swallow fresh votes' 2 "'votes' reads from the terminal"
+  check terminal './swallow five run --messages 3 < examples/first.plan' 5 'run the same again'
+  check terminal './swallow five run < examples/first.plan' 0 'committed 1'
+  check terminal 'mkdir -p six/broker-1-0 && ./swallow six run < examples/first.plan' 6 'docs/OPERATIONS.md'
+  check terminal './swallow data retire 1 9 && ./swallow data retire 1 9' 8 'says for each line what to do'
 else
   echo "skipped: a terminal (script isn't here)"
 fi

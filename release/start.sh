@@ -248,6 +248,8 @@ start_before_a_reader() {
   case $status in
   1) say_usage "${2-}" ;;
   2) say "for 'other plan' and 'old run': raise the number of 'run' in the plan's second line, or take another folder (docs/COMMANDS.md)" ;;
+  5) say "run the same again; '--ticks' and '--messages' set when a run ends without an outcome (docs/COMMANDS.md)" ;;
+  6 | 8) say "docs/COMMANDS.md says for each line what to do, docs/OPERATIONS.md for files that were lost or are full" ;;
   126) return ;;
   esac
   exit "$status"
