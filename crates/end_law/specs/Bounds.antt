@@ -25,7 +25,7 @@ is_learn _ = false
 abbrev pub learn_count : List Entry → ℕ
 learn_count es = count_by is_learn es
 
--- Each copy is taken once, and closed by one Gate. Each node goes and goes down once. Behind each Tick a node hears it, and closes that. A crashed node goes and
+-- Each copy is taken once, and closed by one Gate. Each node goes and goes down once. After each Tick a node hears it, and closes that. A crashed node goes and
 -- hears again. A Learn is closed by one Gate.
 abbrev pub entries_by : Trace → ℕ
 entries_by t =
@@ -37,6 +37,6 @@ entries_by t =
 abbrev pub AllDecided : Base → List Entry → List StampParts → Type 0
 AllDecided b es decided = (s : StampParts) (c : Bool) → IsDecidedAs (walk b es) s c → Has s decided
 
--- So many attempts were decided: each repository learns of each once, and of each once more behind a crash.
+-- So many attempts were decided: each repository learns of each once, and of each once more after a crash.
 abbrev pub learns_by : Trace → List StampParts → ℕ
 learns_by t decided = (length t.opened + crash_count t.entries) * length decided

@@ -1,3 +1,4 @@
+//! Laws on how many entries and Learns a legal trace has.
 ghost use Rattle.std.specs.Prelude.{◌≤◌, ℕ, List, length};
 ghost use Rattle.pseudo_time.specs.StampParts.{StampParts};
 ghost use Rattle.stream_port.specs.declared.fates.Asked.{Asked};
