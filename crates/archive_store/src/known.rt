@@ -1,3 +1,5 @@
+//! What an archive knows of attempts: its joined marks, and how they settle stamps.
+
 ghost use Rattle.std.specs.Prelude.{◌≡◌, None, IfOk, reverse};
 ghost use Rattle.object_history.specs.History.{floor_of, settle_of};
 ghost use Rattle.archive_store.specs.Joined.{joined};

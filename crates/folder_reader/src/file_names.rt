@@ -1,3 +1,5 @@
+//! The names and paths of the files that hold media.
+
 use pseudo_time::NodeKind;
 use std::alloc::{AllocError, Global};
 

@@ -1,3 +1,5 @@
+//! Files that a folder has lost: a volume is missing below one that is there.
+
 use crate::file_names::{name_of, path_of};
 use folder_look::{MediumLook, MediumState};
 use pseudo_time::NodeKind;

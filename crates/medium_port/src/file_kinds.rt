@@ -1,3 +1,5 @@
+//! What kind of entry a path of the folder names: the program reads and writes regular files only.
+
 use crate::refusals::Refusal;
 use std::fs::{self, File};
 use std::io::ErrorKind;
