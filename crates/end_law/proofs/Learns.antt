@@ -1,6 +1,6 @@
 -- What repositories learn: where each Learn is new, a repository learns of each attempt once, and once more behind each of its crashes.
 use Rattle.effect_form.specs.declared.effects.Effect.{Effect}
-use Rattle.end_law.proofs.KnowsLemmas.{told-knows}
+use Rattle.world_core.proofs.KnowsLemmas.{told-knows}
 use Rattle.plan_form.specs.declared.plans.Plan.{Plan}
 use Rattle.message_core.proofs.NodeLemmas.{same_node-refl}
 use Rattle.pseudo_time.specs.Lists.{Has}

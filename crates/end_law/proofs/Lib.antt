@@ -1,4 +1,3 @@
-pub mod KnowsLemmas
 pub mod Learns
 pub mod Loads
 pub mod Steps

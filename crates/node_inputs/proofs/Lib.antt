@@ -1,4 +1,4 @@
-pub mod KnowsLemmas
+pub use Rattle.world_core.proofs.KnowsLemmas
 pub mod LifeLemmas
 pub mod MediumLemmas
 pub mod ReadyLemmas

@@ -2,6 +2,7 @@ pub mod Alikes
 pub mod Answered
 pub mod Closed
 pub mod CoreTurns
+pub mod KnowsLemmas
 pub mod Legality
 pub mod Lists
 pub mod Lives
