@@ -32,7 +32,7 @@ pub use Rattle.object_retirement.proofs.ForwardLemmas.{decide-forwarded, forward
 pub use Rattle.object_retirement.proofs.RetiredLemmas.{one-value, same-found, same-values, starts-has}
 pub use Rattle.object_retirement.specs.Forward.{MayRetire, forward, forwarded}
 pub use Rattle.object_retirement.specs.Older.{Gone}
-pub use Rattle.plan_form.specs.PlanTexts.{IsOfLanguage}
+pub use Rattle.plan_form.specs.PlanTexts.{CanRun}
 pub use Rattle.plan_form.specs.declared.plans.Plan.{Plan}
 pub use Rattle.pseudo_time.proofs.ListLemmas.{every-has, every-map, every-reverse, has-either, has-left, has-reverse, has-right}
 pub use Rattle.pseudo_time.proofs.OrderLemmas.{lt-asymmetric, lt-irreflexive, lt-own, lt-split, lt-stamps, lt-steps, lt-total, lt-trans, same_time-is, same_time-of}

@@ -1,5 +1,5 @@
 -- One reading of the scripts of all runs of a past, and the facts of the logs that it left.
-use Rattle.archive_law.proofs.Names.{repository, same_node, NodeId, Post, Tree, Plan, IsOfLanguage, forward, Asked, Trace, base_of, alike, own_reading, IsLegal, Base, walk_from, AreEarlier, Earlier, TickedBy, WereLeftOrRetired, replaced, sent_earlier, Running, Retiring, node_facts, OlderFacts, IsPast, log_after, ◌≡◌, ◌⊎◌, inl, inr, ℕ, Bool, true, false, nat_le, ◌&&◌, List, [], ◌∷◌, reverse, if◌then◌else◌, refl, sym, ◌∙◌, ap, subst, arith, leb-true, Ends, MayRetire, Legal, Meets, is_within, most_of, AreOfLanguage, logs_left}
+use Rattle.archive_law.proofs.Names.{repository, same_node, NodeId, Post, Tree, Plan, CanRun, forward, Asked, Trace, base_of, alike, own_reading, IsLegal, Base, walk_from, AreEarlier, Earlier, TickedBy, WereLeftOrRetired, replaced, sent_earlier, Running, Retiring, node_facts, OlderFacts, IsPast, log_after, ◌≡◌, ◌⊎◌, inl, inr, ℕ, Bool, true, false, nat_le, ◌&&◌, List, [], ◌∷◌, reverse, if◌then◌else◌, refl, sym, ◌∙◌, ap, subst, arith, leb-true, Ends, MayRetire, Legal, Meets, is_within, most_of, AreOfLanguage, logs_left}
 use Rattle.pseudo_time.specs.declared.nodes.NodeKind.{NodeKind}
 use Rattle.pseudo_time.specs.declared.nodes.NodeKind.TheVariants.{Repository, Broker}
 use Rattle.value_form.specs.declared.endings.Ending.TheVariants as ending
@@ -21,7 +21,7 @@ record SomeRun : Type 0 where
   plan : Plan
   asked : List Asked
   trace : Trace
-  whole : IsOfLanguage plan
+  whole : CanRun plan
   legal : IsLegal plan asked trace
 
 abbrev NoRuns : List Earlier → Type 0

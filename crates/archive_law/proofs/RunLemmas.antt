@@ -1,5 +1,5 @@
 -- The archive at the end of a run tells the map that the run's committed scripts leave, each carried out alone.
-use Rattle.archive_law.proofs.Names.{repository, StampParts, NodeId, Effect, Asked, Plan, IsOfLanguage, Trace, before, base_of, in_plan, alike, own_reading, IsLegal, WereLeftOrRetired, replaced, sent_earlier, whole_log, archive, TellsMap, ◌≡◌, ℕ, nat_le, true, ◌&&◌, List, [], ◌∷◌, ◌++◌, map, reverse, refl, sym, ◌∙◌, ap, subst, reverse-reverse, Try, OpenedWith, gated_log, sent_by, logs_at, volumes_with}
+use Rattle.archive_law.proofs.Names.{repository, StampParts, NodeId, Effect, Asked, Plan, CanRun, Trace, before, base_of, in_plan, alike, own_reading, IsLegal, WereLeftOrRetired, replaced, sent_earlier, whole_log, archive, TellsMap, ◌≡◌, ℕ, nat_le, true, ◌&&◌, List, [], ◌∷◌, ◌++◌, map, reverse, refl, sym, ◌∙◌, ap, subst, reverse-reverse, Try, OpenedWith, gated_log, sent_by, logs_at, volumes_with}
 use Rattle.serial_law.specs.Runs.{Position, TickedBefore, log_at, olds_at, run_at, sent_before, whole_at, world_at}
 use Rattle.serial_law.specs.Serials.{run_in, whole_in}
 use Rattle.serial_law.proofs.SameRuns.{before-same}
@@ -22,7 +22,7 @@ module _ (p : Position) (r : ℕ) where
 
 -- ---- the end of a run
 
-pub run-tells : (plan : Plan) (asked : List Asked) (t : Trace) (logs : NodeId → List Effect) (left : WereLeftOrRetired logs) (r : ℕ) (s : StampParts) → IsOfLanguage plan → IsLegal plan asked t → OpenedWith t.opened logs →
+pub run-tells : (plan : Plan) (asked : List Asked) (t : Trace) (logs : NodeId → List Effect) (left : WereLeftOrRetired logs) (r : ℕ) (s : StampParts) → CanRun plan → IsLegal plan asked t → OpenedWith t.opened logs →
     in_plan plan (repository r) ≡ true → TellsMap r (archive (volumes_with left.0 r (gated_log plan t (repository r)))) s (before (whole_in left.0 plan t) s)
 run-tells plan asked t logs left r s whole legal agrees inside =
     let k : Placed plan t left.0 = placed plan asked t whole legal logs left agrees in

@@ -25,7 +25,7 @@ use Rattle.serial_law.specs.Earlier.Earlier.{Running, Retiring}
 
 -- ---- calls, and the logs that they left
 
--- runs of plans of the language, and retirements, each over what those before it left; the last call stands first
+-- runs of plans that can run, and retirements, each over what those before it left; the last call stands first
 abbrev pub IsPast : List Earlier → Type 0
 IsPast cs = AreEarlier own_reading cs × AreOfLanguage cs
 

@@ -1,4 +1,4 @@
-// Each law holds over every past: runs of plans of the language and retirements, one after another.
+// Each law holds over every past: runs of plans that can run and retirements, one after another.
 ghost use Rattle.std.specs.Prelude.{◌≤◌, ℕ, List};
 ghost use Rattle.pseudo_time.specs.Lists.{Every};
 ghost use Rattle.pseudo_time.specs.StampParts.{StampParts};
@@ -8,7 +8,7 @@ ghost use Rattle.value_form.specs.declared.values.Value.{Value};
 ghost use Rattle.effect_form.specs.declared.effects.Effect.TheVariants as effect;
 ghost use Rattle.stream_port.specs.declared.fates.Asked.{Asked};
 ghost use Rattle.plan_form.specs.declared.plans.Plan.{Plan};
-ghost use Rattle.plan_form.specs.PlanTexts.{IsOfLanguage};
+ghost use Rattle.plan_form.specs.PlanTexts.{CanRun};
 ghost use Rattle.world_core.specs.declared.traces.Trace.{Trace};
 ghost use Rattle.world_core.specs.Deeds.{before};
 ghost use Rattle.world_core.specs.Readings.{IsLegal};
@@ -39,7 +39,7 @@ pub fn law_of_audit()
 pub fn law_of_asof()
     ensures pasts { (cs : List Earlier) (r n : ℕ) (s : StampParts) → IsPast cs → 1 ≤ r → r ≤ n →
         TellsMap r (archive (volumes_left cs r)) s (before (idle_run cs n) s) }
-    ensures runs { (plan : Plan) (asked : List Asked) (t : Trace) → IsOfLanguage plan → IsLegal plan asked t →
+    ensures runs { (plan : Plan) (asked : List Asked) (t : Trace) → CanRun plan → IsLegal plan asked t →
         TellsRun plan t }
 {}
 

@@ -1,5 +1,5 @@
 -- At an idle place the nodes rest, so every broker is done.
-use Rattle.complete_law.proofs.Names.{Every, Has, every-append, every-has, StampParts, TimeParts, same_stamp, same_stamp-is, NodeId, ObjectId, Value, Effect, Out, Post, Fate, copies_of, Tree, Plan, InRange, IsOfLanguage, asked_of, Inside, IsReady, StageOk, stage-ok, stop_of, HeldRead, known, waits_for, WriteSent, WasSent, decide-settles, Heard, eq-from, Request, Asks, ToRead, ToWrite, Act, Book, Try, book, find, front, last_try, open_try, tries, tries_of, Stage, Idle, Refused, Opening, Asking, Finishing, Closing, stage, standing, repository, broker, Scripted, Task, tasks, desk_at, state, TurnHolds, IsRested, IsAskOf, kept, acts_of, Base, Life, World, numbered, opened_log, sent_by, LogFacts, logs_at, node_facts, SentOk, each-has, Waits, DecidedAt, standing_at, is_done, read_to, AtRest, IsPlain, older, BookSound, HasSettled, Trail, ask_of, tell_of, found-in, in-range, ◌≡◌, ◌⊎◌, ℕ, zero, suc, ◌+◌, ◌==◌, ◌≤◌, nat_lt, Bool, true, false, ◌||◌, List, [], ◌∷◌, ◌++◌, reverse, min, refl, sym, ◌∙◌, ap, subst, Some, None, is_some, if◌then◌else◌, inl, inr, append-nil, arith, false≢true, JustNodes, none-has, AllDecided, last-among, open-among, within}
+use Rattle.complete_law.proofs.Names.{Every, Has, every-append, every-has, StampParts, TimeParts, same_stamp, same_stamp-is, NodeId, ObjectId, Value, Effect, Out, Post, Fate, copies_of, Tree, Plan, InRange, CanRun, asked_of, Inside, IsReady, StageOk, stage-ok, stop_of, HeldRead, known, waits_for, WriteSent, WasSent, decide-settles, Heard, eq-from, Request, Asks, ToRead, ToWrite, Act, Book, Try, book, find, front, last_try, open_try, tries, tries_of, Stage, Idle, Refused, Opening, Asking, Finishing, Closing, stage, standing, repository, broker, Scripted, Task, tasks, desk_at, state, TurnHolds, IsRested, IsAskOf, kept, acts_of, Base, Life, World, numbered, opened_log, sent_by, LogFacts, logs_at, node_facts, SentOk, each-has, Waits, DecidedAt, standing_at, is_done, read_to, AtRest, IsPlain, older, BookSound, HasSettled, Trail, ask_of, tell_of, found-in, in-range, ◌≡◌, ◌⊎◌, ℕ, zero, suc, ◌+◌, ◌==◌, ◌≤◌, nat_lt, Bool, true, false, ◌||◌, List, [], ◌∷◌, ◌++◌, reverse, min, refl, sym, ◌∙◌, ap, subst, Some, None, is_some, if◌then◌else◌, inl, inr, append-nil, arith, false≢true, JustNodes, none-has, AllDecided, last-among, open-among, within}
 use Rattle.effect_form.specs.declared.effects.Effect.TheVariants as effect
 use Rattle.message_form.specs.declared.messages.Message.TheVariants as message
 use Rattle.complete_law.proofs.Ranges.{asks-kept, same-run, try-kept}
@@ -48,7 +48,7 @@ module _ (script : List ℕ → Tree) (me run : ℕ) (acts : List Task) (Begun D
 module _ (b : Base) (plan : Plan) (May : ℕ → Type 0) (w : World) (fates : List Fate) (nodes : JustNodes plan b.opened) (plain : Every IsPlain fates) (calm : CalmWorld b w)
     (knowns : (n : NodeId) → (w.flags n).known ≡ is_some (opened_log b.opened n))
     (facts : LogFacts (node_facts b.script) b (logs_at (λ n. []) w) [] (sent_by w) May) (idle : legal.Idle fates w)
-    (whole : IsOfLanguage plan) (scripted : Scripted b.script plan.acts) (same-acts : b.acts ≡ plan.acts) where
+    (whole : CanRun plan) (scripted : Scripted b.script plan.acts) (same-acts : b.acts ≡ plan.acts) where
   abbrev L : NodeId → List Effect
   L n = reverse (logs_at (λ n. []) w n)
 

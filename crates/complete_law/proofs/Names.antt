@@ -45,7 +45,7 @@ pub use Rattle.object_history.specs.History.{alive, floor_of, is_alive, is_settl
 unfoldable pub use Rattle.object_history.specs.History.{settle_of}
 pub use Rattle.object_history.specs.declared.steps.ReadStep.{ReadStep}
 pub use Rattle.object_history.specs.declared.steps.WriteStep.{WriteStep}
-pub use Rattle.plan_form.specs.PlanTexts.{EachAct, IsOfLanguage}
+pub use Rattle.plan_form.specs.PlanTexts.{EachAct, CanRun}
 pub use Rattle.plan_form.specs.Plans.{InRange}
 pub use Rattle.plan_form.specs.declared.plans.Plan.{Plan}
 pub use Rattle.pseudo_time.proofs.ListLemmas.{every-append, every-has, every-left, every-map, every-right, has-either, has-left, has-reverse, has-right}

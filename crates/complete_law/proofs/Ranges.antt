@@ -1,12 +1,12 @@
 -- Homes and objects of attempts lie within the plan's repositories, also of the request that stands.
-use Rattle.complete_law.proofs.Names.{Has, every-has, ActSpec, Effect, Request, Asks, Tree, Plan, InRange, IsOfLanguage, task_of, tasks, Scripted, Try, book, tries_of, stop_of, IsReady, IsTidy, acts_of, asked_of, Inside, every-at, every-filter, ◌≡◌, ℕ, ◌==◌, nat_lt, false, List, sym, ap, subst, arith, common_steps, after, IsPlanned, planned, request_at, try-home, inside-after, inside-asks}
+use Rattle.complete_law.proofs.Names.{Has, every-has, ActSpec, Effect, Request, Asks, Tree, Plan, InRange, CanRun, task_of, tasks, Scripted, Try, book, tries_of, stop_of, IsReady, IsTidy, acts_of, asked_of, Inside, every-at, every-filter, ◌≡◌, ℕ, ◌==◌, nat_lt, false, List, sym, ap, subst, arith, common_steps, after, IsPlanned, planned, request_at, try-home, inside-after, inside-asks}
 use Rattle.serial_law.proofs.RunFacts.{IsKept, kept-acts, kept-tasks}
 
 pub same-run : (m n : ℕ) → nat_lt m n ≡ false → nat_lt n m ≡ false → m ≡ n
 same-run m n h k = grind (arith, common_steps)
 
 -- an attempt of the run is at the home of its act, which lies within the plan, as its objects do
-pub try-kept : (script : List ℕ → Tree) (plan : Plan) (i run : ℕ) (log : List Effect) (t : Try) → IsOfLanguage plan → Scripted script plan.acts → IsTidy script i log → IsReady script i run (tasks (acts_of i plan.acts)) log → (book log).run ≡ run →
+pub try-kept : (script : List ℕ → Tree) (plan : Plan) (i run : ℕ) (log : List Effect) (t : Try) → CanRun plan → Scripted script plan.acts → IsTidy script i log → IsReady script i run (tasks (acts_of i plan.acts)) log → (book log).run ≡ run →
     Has t (tries_of (book log).acts) → InRange plan.repositories t.stamp.home × Inside plan.repositories (script t.task.script)
 try-kept script plan i run log t whole scripted tidy ready same has =
     let mine : IsPlanned run (tasks (acts_of i plan.acts)) t = every-has (IsPlanned run (tasks (acts_of i plan.acts))) (tries_of (book log).acts) t (planned script i run (tasks (acts_of i plan.acts)) log tidy ready same) has in

@@ -16,7 +16,7 @@ use Rattle.stream_port.specs.declared.fates.Fate.{Fate}
 use Rattle.serial_model.specs.Questions.{Tree, Ends, Says, Reads, Writes}
 use Rattle.plan_form.specs.declared.plans.Plan.{Plan}
 use Rattle.plan_form.specs.Plans.{InRange}
-use Rattle.plan_form.specs.PlanTexts.{IsOfLanguage}
+use Rattle.plan_form.specs.PlanTexts.{CanRun}
 use Rattle.broker_core.specs.Tasks.{Task, task_of, tasks}
 use Rattle.broker_core.specs.Book.{Act, Book, Try, book}
 use Rattle.broker_core.specs.Fits.{keep}
@@ -52,13 +52,13 @@ IsPlain fate = (fate.copies ≡ 1) × (fate.hold ≡ 0)
 abbrev pub AreEmpty : List Opened → Type 0
 AreEmpty opened = (n : NodeId) (log : List Effect) → opened_log opened n ≡ Some log → log ≡ []
 
--- A run of a plan of the language over empty logs, of whose messages none is lost, repeated or held. `script` reads the texts of scripts.
+-- A run of a plan that can run, over empty logs, of whose messages none is lost, repeated or held. `script` reads the texts of scripts.
 pub record CalmRun : Type 0 where
   pub script : List ℕ → Tree
   pub plan : Plan
   pub asked : List Asked
   pub trace : Trace
-  pub whole : IsOfLanguage plan
+  pub whole : CanRun plan
   pub legal : Legal script plan asked trace
   pub empty : AreEmpty trace.opened
   pub plain : Every IsPlain (fates_of trace.sent)

@@ -8,7 +8,7 @@ use Rattle.effect_form.specs.declared.effects.Effect.{Effect}
 use Rattle.stream_port.specs.declared.fates.Asked.{Asked}
 use Rattle.serial_model.specs.Questions.{Tree}
 use Rattle.plan_form.specs.declared.plans.Plan.{Plan}
-use Rattle.plan_form.specs.PlanTexts.{IsOfLanguage}
+use Rattle.plan_form.specs.PlanTexts.{CanRun}
 use Rattle.world_core.specs.declared.entries.Entry.{Entry}
 use Rattle.world_core.specs.declared.entries.Entry.TheVariants.{Down}
 use Rattle.world_core.specs.declared.traces.Trace.{Trace}
@@ -125,7 +125,7 @@ came-there read plan asked t front rest logs after past agrees legal here left =
 
 -- ---- by plans alone
 
-pub were-left-there : (plan : Plan) (asked : List Asked) (t : Trace) (front rest : List Entry) (logs after : NodeId → List Effect) → IsOfLanguage plan
+pub were-left-there : (plan : Plan) (asked : List Asked) (t : Trace) (front rest : List Entry) (logs after : NodeId → List Effect) → CanRun plan
     → WereLeftOrRetired logs → OpenedWith t.opened logs → IsLegal plan asked t → t.entries ≡ front ++ rest → LeftAt plan t front logs after → WereLeftOrRetired after
 were-left-there plan asked t front rest logs after whole past agrees legal here left =
     let e : EndsThere (own_reading plan) plan t front = ends-there (own_reading plan) plan asked t front rest legal here in (

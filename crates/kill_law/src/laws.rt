@@ -4,7 +4,7 @@ ghost use Rattle.effect_form.specs.declared.effects.Effect.{Effect};
 ghost use Rattle.stream_port.specs.declared.fates.Asked.{Asked};
 ghost use Rattle.serial_model.specs.Questions.{Tree};
 ghost use Rattle.plan_form.specs.declared.plans.Plan.{Plan};
-ghost use Rattle.plan_form.specs.PlanTexts.{IsOfLanguage};
+ghost use Rattle.plan_form.specs.PlanTexts.{CanRun};
 ghost use Rattle.world_core.specs.declared.entries.Entry.{Entry};
 ghost use Rattle.world_core.specs.declared.traces.Trace.{Trace};
 ghost use Rattle.world_core.specs.Legal.{Legal, in_plan};
@@ -18,7 +18,7 @@ ghost use Rattle.kill_law.specs.Places.{LeftAt, LeftBy, PlacesHavePasts, life_th
 /// had, the logs are again such as runs and retirements left. Each has all that its node had made durable
 /// there.
 pub fn place_has_past()
-    ensures past { (plan : Plan) (asked : List Asked) (t : Trace) → IsOfLanguage plan → IsLegal plan asked t →
+    ensures past { (plan : Plan) (asked : List Asked) (t : Trace) → CanRun plan → IsLegal plan asked t →
         PlacesHavePasts plan t }
     ensures script { (script : List ℕ → Tree) (plan : Plan) (asked : List Asked) (t : Trace) (front rest : List Entry)
         (logs after : NodeId → List Effect) → ComeFrom (alike script) logs → OpenedWith t.opened logs →

@@ -1,7 +1,7 @@
 -- The names that the proofs of this crate cite, passed on from one place. Declares nothing.
 pub use Rattle.plan_form.specs.Making.{account, account_read, account_sum, act_of, after_act, audit, balance, drawn, drawn_act, last_step, made_plan, round, step, sums, target_of, transfer, transfer_act, transfers}
 pub use Rattle.plan_form.specs.PlanFaults.{BodyFault, IsNumbered, IsPlanFault, Lacks, LinesFault, Reaches, ScriptFault}
-pub use Rattle.plan_form.specs.PlanTexts.{EachAct, IsAct, IsOfLanguage, act_line, act_text, acts_text, head_text, plan_text}
+pub use Rattle.plan_form.specs.PlanTexts.{EachAct, IsAct, IsOfLanguage, CanRun, act_line, act_text, acts_text, head_text, plan_text}
 pub use Rattle.plan_form.specs.Plans.{AreActs, HasHead, InRange, IsActLine, IsPlan, IsPlanLines, act_front, before_done, behind_done, brokers_line, has_done, is_done, is_done_word, is_space, past_blanks, repositories_line, run_line, terms, title}
 pub use Rattle.plan_form.specs.Reading.{after_front, behind_digits, clock_at, digits_of, is_numeral, number_alone, number_behind, number_first, terms_at, ◌>>=◌}
 pub use Rattle.plan_form.specs.Reads.{IsActRead, IsScriptRead, ReadsAct, ReadsActs, ReadsHead, ReadsScript, script_fault}

@@ -1,5 +1,5 @@
 -- The canonical text of a plan is that plan.
-use Rattle.plan_form.proofs.Names.{◌≡◌, ℕ, ◌+◌, ◌-◌, ◌<◌, ◌≤◌, ◌^◌, ◌⊎◌, inl, inr, cond, List, [], ◌∷◌, ◌++◌, length, refl, sym, ap, ◌∙◌, subst, arith, append_assoc, append-nil, ◌==◌, decimal, codes, replicate, Decides-eqb, by_test, AllPass-from, ActSpec, block, Numbered, rows, row_text, line_text, rows_text, script_text, lines_from, lines, IsScriptLines, Shown, shown-append, shown_number, line_ends, shown_stays, printed_is_script, Terms, Plan, InRange, title, run_line, repositories_line, brokers_line, act_front, IsActLine, terms, before_done, behind_done, AreActs, IsPlan, act_line, act_text, acts_text, head_text, plan_text, IsAct, EachAct, IsOfLanguage}
+use Rattle.plan_form.proofs.Names.{◌≡◌, ℕ, ◌+◌, ◌-◌, ◌<◌, ◌≤◌, ◌^◌, ◌⊎◌, inl, inr, cond, List, [], ◌∷◌, ◌++◌, length, refl, sym, ap, ◌∙◌, subst, arith, append_assoc, append-nil, ◌==◌, decimal, codes, replicate, Decides-eqb, by_test, AllPass-from, ActSpec, block, Numbered, rows, row_text, line_text, rows_text, script_text, lines_from, lines, IsScriptLines, Shown, shown-append, shown_number, line_ends, shown_stays, printed_is_script, Terms, Plan, InRange, title, run_line, repositories_line, brokers_line, act_front, IsActLine, terms, before_done, behind_done, AreActs, IsPlan, act_line, act_text, acts_text, head_text, plan_text, IsAct, EachAct, IsOfLanguage, CanRun}
 use Rattle.std.specs.Int.{is_in_range}
 use Rattle.std.specs.Str.Lines.{strip_carriage_return}
 use Rattle.script_form.proofs.ReadLimitLemmas.{script_is_printable}
@@ -135,13 +135,13 @@ printed_is_plan plan h small = (
   record {
     body = lines (acts_text plan.acts);
     head = record {
-      is = head_lines plan.run plan.repositories plan.brokers (acts_text plan.acts) h.run h.repositories h.brokers;
-      run_is = h.run;
-      repositories_are = h.repositories;
-      brokers_are = h.brokers;
+      is = head_lines plan.run plan.repositories plan.brokers (acts_text plan.acts) h.0.run h.0.repositories (h.1, h.0.brokers);
+      run_is = h.0.run;
+      repositories_are = h.0.repositories;
+      brokers_are = (h.1, h.0.brokers);
     };
-    acts = acts_are plan.repositories plan.brokers 1 plan.acts h.repositories.1 h.brokers.1 h.acts;
-    few = h.few;
+    acts = acts_are plan.repositories plan.brokers 1 plan.acts h.0.repositories.1 h.0.brokers h.0.acts;
+    few = h.0.few;
   },
 )
 
@@ -162,11 +162,14 @@ each_act r b n (act ∷ more) ls (line, rest, parts, index, says, has, script, n
   each_act r b (n + 1) more (behind_done rest) next,
 )
 
-pub plan_is_whole : (bytes : List ℕ) (plan : Plan) → IsPlan bytes plan → IsOfLanguage plan
-plan_is_whole bytes plan (small, h) = record {
+pub plan_can_run : (bytes : List ℕ) (plan : Plan) → IsPlan bytes plan → CanRun plan
+plan_can_run bytes plan (small, h) = record {
   run = h.head.run_is;
   repositories = h.head.repositories_are;
-  brokers = h.head.brokers_are;
+  brokers = h.head.brokers_are.1;
   acts = each_act plan.repositories plan.brokers 1 plan.acts h.body h.acts;
   few = h.few;
 }
+
+pub plan_is_of_language : (bytes : List ℕ) (plan : Plan) → IsPlan bytes plan → IsOfLanguage plan
+plan_is_of_language bytes plan is = (plan_can_run bytes plan is, is.1.head.brokers_are.0)

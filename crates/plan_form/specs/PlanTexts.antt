@@ -45,10 +45,14 @@ abbrev pub EachAct : (repositories brokers n : ℕ) → List ActSpec → Type 0
 EachAct repositories brokers n [] = Unit {0}
 EachAct repositories brokers n (act ∷ more) = IsAct repositories brokers n act × EachAct repositories brokers (n + 1) more
 
--- a plan of the language: its numbers are in their ranges, its acts are numbered from 1, and their scripts are of the language
-pub record IsOfLanguage (plan : Plan) : Type 0 where
+-- A plan that can run: its numbers are in their ranges, its acts are numbered from 1, and their scripts are of the language. Without a broker it has no act.
+pub record CanRun (plan : Plan) : Type 0 where
   pub run : InRange (2 ^ 32 - 1) plan.run
   pub repositories : InRange 16 plan.repositories
-  pub brokers : InRange 16 plan.brokers
+  pub brokers : plan.brokers ≤ 16
   pub acts : EachAct plan.repositories plan.brokers 1 plan.acts
   pub few : length plan.acts ≤ 10000
+
+-- a plan of the language can run, and has a broker
+abbrev pub IsOfLanguage : Plan → Type 0
+IsOfLanguage plan = CanRun plan × (1 ≤ plan.brokers)

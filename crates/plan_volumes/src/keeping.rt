@@ -1,7 +1,7 @@
 //! The volumes of all nodes are handed back.
 ghost use Rattle.std.specs.Prelude.{◌≡◌, ◌≤◌, ◌+◌, ◌*◌, ◌++◌, [], length, map, List, vec_len, vec_capacity};
 ghost use Rattle.std.specs.List.{AllZip};
-ghost use Rattle.plan_form.specs.PlanTexts.{IsOfLanguage};
+ghost use Rattle.plan_form.specs.PlanTexts.{CanRun};
 ghost use Rattle.run_volumes.specs.Openings.{medium_in};
 ghost use Rattle.run_volumes.specs.Places as order;
 ghost use Rattle.run_volumes.specs.Kept.{kept_under};
@@ -45,7 +45,7 @@ pub fn keep_nodes<M: Medium>(
     media: Vec<Option<M>>,
     kept: Vec<Kept<M>>,
 ) -> Vec<Kept<M>>
-    requires plan { IsOfLanguage plan.now }
+    requires plan { CanRun plan.now }
     requires asides { (volumes : List (NodeVolumes M.Medium)) × AllZip IsAside volumes asides.items }
     requires within { vec_len asides ≤ order.node_count plan.now }
     requires count { vec_len media ≡ vec_len asides }

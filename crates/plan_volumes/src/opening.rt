@@ -1,6 +1,6 @@
 //! The volumes of all nodes are taken and opened.
 ghost use Rattle.std.specs.Prelude.{◌≡◌, ◌≤◌, [], length, List, All, vec_capacity};
-ghost use Rattle.plan_form.specs.PlanTexts.{IsOfLanguage};
+ghost use Rattle.plan_form.specs.PlanTexts.{CanRun};
 ghost use Rattle.run_volumes.specs.Places as order;
 ghost use Rattle.run_volumes.specs.Shelves.{shelf_sight};
 ghost use Rattle.plan_volumes.specs.Asides.{AreApart, IsApart};
@@ -52,7 +52,7 @@ pub fn open_nodes<S: Shelf>(
     openings: Vec<Opening<S::Medium>>,
     asides: Vec<Aside<S::Medium>>,
 ) -> Opened<S::Medium>
-    requires plan { IsOfLanguage plan.now }
+    requires plan { CanRun plan.now }
     requires rooms { length rooms.items ≡ order.node_count plan.now }
     requires room { All (λ room. room.items ≡ []) rooms.items × All (λ room. 1000 ≤ vec_capacity room) rooms.items }
     requires openings { (openings.items ≡ []) × (order.node_count plan.now ≤ vec_capacity openings) }

@@ -1,5 +1,5 @@
 ghost use Rattle.std.specs.Prelude.{◌≡◌, ◌≤◌, [], length, vec_capacity, All, IfOk};
-ghost use Rattle.plan_form.specs.PlanTexts.{IsOfLanguage};
+ghost use Rattle.plan_form.specs.PlanTexts.{CanRun};
 ghost use Rattle.run_volumes.specs.Places as order;
 ghost use Rattle.plan_volumes.specs.Asides.{HasRoom};
 
@@ -34,7 +34,7 @@ fn node_rooms<M: Medium>(alloc: Global, count: usize) -> Result<Vec<Vec<Opening<
 
 /// Room for the volumes of the plan's nodes. A node has at most 1,000.
 pub fn make_rooms<M: Medium>(alloc: Global, plan: &Plan) -> Result<Rooms<M>, AllocError>
-    requires { IsOfLanguage plan.now }
+    requires { CanRun plan.now }
     ensures { IfOk result (HasRoom (order.node_count plan.now)) }
 {
     let count = node_count(plan);

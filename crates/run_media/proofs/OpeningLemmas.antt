@@ -5,7 +5,7 @@ use Rattle.run_media.proofs.Names.{◌≡◌, ◌≢◌, ◌≤◌, ◌<◌, ◌
 use Rattle.pseudo_time.specs.Lists.{Every}
 use Rattle.pseudo_time.specs.declared.down_causes.DownCause.{DownCause}
 use Rattle.version_store.specs.declared.stores.Store.{Store}
-use Rattle.plan_form.specs.PlanTexts.{IsOfLanguage}
+use Rattle.plan_form.specs.PlanTexts.{CanRun}
 use Rattle.serial_model.specs.Questions.{Tree}
 use Rattle.broker_core.specs.ResumeFault.{ResumeFault}
 use Rattle.broker_core.specs.Book.{book}
@@ -39,7 +39,7 @@ every-filter P test (x ∷ xs) h = go (test x) (every-filter P test xs h.1)
     go false rest = rest
 
 -- the reading of a plan's acts reads those of each broker
-pub reads-own : (plan : Plan) (number : ℕ) → IsOfLanguage plan → Scripted (reading plan.acts) (acts_of number plan.acts)
+pub reads-own : (plan : Plan) (number : ℕ) → CanRun plan → Scripted (reading plan.acts) (acts_of number plan.acts)
 reads-own plan number w = every-filter _ _ plan.acts (own-reading plan w)
 
 -- ---- logs
@@ -67,12 +67,12 @@ fresh-fault s b r ts some = by (nat_lt r 0) (0 == r) refl refl
     by false false e f = refl
 
 -- a log without effects refuses no plan
-pub blank-refuses : (plan : Plan) (number : ℕ) (log : List Effect) → IsOfLanguage plan → length log ≡ 0 → RefusesLog plan number log None
+pub blank-refuses : (plan : Plan) (number : ℕ) (log : List Effect) → CanRun plan → length log ≡ 0 → RefusesLog plan number log None
 blank-refuses plan number [] w none = fresh-fault (reading plan.acts) number plan.run (tasks (acts_of number plan.acts)) w.run.0
 blank-refuses plan number (f ∷ log) w none = absurd (let some : suc (length log) ≡ 0 = none in omega (arith, some))
 
 -- an empty log is one to go on from
-pub fresh-ready : (plan : Plan) (n : NodeId) → IsOfLanguage plan → IsReadyFor plan n []
+pub fresh-ready : (plan : Plan) (n : NodeId) → CanRun plan → IsReadyFor plan n []
 fresh-ready plan n w = ready-of plan n [] (go n.kind n.number)
   where
     go : (k : NodeKind) (i : ℕ) → kind_fault plan k i [] ≡ None
@@ -97,7 +97,7 @@ split-at (y ∷ xs) (suc i) x lt e =
     ap (λ l. y ∷ l) (split-at xs i x (omega (arith, lt)) e) ∙ (ap (λ j. y ∷ (take i xs ++ x ∷ drop j xs)) n ∙ ap (λ j. y ∷ (take i xs ++ x ∷ drop j (y ∷ xs))) (sym m))
 
 module _ {M : Type 0} {g : _} (plan : Plan) (n : NodeId) (o : Opening M g) where
-  pub refuses-shut : (medium : Option M) (cause : DownCause) → o ≡ Shut medium cause → IsOfLanguage plan → Refuses plan n o None
+  pub refuses-shut : (medium : Option M) (cause : DownCause) → o ≡ Shut medium cause → CanRun plan → Refuses plan n o None
   refuses-shut medium cause is w = subst (λ (x : Opening M g). Refuses plan n x None) (sym is) (fresh-ready plan n w, λ x. x)
 
   pub refuses-repository : (store : Store M g) (effects : Vec Effect Global) → o ≡ Open store effects → n.kind ≡ Repository → Refuses plan n o None

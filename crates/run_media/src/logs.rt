@@ -1,6 +1,6 @@
 //! The nodes of a plan, with the logs of what was opened.
 ghost use Rattle.std.specs.Prelude.{◌≡◌, length, IfOk};
-ghost use Rattle.plan_form.specs.PlanTexts.{IsOfLanguage};
+ghost use Rattle.plan_form.specs.PlanTexts.{CanRun};
 ghost use Rattle.world_core.specs.Legal.{JustNodes};
 ghost use Rattle.run_media.specs.Openings.{log_in, opened_from};
 ghost use Rattle.run_media.specs.Places.{node_count};
@@ -40,7 +40,7 @@ pub fn opened_nodes<M: Medium>(
     plan: &Plan,
     openings: &[Opening<M>],
 ) -> Result<Vec<Opened>, AllocError>
-    requires plan { IsOfLanguage plan.now }
+    requires plan { CanRun plan.now }
     requires count { length openings.now ≡ node_count plan.now }
     ensures opened { IfOk result (λ opened. opened.items ≡ opened_from plan.now 0 openings.now) }
     ensures nodes { IfOk result (λ opened. JustNodes plan.now opened.items) }

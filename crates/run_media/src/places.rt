@@ -1,6 +1,6 @@
 //! The order of a plan's nodes.
 ghost use Rattle.std.specs.Prelude.{◌≡◌, ◌<◌, true, IfOk};
-ghost use Rattle.plan_form.specs.PlanTexts.{IsOfLanguage};
+ghost use Rattle.plan_form.specs.PlanTexts.{CanRun};
 ghost use Rattle.world_core.specs.Legal.{in_plan};
 ghost use Rattle.world_core.specs.Nodes.{acts_of};
 ghost use Rattle.run_media.specs.Places as order;
@@ -19,7 +19,7 @@ pub fn node_count(plan: &Plan) -> usize
 
 /// The node in this place of a plan: repositories first, rising.
 pub fn node_at(plan: &Plan, place: usize) -> NodeId
-    requires plan { IsOfLanguage plan.now }
+    requires plan { CanRun plan.now }
     requires place { place < order.node_count plan.now }
     ensures place { result ≡ order.node_at plan.now place }
     ensures named { in_plan plan.now result ≡ true }

@@ -1,7 +1,7 @@
 //! Why no run of a plan begins over opened media.
 ghost use Rattle.std.specs.Prelude.{◌≡◌, ◌≤◌, length, true, All};
 ghost use Rattle.effect_form.specs.Effects.{AreEffects};
-ghost use Rattle.plan_form.specs.PlanTexts.{IsOfLanguage};
+ghost use Rattle.plan_form.specs.PlanTexts.{CanRun};
 ghost use Rattle.world_core.specs.Legal.{in_plan};
 ghost use Rattle.run_media.specs.Places.{node_count};
 ghost use Rattle.run_media.specs.Openings.{IsRefusalFor, RefusesLog, Refuses, FirstRefusal, IsInRange};
@@ -28,7 +28,7 @@ fn refusal_for(fault: ResumeFault) -> Refusal
 
 // Why a broker can't resume from its log in a run of this plan.
 fn broker_refusal(alloc: Global, plan: &Plan, number: u8, effects: &[Effect]) -> Option<Refusal>
-    requires plan { IsOfLanguage plan.now }
+    requires plan { CanRun plan.now }
     requires low { 1 ≤ number }
     requires high { number ≤ 16 }
     requires in_range { AreEffects effects.now }
@@ -54,7 +54,7 @@ fn refusal_of<M: Medium>(
     node: NodeId,
     opening: &Opening<M>,
 ) -> Option<Refusal>
-    requires plan { IsOfLanguage plan.now }
+    requires plan { CanRun plan.now }
     requires node { in_plan plan.now node ≡ true }
     requires in_range { IsInRange opening.now }
     ensures { Refuses plan.now node opening.now result }
@@ -76,7 +76,7 @@ pub fn first_refusal<M: Medium>(
     plan: &Plan,
     openings: &[Opening<M>],
 ) -> Option<Refusal>
-    requires plan { IsOfLanguage plan.now }
+    requires plan { CanRun plan.now }
     requires count { length openings.now ≡ node_count plan.now }
     requires in_range { All IsInRange openings.now }
     ensures { FirstRefusal plan.now openings.now result }

@@ -6,7 +6,7 @@ pub use Rattle.kill_law.proofs.Ranges.{in-range}
 pub use Rattle.medium_port.specs.Image.{Image}
 pub use Rattle.medium_port.specs.Moment.{Goes, LeftNow, Stage, goes_nowhere}
 pub use Rattle.message_core.proofs.NodeLemmas.{same_is, same_node-refl}
-pub use Rattle.plan_form.specs.PlanTexts.{IsOfLanguage}
+pub use Rattle.plan_form.specs.PlanTexts.{CanRun}
 pub use Rattle.plan_form.specs.declared.plans.Plan.{Plan}
 pub use Rattle.pseudo_time.proofs.ListLemmas.{every-has, every-map, has-right}
 pub use Rattle.pseudo_time.specs.Lists.{Every, Has}

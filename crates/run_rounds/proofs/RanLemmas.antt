@@ -1,5 +1,5 @@
 -- From how its nodes ended, and what the closing of its wire tells, to the end of a run.
-use Rattle.run_rounds.proofs.Names.{NodeId, broker, is_broker, NodeKind, Repository, Broker, DownCause, Asked, Image, LeftNow, View, Founding, LockTable, CarriesOn, knows, Plan, IsOfLanguage, reading, Entry, Trace, Base, walk, Idle, base_of, fates_of, in_plan, is_within, most_of, Origin, WireParts, owner_of, IsOf, IsWirePass, LeavesUntold, tick_count, Condition, NodeParts, IsAtRest, Stands, sight, is_over, Limits, Reason, HasMemory, IsDone, IsLateAfter, is_done_at, Opening, Media, AreReady, HasOpened, IsOpen, node_at, node_count, in-at, Along, IsNewNode, IsSetUp, End, ClosedAs, HaveGone, IfRan, IfWanting, ListEnds, Pass, EndsAs, IsKeptWhole, account_of, tellers, IsTold, Ran, along-length, ◌≡◌, ◌≢◌, ◌⊎◌, ◌≤◌, ◌<◌, ◌++◌, ◌∙◌, ◌+◌, ℕ, Bool, true, false, if◌then◌else◌, IsTrue, List, [], ◌∷◌, Option, Some, length, map, get_or, inl, inr, refl, ap, sym, subst, arith, All, AllZip, get_or_from_slice_get, slice_get_within, AllZip-long, lock_base, IsUntold, is_done_after, HasClosed, RanUntold, story-ticks, tick-before, ticks-whole}
+use Rattle.run_rounds.proofs.Names.{NodeId, broker, is_broker, NodeKind, Repository, Broker, DownCause, Asked, Image, LeftNow, View, Founding, LockTable, CarriesOn, knows, Plan, CanRun, reading, Entry, Trace, Base, walk, Idle, base_of, fates_of, in_plan, is_within, most_of, Origin, WireParts, owner_of, IsOf, IsWirePass, LeavesUntold, tick_count, Condition, NodeParts, IsAtRest, Stands, sight, is_over, Limits, Reason, HasMemory, IsDone, IsLateAfter, is_done_at, Opening, Media, AreReady, HasOpened, IsOpen, node_at, node_count, in-at, Along, IsNewNode, IsSetUp, End, ClosedAs, HaveGone, IfRan, IfWanting, ListEnds, Pass, EndsAs, IsKeptWhole, account_of, tellers, IsTold, Ran, along-length, ◌≡◌, ◌≢◌, ◌⊎◌, ◌≤◌, ◌<◌, ◌++◌, ◌∙◌, ◌+◌, ℕ, Bool, true, false, if◌then◌else◌, IsTrue, List, [], ◌∷◌, Option, Some, length, map, get_or, inl, inr, refl, ap, sym, subst, arith, All, AllZip, get_or_from_slice_get, slice_get_within, AllZip-long, lock_base, IsUntold, is_done_after, HasClosed, RanUntold, story-ticks, tick-before, ticks-whole}
 use Rattle.run_starts.specs.Condition.TheVariants as condition
 use Rattle.run_starts.specs.Reason.TheVariants as reason
 use Rattle.run_rounds.specs.declared.ends.End.TheVariants as end
@@ -152,7 +152,7 @@ module _ {M Q A : Type 0} (w : Media M) (limits : Limits) (plan : Plan) (lock : 
 
 -- ---- the end
 
-module _ {M Q A : Type 0} {g : _} (w : Media M) (limits : Limits) (plan : Plan) (lang : IsOfLanguage plan) (lock : LockTable WireParts (View WireParts Entry) (Founding WireParts) Q A) (asked : List Asked) (answers : Option (List ℕ))
+module _ {M Q A : Type 0} {g : _} (w : Media M) (limits : Limits) (plan : Plan) (lang : CanRun plan) (lock : LockTable WireParts (View WireParts Entry) (Founding WireParts) Q A) (asked : List Asked) (answers : Option (List ℕ))
     (first : List (Option M)) (os : List (Opening M g)) (opened : AllZip (HasOpened w) first os) (are-open : All IsOpen os) (count : length os ≡ node_count plan) (ready : AreReady plan 0 os)
     (set : IsSetUp plan os (lock_base lock).origin.asked (lock_base lock).origin.answers (lock_base lock).origin) (begun : List (NodeParts M)) (new : Along (IsNewNode plan) 0 os begun)
     (unseen : All (λ (b : NodeParts M). (sight b).own ≡ []) begun) (fresh : Along (IsUnseenAt plan (lock_base lock)) 0 os begun) (only : (m : M) (c : Image) → IsTrue w.tells → LeftNow (w.stages m) c → w.may_leave m c) where

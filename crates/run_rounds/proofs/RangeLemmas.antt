@@ -1,5 +1,5 @@
 -- The moments of a run, the numbers of its nodes and the effects of their logs are in range.
-use Rattle.run_rounds.proofs.Names.{Every, repository, broker, Asked, Plan, IsOfLanguage, Trace, Origin, IsWhole, Opening, Open, Shut, Wanting, Media, HasOpened, IsInRange, opened_from, node_at, node_count, IsSetUp, ◌≡◌, ◌≤◌, ◌<◌, ◌+◌, ◌-◌, ◌^◌, nat_lt, ℕ, suc, Bool, true, false, List, [], ◌∷◌, Option, Some, None, length, if◌then◌else◌, refl, sym, subst, arith, All, AllZip, nat_tests, All-nil, All-cons, HasRanges}
+use Rattle.run_rounds.proofs.Names.{Every, repository, broker, Asked, Plan, CanRun, Trace, Origin, IsWhole, Opening, Open, Shut, Wanting, Media, HasOpened, IsInRange, opened_from, node_at, node_count, IsSetUp, ◌≡◌, ◌≤◌, ◌<◌, ◌+◌, ◌-◌, ◌^◌, nat_lt, ℕ, suc, Bool, true, false, List, [], ◌∷◌, Option, Some, None, length, if◌then◌else◌, refl, sym, subst, arith, All, AllZip, nat_tests, All-nil, All-cons, HasRanges}
 use Rattle.trace_report.specs.Replays.{IsOpened}
 use Rattle.run_rounds.proofs.ListLemmas.{all-first, all-rest}
 
@@ -21,13 +21,13 @@ module _ {M : Type 0} {g : _} (w : Media M) where
 
 -- ---- nodes
 
-module _ (plan : Plan) (lang : IsOfLanguage plan) where
+module _ (plan : Plan) (lang : CanRun plan) where
   number-in : (k : ℕ) → k < node_count plan → (1 ≤ (node_at plan k).number) × ((node_at plan k).number ≤ 16)
   number-in k lt = go (nat_lt k plan.repositories) refl
     where
       go : (t : Bool) → nat_lt k plan.repositories ≡ t → (1 ≤ (if t then repository (k + 1) else broker (k - plan.repositories + 1)).number) × ((if t then repository (k + 1) else broker (k - plan.repositories + 1)).number ≤ 16)
       go true e = let h : k < plan.repositories = grind (arith, nat_tests) in let most = lang.repositories.1 in (omega arith, omega (arith, h, most))
-      go false e = let h : plan.repositories ≤ k = grind (arith, nat_tests) in let most = lang.brokers.1 in (omega arith, omega (arith, h, lt, most))
+      go false e = let h : plan.repositories ≤ k = grind (arith, nat_tests) in let most = lang.brokers in (omega arith, omega (arith, h, lt, most))
 
   module _ {M : Type 0} {g : _} where
     opened-in : (k : ℕ) (os : List (Opening M g)) → k + length os ≤ node_count plan → All IsInRange os → Every IsOpened (opened_from plan k os)

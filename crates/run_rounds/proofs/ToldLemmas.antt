@@ -1,12 +1,12 @@
 -- What the closing of a run's wire tells, of the plan that the run was set up for.
-use Rattle.run_rounds.proofs.Names.{Asked, Plan, IsOfLanguage, reading, Opened, Trace, is_ready, opened_log, base_of, Origin, IsWhole, Opening, AreReady, node_count, IsSetUp, account_of, tellers, IsTold, ◌≡◌, ◌∙◌, ℕ, true, IsTrue, List, length, Option, ap, sym, subst, AllReady, JustNodes, IsRunOf, run-of}
+use Rattle.run_rounds.proofs.Names.{Asked, Plan, CanRun, reading, Opened, Trace, is_ready, opened_log, base_of, Origin, IsWhole, Opening, AreReady, node_count, IsSetUp, account_of, tellers, IsTold, ◌≡◌, ◌∙◌, ℕ, true, IsTrue, List, length, Option, ap, sym, subst, AllReady, JustNodes, IsRunOf, run-of}
 use Rattle.value_form.specs.declared.acts.ActSpec.{ActSpec}
 use Rattle.run_starts.specs.Clocked.{IsClocked}
 use Rattle.run_starts.specs.Learns.{LearnsAreNew}
 use Rattle.world_core.specs.Walks.{Base}
 use Rattle.run_rounds.proofs.KnownLemmas.{same-base}
 
-module _ {M : Type 0} {g : _} (plan : Plan) (os : List (Opening M g)) (o : Origin) (t : Trace) (set : IsSetUp plan os o.asked o.answers o) (language : IsOfLanguage plan) (count : length os ≡ node_count plan) (ready : AreReady plan 0 os) where
+module _ {M : Type 0} {g : _} (plan : Plan) (os : List (Opening M g)) (o : Origin) (t : Trace) (set : IsSetUp plan os o.asked o.answers o) (language : CanRun plan) (count : length os ≡ node_count plan) (ready : AreReady plan 0 os) where
   -- the wire is one of a run of the plan
   pub run : IsRunOf plan o
   run = run-of plan os o.asked o.answers o set language count ready

@@ -1,6 +1,6 @@
 -- A run of which a node couldn't be opened.
 use Rattle.std.proofs.Common.{◌≡◌, ◌≢◌, ◌+◌, ◌⊎◌, inl, inr, ◌∙◌, ◌++◌, ℕ, true, IsTrue, List, [], ◌∷◌, length, map, Option, Some, None, Ok, All, slice_get, take, refl, ap, sym, subst, arith, append-nil}
-use Rattle.run_rounds.proofs.Names.{Every, NodeId, DownCause, Asked, RoseBy, rose_by_none, Image, LeftNow, Goes, goes_nowhere, Effect, storage, Plan, IsOfLanguage, IsOneOf, entries_of, CarriesOn, fresh, knows, Entry, Down, Opened, Trace, Life, opened_life, opened_log, own, walk, base_of, in_plan, WasNotOpened, life_after, reading, WireParts, owner_for, owner_of, Sight, owners_for, down_cause, IsIntact, costs, IsKept, kept-none, Reason, Opening, Open, Shut, Wanting, Media, Passes, cuts_of, AreReady, HasOpened, IsOpen, log_in, medium_in, opened_from, node_at, node_count, place_of, at-place, in-at, log-at, place-at, Along, HasFallen, IsSetUp, downs_of, zip-at, zip-back, End, Pass, ClosedAs, IfRan, EndsAs, account_of, tellers, KeepsThroughout, SurvivesKills, AreCounted, Became, HaveCauses, KeepsLog, RestoresLogs, inner, medium_at, Ran, AllZip, option_map, unwrap_or, take-length, slice_get-map, slice_get_within, same_Some, IsAsItWas, IsShutFor, one-place, some-within, all-front, all-last}
+use Rattle.run_rounds.proofs.Names.{Every, NodeId, DownCause, Asked, RoseBy, rose_by_none, Image, LeftNow, Goes, goes_nowhere, Effect, storage, Plan, CanRun, IsOneOf, entries_of, CarriesOn, fresh, knows, Entry, Down, Opened, Trace, Life, opened_life, opened_log, own, walk, base_of, in_plan, WasNotOpened, life_after, reading, WireParts, owner_for, owner_of, Sight, owners_for, down_cause, IsIntact, costs, IsKept, kept-none, Reason, Opening, Open, Shut, Wanting, Media, Passes, cuts_of, AreReady, HasOpened, IsOpen, log_in, medium_in, opened_from, node_at, node_count, place_of, at-place, in-at, log-at, place-at, Along, HasFallen, IsSetUp, downs_of, zip-at, zip-back, End, Pass, ClosedAs, IfRan, EndsAs, account_of, tellers, KeepsThroughout, SurvivesKills, AreCounted, Became, HaveCauses, KeepsLog, RestoresLogs, inner, medium_at, Ran, AllZip, option_map, unwrap_or, take-length, slice_get-map, slice_get_within, same_Some, IsAsItWas, IsShutFor, one-place, some-within, all-front, all-last}
 use Rattle.pseudo_time.specs.declared.down_causes.DownCause.TheVariants as down
 use Rattle.run_starts.proofs.TurnPageLemmas.{whole-same}
 use Rattle.run_starts.proofs.StepLemmas.{passes-between}
@@ -229,7 +229,7 @@ fresh-own : (k : Sight) (wire : WireParts) (es : List Entry) → k ≡ fresh wir
 fresh-own k wire es unseen car = subst (λ (s : Sight). entries_of owner_of s.owner es ≡ s.own) unseen car.own
 
 module _ {M : Type 0} {g : _} (w : Media M) (most_ticks enough : ℕ) (plan : Plan) (wire : WireParts) (first : List (Option M)) (os : List (Opening M g)) (front passes : List Pass) (conductor : Pass) (why : Reason) (asked : List Asked) (answers : Option (List ℕ))
-    (set : IsSetUp plan os wire.origin.asked wire.origin.answers wire.origin) (language : IsOfLanguage plan) (count : length os ≡ node_count plan) (ready : AreReady plan 0 os) (opened : AllZip (HasOpened w) first os)
+    (set : IsSetUp plan os wire.origin.asked wire.origin.answers wire.origin) (language : CanRun plan) (count : length os ≡ node_count plan) (ready : AreReady plan 0 os) (opened : AllZip (HasOpened w) first os)
     (are : passes ≡ front ++ conductor ∷ []) (unseen : knows conductor ≡ fresh wire 0) (why-is : (why ≡ reason.Down) ⊎ (why ≡ reason.Wanting)) (n : ℕ) (size : n ≡ length os)
     (fell : why ≡ reason.Down → Along (λ i o pass. HasFallen wire (node_at plan i) o pass) 0 (take n os) front)
     (shut : (place : ℕ) × (o : Opening M g) × (slice_get os place ≡ Some o) × (IsOpen o → ⊥)) (only : (m : M) (c : Image) → IsTrue w.tells → LeftNow (w.stages m) c → w.may_leave m c) where

@@ -5,7 +5,7 @@ use Rattle.seat_lock.specs.declared.views.View.{View}
 use Rattle.seat_lock.specs.declared.views.Founding.{Founding}
 use Rattle.seat_lock.specs.declared.locks.LockTable.{LockTable}
 use Rattle.seat_lock.specs.Words.{base_of}
-use Rattle.plan_form.specs.PlanTexts.{IsOfLanguage}
+use Rattle.plan_form.specs.PlanTexts.{CanRun}
 use Rattle.plan_form.specs.declared.plans.Plan.{Plan}
 use Rattle.run_media.specs.Openings.{AreReady}
 use Rattle.run_media.specs.Places.{node_count}
@@ -18,7 +18,7 @@ use Rattle.run_rounds.specs.Closings.{Pass}
 module _ {M : Type 0} {g : _} where
   -- There is an opening for each node of the plan, and each of its logs lets the node go on in a run of it.
   pub record IsRunnable (plan : Plan) (os : List (Opening M g)) : Type 0 where
-    pub of_language : IsOfLanguage plan
+    pub of_language : CanRun plan
     pub all : length os ≡ node_count plan
     pub ready : AreReady plan 0 os
 

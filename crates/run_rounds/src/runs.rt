@@ -2,7 +2,7 @@
 ghost use Rattle.std.specs.Prelude.{◌≡◌, ◌≤◌, ◌<◌, ℕ, List, [], length, map, vec_len, vec_capacity, slice_get, Option, Some, All};
 ghost use Rattle.std.specs.List.{AllZip};
 ghost use Rattle.seat_lock.specs.Words.{base_of};
-ghost use Rattle.plan_form.specs.PlanTexts.{IsOfLanguage};
+ghost use Rattle.plan_form.specs.PlanTexts.{CanRun};
 ghost use Rattle.run_starts.specs.Sights.{IsWirePass};
 ghost use Rattle.run_media.specs.Openings.{HasOpened, IsOpen, medium_in};
 ghost use Rattle.run_starts.specs.Seats.{IsSound};
@@ -193,7 +193,7 @@ pub fn run<
     fates: F,
     clock: C,
 ) -> Finished<F, C, M>
-    requires plan { IsOfLanguage plan.now }
+    requires plan { CanRun plan.now }
     requires count { length openings.items ≡ node_count plan.now }
     requires opened { (first : List (Option M)) × AllZip (HasOpened M.Medium) first openings.items }
     requires empty { media.items ≡ [] }

@@ -6,7 +6,7 @@ pub use Rattle.node_rounds.specs.Boards.{owner_for}
 pub use Rattle.node_rounds.specs.Sights.{Falls, HadNothing, IsOf, IsWirePass, Sight, base_at, flags_at, origin_at, owners_for}
 pub use Rattle.node_rounds.specs.TurnNodes.{IsAtRest, NodeParts}
 pub use Rattle.node_rounds.specs.Wires.{IsRunOf, Origin, WireParts}
-pub use Rattle.plan_form.specs.PlanTexts.{IsOfLanguage}
+pub use Rattle.plan_form.specs.PlanTexts.{CanRun}
 pub use Rattle.plan_form.specs.declared.plans.Plan.{Plan}
 pub use Rattle.pseudo_time.specs.declared.nodes.NodeId.{NodeId}
 pub use Rattle.run_media.proofs.OrderLemmas.{just-nodes, log-at}

@@ -1,5 +1,5 @@
 -- What opening a node asks, by what is known of its place.
-use Rattle.run_starts.proofs.Names.{◌≡◌, ◌≤◌, ◌+◌, ◌^◌, ℕ, slice_get, zero, suc, true, List, [], ◌∷◌, ◌++◌, map, Option, Some, refl, ap, sym, subst, ◌∙◌, arith, map-append, NodeId, Vec, same_Some, Effect, Asked, Plan, IsOfLanguage, reading, Scripted, fresh, acts_of, is_ready, opened_log, WireParts, owner_for, Sight, IsOf, origin_at, base_at, NodeParts, Opening, Open, Shut, Wanting, IsReadyFor, AreReady, opened_from, log_in, medium_in, node_at, log-at, Along, CanOpen, IsSound, IsNewNode, IsSetUp}
+use Rattle.run_starts.proofs.Names.{◌≡◌, ◌≤◌, ◌+◌, ◌^◌, ℕ, slice_get, zero, suc, true, List, [], ◌∷◌, ◌++◌, map, Option, Some, refl, ap, sym, subst, ◌∙◌, arith, map-append, NodeId, Vec, same_Some, Effect, Asked, Plan, CanRun, reading, Scripted, fresh, acts_of, is_ready, opened_log, WireParts, owner_for, Sight, IsOf, origin_at, base_at, NodeParts, Opening, Open, Shut, Wanting, IsReadyFor, AreReady, opened_from, log_in, medium_in, node_at, log-at, Along, CanOpen, IsSound, IsNewNode, IsSetUp}
 use Rattle.pseudo_time.specs.declared.nodes.NodeKind.{NodeKind}
 use Rattle.value_form.specs.declared.acts.ActSpec.{ActSpec}
 use Rattle.std.specs.declared.alloc.Global.{Global}
@@ -38,7 +38,7 @@ module _ (plan : Plan) (start : ℕ) (n : NodeId) (log : List Effect) (k : Sight
 
   -- ---- a broker's acts
 
-  pub own-acts : (acts : List ActSpec) → IsOfLanguage plan → acts ≡ acts_of n.number plan.acts → AreBrokerActs acts × (acts ≡ acts_of n.number (origin_at k).acts) × Scripted (base_at k).script acts
+  pub own-acts : (acts : List ActSpec) → CanRun plan → acts ≡ acts_of n.number plan.acts → AreBrokerActs acts × (acts ≡ acts_of n.number (origin_at k).acts) × Scripted (base_at k).script acts
   own-acts acts w is = (
     subst AreBrokerActs (sym is) (plan-own_acts plan n.number w),
     is ∙ ap (acts_of n.number) (sym can.acts),

@@ -1,5 +1,5 @@
 -- The passes of a run's nodes, and its wire.
-use Rattle.run_starts.proofs.Names.{◌≡◌, ◌≢◌, ◌≤◌, ◌<◌, ◌+◌, ◌-◌, nat_lt, ℕ, suc, Bool, true, false, List, [], ◌∷◌, ◌++◌, length, map, Option, Some, refl, ap, sym, subst, ◌∙◌, arith, if◌then◌else◌, All, slice_index_or, AllPairs, nat_tests, map-append, same_from_push, get_or_append_left, get_or_push, length_push, All-cons, All-nil, All-push, same_Some, NodeId, Effect, Asked, Plan, IsOfLanguage, reading, fresh, Opened, is_ready, opened_log, Scripted, Origin, WireParts, IsRunOf, owner_for, Sight, owners_for, Opening, opened_from, log_in, AreReady, node_count, node_at, just-nodes, IsSetUp, fresh_for}
+use Rattle.run_starts.proofs.Names.{◌≡◌, ◌≢◌, ◌≤◌, ◌<◌, ◌+◌, ◌-◌, nat_lt, ℕ, suc, Bool, true, false, List, [], ◌∷◌, ◌++◌, length, map, Option, Some, refl, ap, sym, subst, ◌∙◌, arith, if◌then◌else◌, All, slice_index_or, AllPairs, nat_tests, map-append, same_from_push, get_or_append_left, get_or_push, length_push, All-cons, All-nil, All-push, same_Some, NodeId, Effect, Asked, Plan, CanRun, reading, fresh, Opened, is_ready, opened_log, Scripted, Origin, WireParts, IsRunOf, owner_for, Sight, owners_for, Opening, opened_from, log_in, AreReady, node_count, node_at, just-nodes, IsSetUp, fresh_for}
 use Rattle.std.proofs.lemmas.List.Kept.{AllPairs-cons}
 use Rattle.pseudo_time.specs.Nodes.{repository, broker, same_node}
 use Rattle.message_core.proofs.NodeLemmas.{same_is}
@@ -63,7 +63,7 @@ module _ {M : Type 0} {g : _} where
       go rest false s f = rest f
 
   -- what is set up is a run of the plan
-  pub run-of : (plan : Plan) (os : List (Opening M g)) (asked : List Asked) (answers : Option (List ℕ)) (o : Origin) → IsSetUp plan os asked answers o → IsOfLanguage plan → length os ≡ node_count plan → AreReady plan 0 os → IsRunOf plan o
+  pub run-of : (plan : Plan) (os : List (Opening M g)) (asked : List Asked) (answers : Option (List ℕ)) (o : Origin) → IsSetUp plan os asked answers o → CanRun plan → length os ≡ node_count plan → AreReady plan 0 os → IsRunOf plan o
   run-of plan os asked answers o s w count ready = record {
     run = sym s.run;
     acts = sym s.acts;

@@ -1,6 +1,6 @@
 //! Where a node can't be opened: a down visit for each such node, and no round.
 ghost use Rattle.std.specs.Prelude.{◌≡◌, ◌≤◌, ◌⊎◌, length, take, vec_len, vec_capacity, All, Some, OnOk};
-ghost use Rattle.plan_form.specs.PlanTexts.{IsOfLanguage};
+ghost use Rattle.plan_form.specs.PlanTexts.{CanRun};
 ghost use Rattle.seat_lock.specs.Words.{base_of};
 ghost use Rattle.node_rounds.specs.Sights.{IsWirePass};
 ghost use Rattle.run_media.specs.Places as order;
@@ -46,7 +46,7 @@ pub fn down_visits<F: Fates, C: Clock, M: Medium, R: Wait>(
     openings: &[Opening<M>],
     mut passes: Vec<WirePass<F, C, M>>,
 ) -> (Vec<WirePass<F, C, M>>, Reason)
-    requires plan { IsOfLanguage plan.now }
+    requires plan { CanRun plan.now }
     requires count { (length openings.now ≡ order.node_count plan.now) × (vec_len passes ≤ length openings.now) }
     requires passes { All (IsWirePass wire.now.lock) passes.items }
     requires unseen { Along (λ i o pass.

@@ -1,7 +1,7 @@
 //! The nodes of a run are opened with their passes, and taken apart.
 ghost use Rattle.std.specs.Prelude.{◌≡◌, ◌≤◌, ◌<◌, [], ◌∷◌, ◌++◌, length, map, vec_len, vec_capacity, true, false, IsTrue, All, Some, IfOk, IfErr};
 ghost use Rattle.effect_form.specs.Effects.{AreEffects};
-ghost use Rattle.plan_form.specs.PlanTexts.{IsOfLanguage};
+ghost use Rattle.plan_form.specs.PlanTexts.{CanRun};
 ghost use Rattle.version_store.specs.StoreWords.{medium_of, effects_in};
 ghost use Rattle.seat_lock.specs.Words.{knows};
 ghost use Rattle.world_core.specs.Legal.{in_plan};
@@ -30,7 +30,7 @@ fn node_of<F: Fates, C: Clock, M: Medium>(
     effects: Vec<Effect>,
     pass: WirePass<F, C, M>,
 ) -> Result<RunNode<F, C, M>, (M, WirePass<F, C, M>, AllocError)>
-    requires plan { IsOfLanguage plan.now }
+    requires plan { CanRun plan.now }
     requires node { in_plan plan.now node ≡ true }
     requires can { CanOpen plan.now start node effects.items (knows pass) }
     requires open { M.is_failed (medium_of store) ≡ false }
@@ -119,7 +119,7 @@ fn seat<F: Fates, C: Clock, M: Medium>(
     pass: WirePass<F, C, M>,
     seated: Seated<F, C, M>,
 ) -> Seated<F, C, M>
-    requires plan { IsOfLanguage plan.now }
+    requires plan { CanRun plan.now }
     requires place { place < order.node_count plan.now }
     requires can { CanSeat M.Medium plan.now start place opening pass }
     requires whole { seated.is_whole ≡ true → (vec_len seated.nodes ≡ place) ×
@@ -198,7 +198,7 @@ pub fn open_nodes<F: Fates, C: Clock, M: Medium>(
     nodes: Vec<RunNode<F, C, M>>,
     media: Vec<Option<M>>,
 ) -> Seated<F, C, M>
-    requires plan { IsOfLanguage plan.now }
+    requires plan { CanRun plan.now }
     requires count { length openings.items ≤ order.node_count plan.now }
     requires can { Along (CanSeat M.Medium plan.now start) 0 openings.items passes.items }
     requires empty { (nodes.items ≡ []) × (media.items ≡ []) }

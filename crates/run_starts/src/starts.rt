@@ -1,7 +1,7 @@
 //! The start of a run: its wire, and the passes of its nodes.
 ghost use Rattle.std.specs.Prelude.{◌≡◌, ◌≢◌, ◌<◌, [], length, vec_len, vec_capacity, AllPairs, IfOk};
 ghost use Rattle.seat_lock.specs.Words.{base_of};
-ghost use Rattle.plan_form.specs.PlanTexts.{IsOfLanguage};
+ghost use Rattle.plan_form.specs.PlanTexts.{CanRun};
 ghost use Rattle.node_rounds.specs.Sights.{owners_for};
 ghost use Rattle.run_media.specs.Places as order;
 ghost use Rattle.run_starts.specs.Starts.{HasPasses, IsSetUp};
@@ -31,7 +31,7 @@ pub fn wire_for<F: Fates, C: Clock, M: Medium>(
     fates: F,
     clock: C,
 ) -> Result<Begun<F, C, M>, (F, C, AllocError)>
-    requires plan { IsOfLanguage plan.now }
+    requires plan { CanRun plan.now }
     requires count { length openings.now ≡ order.node_count plan.now }
     ensures set_up { IfOk result (λ b. IsSetUp plan.now openings.now (F.asked fates) (C.answers clock)
         (base_of b.wire.lock).origin) }

@@ -1,5 +1,5 @@
 -- What the top call promises of what was sent, from the laws of acknowledgements and of acts that are spent.
-use Rattle.serial_law.proofs.Names.{Has, broker, repository, NodeId, Effect, Post, Asked, Plan, IsOfLanguage, book, reading, MayTry, Trace, base_of, in_plan, OpenedWith, alike, own_reading, IsLegal, sent_by, start_world, walk, own-reading, walk-same, TickedBy, WereLeftOrRetired, replaced, sent_earlier, node_facts, OlderFacts, logs_at, older-facts, walk-known, IsSpent, Position, log_at, world_at, ◌≡◌, ℕ, List, [], ◌∷◌, ◌++◌, append-nil, map, reverse, sym, ◌∙◌, subst, if◌then◌else◌, all-kept, all-seen}
+use Rattle.serial_law.proofs.Names.{Has, broker, repository, NodeId, Effect, Post, Asked, Plan, CanRun, book, reading, MayTry, Trace, base_of, in_plan, OpenedWith, alike, own_reading, IsLegal, sent_by, start_world, walk, own-reading, walk-same, TickedBy, WereLeftOrRetired, replaced, sent_earlier, node_facts, OlderFacts, logs_at, older-facts, walk-known, IsSpent, Position, log_at, world_at, ◌≡◌, ℕ, List, [], ◌∷◌, ◌++◌, append-nil, map, reverse, sym, ◌∙◌, subst, if◌then◌else◌, all-kept, all-seen}
 use Rattle.effect_form.specs.declared.effects.Effect.TheVariants as effect
 use Rattle.effect_form.specs.declared.outcomes.Outcome.TheVariants as outcome
 use Rattle.message_form.specs.declared.messages.Message.TheVariants as message
@@ -12,7 +12,7 @@ pub record Ended (plan : Plan) (t : Trace) (logs : NodeId → List Effect) : Typ
   pub place : Position
   pub log : (n : NodeId) → log_at place n ≡ log_after logs plan t n
 
-pub ended : (plan : Plan) (asked : List Asked) (t : Trace) → IsOfLanguage plan → IsLegal plan asked t → (logs : NodeId → List Effect) (left : WereLeftOrRetired logs) → OpenedWith t.opened logs → Ended plan t logs
+pub ended : (plan : Plan) (asked : List Asked) (t : Trace) → CanRun plan → IsLegal plan asked t → (logs : NodeId → List Effect) (left : WereLeftOrRetired logs) → OpenedWith t.opened logs → Ended plan t logs
 ended plan asked t w l logs left agrees =
     let r : OneReading plan asked t logs left.0 = older-reading plan asked t logs w l left in
     let p : Position = record { script = r.script; plan = plan; asked = asked; trace = t; logs = logs; front = t.entries; rest = []; here = sym (append-nil t.entries); whole = w; past = (left.0, r.are, r.left); agrees = agrees; legal = r.legal } in
@@ -23,7 +23,7 @@ ended plan asked t w l logs left agrees =
     }
 
 -- whatever was sent in the run, or in a call before it, the logs at its end agree with
-pub answers-kept : (plan : Plan) (asked : List Asked) (t : Trace) → IsOfLanguage plan → IsLegal plan asked t → KeepsAnswers plan t
+pub answers-kept : (plan : Plan) (asked : List Asked) (t : Trace) → CanRun plan → IsLegal plan asked t → KeepsAnswers plan t
 answers-kept plan asked t w l logs left agrees =
     let r : OneReading plan asked t logs left.0 = older-reading plan asked t logs w l left in
     let same : walk (base_of r.script plan t) t.entries ≡ walk (base_of (reading plan.acts) plan t) t.entries = walk-same r.script (reading plan.acts) plan r.legal.scripted (own-reading plan w) t t.entries in
@@ -49,5 +49,5 @@ answers-kept plan asked t w l logs left agrees =
     }
 
 module _ (law : (p : Position) (b i c : ℕ) (late early : List Effect) → log_at p (broker b) ≡ late ++ (effect.End i (outcome.Spent c) ∷ early) → MayTry i (book early).acts (IsSpent (book early) c)) where
-  pub spent-rightly : (plan : Plan) (asked : List Asked) (t : Trace) → IsOfLanguage plan → IsLegal plan asked t → SpendsRightly plan t
+  pub spent-rightly : (plan : Plan) (asked : List Asked) (t : Trace) → CanRun plan → IsLegal plan asked t → SpendsRightly plan t
   spent-rightly plan asked t w l logs left agrees b i c late early is = let e = ended plan asked t w l logs left agrees in law e.place b i c late early (e.log (broker b) ∙ is)

@@ -35,7 +35,7 @@ pub use Rattle.object_retirement.specs.Older.{Gone}
 pub use Rattle.object_retirement.specs.Retired.{Same}
 pub use Rattle.object_retirement.specs.Stood.{all_stood}
 unfoldable pub use Rattle.object_retirement.specs.Stood.{has_start, with_old}
-pub use Rattle.plan_form.specs.PlanTexts.{EachAct, IsOfLanguage}
+pub use Rattle.plan_form.specs.PlanTexts.{EachAct, CanRun}
 pub use Rattle.plan_form.specs.Plans.{InRange}
 pub use Rattle.plan_form.specs.declared.plans.Plan.{Plan}
 pub use Rattle.pseudo_time.proofs.ListLemmas.{every-append, every-has, every-left, has-either, has-left, has-right}

@@ -1,5 +1,5 @@
 -- One reading for a plan and all plans of the runs among earlier calls.
-use Rattle.serial_law.proofs.Names.{Every, Has, repository, TimeParts, has-left, has-right, NodeId, ActSpec, Effect, Asked, Tree, Plan, IsOfLanguage, Scripted, Trace, in_plan, alike, own_reading, IsLegal, World, sent_by, own-reading, walk-same, AreEarlier, AreOfLanguage, Earlier, WereLeftOrRetired, replaced, sent_earlier, Running, Retiring, ◌≡◌, ℕ, List, [], ◌∷◌, ◌++◌, refl, ◌∙◌, ap, subst, reverse, if◌then◌else◌, take, same_node, every-append, MayRetire, forward, Legal, Call, log_left, legal-same, logs_left, EachAct, block, denote, ◌+◌, ◌≤◌, ◌==◌}
+use Rattle.serial_law.proofs.Names.{Every, Has, repository, TimeParts, has-left, has-right, NodeId, ActSpec, Effect, Asked, Tree, Plan, CanRun, Scripted, Trace, in_plan, alike, own_reading, IsLegal, World, sent_by, own-reading, walk-same, AreEarlier, AreOfLanguage, Earlier, WereLeftOrRetired, replaced, sent_earlier, Running, Retiring, ◌≡◌, ℕ, List, [], ◌∷◌, ◌++◌, refl, ◌∙◌, ap, subst, reverse, if◌then◌else◌, take, same_node, every-append, MayRetire, forward, Legal, Call, log_left, legal-same, logs_left, EachAct, block, denote, ◌+◌, ◌≤◌, ◌==◌}
 use Rattle.std.specs.Cmp.Lexicographic.{pointwise}
 use Rattle.script_form.specs.RowTexts.{script_text}
 use Rattle.broker_core.specs.Ledgers.{IsBrokerAct}
@@ -48,7 +48,7 @@ module _ (all : List ActSpec) (ps : Every IsBrokerAct all) where
   abbrev Within : List Earlier → Type 0
   Within cs = (a : ActSpec) → Has a (acts_of_all cs) → Has a all
 
-  read-all : (c : Call) (cs : List Earlier) → IsOfLanguage c.plan → Within (Running c ∷ cs) → Scripted common c.plan.acts
+  read-all : (c : Call) (cs : List Earlier) → CanRun c.plan → Within (Running c ∷ cs) → Scripted common c.plan.acts
   unfolding acts_of_all
   read-all c cs w h = reads-all all c.plan.acts ps (plan-acts c.plan w) (λ a k. h a (has-left c.plan.acts (acts_of_all cs) a k))
 
@@ -100,7 +100,7 @@ pub record OneReading (plan : Plan) (asked : List Asked) (t : Trace) (logs : Nod
   pub sent_so : sent_earlier own_reading cs ≡ sent_earlier (alike script) cs
   pub inside : (text : List ℕ) → Inside 16 (script text)
 
-pub older-reading : (plan : Plan) (asked : List Asked) (t : Trace) (logs : NodeId → List Effect) → IsOfLanguage plan → IsLegal plan asked t → (left : WereLeftOrRetired logs) → OneReading plan asked t logs left.0
+pub older-reading : (plan : Plan) (asked : List Asked) (t : Trace) (logs : NodeId → List Effect) → CanRun plan → IsLegal plan asked t → (left : WereLeftOrRetired logs) → OneReading plan asked t logs left.0
 older-reading plan asked t logs w l left =
     let all = plan.acts ++ acts_of_all left.0 in
     let ps = every-append IsBrokerAct plan.acts (acts_of_all left.0) (plan-acts plan w) (all-acts left.0 left.1.1) in

@@ -1,5 +1,5 @@
 -- The attempts of a run are tries of its brokers' books, and keep to the plan's repositories.
-use Rattle.serial_law.proofs.Names.{Every, Has, Task, NodeId, every-has, ActSpec, Effect, Post, book, tries_of, broker, tasks, Tree, Plan, IsOfLanguage, InRange, Scripted, IsPlanned, planned, acts_of, Base, opened_log, node_facts, Try, keep, run_of, every-filter, every-at, ◌≡◌, ℕ, ◌≤◌, true, List, reverse, sym, subst, is_some, ◌==◌, task_of, ◌++◌, tries}
+use Rattle.serial_law.proofs.Names.{Every, Has, Task, NodeId, every-has, ActSpec, Effect, Post, book, tries_of, broker, tasks, Tree, Plan, CanRun, InRange, Scripted, IsPlanned, planned, acts_of, Base, opened_log, node_facts, Try, keep, run_of, every-filter, every-at, ◌≡◌, ℕ, ◌≤◌, true, List, reverse, sym, subst, is_some, ◌==◌, task_of, ◌++◌, tries}
 use Rattle.broker_laws.specs.Fits as brokers
 use Rattle.broker_laws.proofs.Kept.{kept}
 use Rattle.world_facts.specs.Refines as refines
@@ -10,7 +10,7 @@ use Rattle.broker_laws.proofs.Clocks.{late}
 use Rattle.std.proofs.Common.{arith}
 
 module _ (script : List ℕ → Tree) (b : Base) (plan : Plan) (logs : NodeId → List Effect) (olds : NodeId → List (List Effect)) (past sent : List Post) (May : ℕ → Type 0)
-    (same_run : b.run ≡ plan.run) (same_acts : b.acts ≡ plan.acts) (whole : IsOfLanguage plan) (scripted : Scripted script plan.acts)
+    (same_run : b.run ≡ plan.run) (same_acts : b.acts ≡ plan.acts) (whole : CanRun plan) (scripted : Scripted script plan.acts)
     (opened : (k : ℕ) → 1 ≤ k → k ≤ plan.brokers → is_some (opened_log b.opened (broker k)) ≡ true)
     (f : refines.OlderFacts (node_facts script) b logs olds past sent May) where
   abbrev log : NodeId → List Effect

@@ -1,5 +1,5 @@
 -- What the top call promises of serial runs, from the law of serial runs.
-use Rattle.serial_law.proofs.Names.{Every, NodeId, ActSpec, Effect, Asked, Tree, Plan, IsOfLanguage, Task, tasks, Scripted, Act, tries_of, Trace, acts_of, World, start_world, base_of, in_plan, Try, finals, broker, repository, reading, counted, IsLegal, OpenedWith, AnsweredBefore, Position, RefusedBefore, TickedBefore, happened_before, log_at, olds_at, run_at, sent_before, whole_at, world_at, Serial, KeepsPuts, whole_log, last_values, value_at, Earlier, TickedBy, WereLeftOrRetired, Causes, RunFacts, Has, TimeParts, ObjectId, Value, WriteStep, AnsweredBy, RefusedBy, walk-same, own-reading, walk-known, ◌≡◌, ℕ, zero, suc, ◌≤◌, ◌==◌, nat_le, Bool, true, false, ◌&&◌, List, [], ◌∷◌, ◌++◌, append-nil, length, map, refl, sym, ◌∙◌, ap, subst, if◌then◌else◌, arith, eqb-true, le-leb, reverse, gated_log, HaveReasons, happened_by, Agree, agree-of}
+use Rattle.serial_law.proofs.Names.{Every, NodeId, ActSpec, Effect, Asked, Tree, Plan, CanRun, Task, tasks, Scripted, Act, tries_of, Trace, acts_of, World, start_world, base_of, in_plan, Try, finals, broker, repository, reading, counted, IsLegal, OpenedWith, AnsweredBefore, Position, RefusedBefore, TickedBefore, happened_before, log_at, olds_at, run_at, sent_before, whole_at, world_at, Serial, KeepsPuts, whole_log, last_values, value_at, Earlier, TickedBy, WereLeftOrRetired, Causes, RunFacts, Has, TimeParts, ObjectId, Value, WriteStep, AnsweredBy, RefusedBy, walk-same, own-reading, walk-known, ◌≡◌, ℕ, zero, suc, ◌≤◌, ◌==◌, nat_le, Bool, true, false, ◌&&◌, List, [], ◌∷◌, ◌++◌, append-nil, length, map, refl, sym, ◌∙◌, ap, subst, if◌then◌else◌, arith, eqb-true, le-leb, reverse, gated_log, HaveReasons, happened_by, Agree, agree-of}
 use Rattle.broker_core.specs.Book as books
 use Rattle.broker_core.specs.Sound.{Started, OfAct}
 use Rattle.world_core.specs.Deeds.{attempt, book_tries, run_tries}
@@ -68,7 +68,7 @@ pub record Placed (plan : Plan) (t : Trace) (cs : List Earlier) : Type 0 where
   pub refused : (x : TimeParts) (o : ObjectId) (e : TimeParts) → RefusedBefore place x o e → RefusedBy plan t cs x o e
   pub ticked : (m : ℕ) → TickedBefore place m → TickedBy cs t.entries m
 
-pub placed : (plan : Plan) (asked : List Asked) (t : Trace) → IsOfLanguage plan → IsLegal plan asked t → (logs : NodeId → List Effect) (left : WereLeftOrRetired logs) → OpenedWith t.opened logs → Placed plan t left.0
+pub placed : (plan : Plan) (asked : List Asked) (t : Trace) → CanRun plan → IsLegal plan asked t → (logs : NodeId → List Effect) (left : WereLeftOrRetired logs) → OpenedWith t.opened logs → Placed plan t left.0
 placed plan asked t w l logs left agrees =
     let r : OneReading plan asked t logs left.0 = older-reading plan asked t logs w l left in
     let own = own-reading plan w in
@@ -120,15 +120,15 @@ module _ (plan : Plan) (t : Trace) (cs : List Earlier) (k : Placed plan t cs) wh
       ∙ ap (λ m. value_at m o) (finals-same plan.repositories wholes (whole_in cs plan t).logs (run_in plan t).tries whole-logs)
 
 module _ (law : (p : Position) → Serial (whole_at p)) (puts : (p : Position) → KeepsPuts (run_at p)) where
-  pub serial-over : (plan : Plan) (asked : List Asked) (t : Trace) → IsOfLanguage plan → IsLegal plan asked t → IsSerialOver plan t
+  pub serial-over : (plan : Plan) (asked : List Asked) (t : Trace) → CanRun plan → IsLegal plan asked t → IsSerialOver plan t
   serial-over plan asked t w l logs left agrees = let k = placed plan asked t w l logs left agrees in (serial-run plan t left.0 k (law k.place), puts-run plan t left.0 k (puts k.place))
 
 module _ (law : (p : Position) (o : ObjectId) → value_at (last_values (run_at p)) o ≡ value_at (finals (whole_at p)) o) where
-  pub finals-over : (plan : Plan) (asked : List Asked) (t : Trace) → IsOfLanguage plan → IsLegal plan asked t → HoldsFinals plan t
+  pub finals-over : (plan : Plan) (asked : List Asked) (t : Trace) → CanRun plan → IsLegal plan asked t → HoldsFinals plan t
   finals-over plan asked t w l logs left agrees o = let k = placed plan asked t w l logs left agrees in finals-run plan t left.0 k o (law k.place o)
 
 module _ (facts : (p : Position) → RunFacts (whole_at p) (sent_before p)) (law : (p : Position) → Causes (run_at p) (olds_at p) (happened_before p)) where
-  pub reasons-over : (plan : Plan) (asked : List Asked) (t : Trace) → IsOfLanguage plan → IsLegal plan asked t → HaveReasons plan t
+  pub reasons-over : (plan : Plan) (asked : List Asked) (t : Trace) → CanRun plan → IsLegal plan asked t → HaveReasons plan t
   reasons-over plan asked t w l logs left agrees try o j e =
       let k = placed plan asked t w l logs left agrees in
       let there : Has try (run_at k.place).tries = subst (Has try) (sym k.tries) j in
@@ -137,7 +137,7 @@ module _ (facts : (p : Position) → RunFacts (whole_at p) (sent_before p)) (law
       k.ticked k.answered k.refused try o (f.home try there) (λ q. f.within try try.answers [] q there (sym (append-nil try.answers))) (law k.place try o there e)
 
 module _ (law : (p : Position) (c : ℕ) → Every (λ (a : ActSpec). c ≤ a.clock) p.plan.acts → (try : Try) → Has try (run_at p).tries → c ≤ try.stamp.clock) where
-  pub late-over : (plan : Plan) (asked : List Asked) (t : Trace) → IsOfLanguage plan → IsLegal plan asked t → AreLate plan t
+  pub late-over : (plan : Plan) (asked : List Asked) (t : Trace) → CanRun plan → IsLegal plan asked t → AreLate plan t
   late-over plan asked t w l logs left agrees c all try h =
       let k = placed plan asked t w l logs left agrees in
       law k.place c (subst (Every (λ (a : ActSpec). c ≤ a.clock)) (sym k.acts) all) try (subst (Has try) (sym k.tries) h)

@@ -10,7 +10,7 @@ use Rattle.pseudo_time.specs.TimeParts.{TimeParts}
 use Rattle.object_history.specs.declared.steps.WriteStep.{WriteStep}
 use Rattle.serial_model.specs.Questions.{Tree}
 use Rattle.plan_form.specs.declared.plans.Plan.{Plan}
-use Rattle.plan_form.specs.PlanTexts.{IsOfLanguage}
+use Rattle.plan_form.specs.PlanTexts.{CanRun}
 use Rattle.world_core.specs.declared.entries.Entry.{Entry}
 use Rattle.world_core.specs.declared.traces.Trace.{Trace}
 use Rattle.world_core.specs.Walks.{Base, World, walk, sent_by}
@@ -27,7 +27,7 @@ unfoldable pub use Rattle.world_core.specs.Deeds.{run_tries}
 
 -- ---- places of legal traces
 
--- A place of a legal trace of a plan of the language, over logs that runs and retirements left. `logs` are those so far, oldest effect first, and
+-- A place of a legal trace of a plan that can run, over logs that runs and retirements left. `logs` are those so far, oldest effect first, and
 -- `front` are the trace's entries up to the place. `script` reads the texts of scripts.
 pub record Position : Type 0 where
   pub script : List ℕ → Tree
@@ -38,7 +38,7 @@ pub record Position : Type 0 where
   pub front : List Entry
   pub rest : List Entry
   pub here : trace.entries ≡ front ++ rest
-  pub whole : IsOfLanguage plan
+  pub whole : CanRun plan
   pub past : ComeFrom (alike script) logs
   pub agrees : OpenedWith trace.opened logs
   pub legal : Legal script plan asked trace

@@ -1,5 +1,5 @@
 -- What must succeed, succeeds: from what the shelf gave and got back to a complete run.
-use Rattle.swallow_top.proofs.Names.{AllZip, nat_tests, Every, Has, broker, NodeId, Rose, RoseBy, rise_of_fewer, storage, Plan, IsOfLanguage, book, keep, Trace, in_plan, open_acts, Options, Media, Opening, Open, Shut, Wanting, HasOpened, place_of, Tellers, account_of, Became, inner, medium_at, Ran, WentSmoothly, IsSmoothRun, blank-none, IsGiven, IsTaken, ShelfSight, first_names, kept_under, Kept, HasVolumes, NodeVolumes, all_left, all_taken, names_from, work_taken, zip-long, status_of, Sinking, ◌≡◌, ◌+◌, ◌≤◌, ◌==◌, ◌∙◌, nat_lt, ◌<◌, ◌++◌, ℕ, zero, suc, Bool, true, false, IsTrue, List, [], ◌∷◌, cond, length, map, Option, Some, None, Ok, slice_get, refl, ap, sym, subst, arith, if◌then◌else◌, count_by, false≢true, slice_get-get_or, other_plan, plan_fault, fault_in, node_at, IsFirstFault, pages_for, volumes_of_blank, is_missing, volume_name, IsNodes, working, ends-some, working-below, IsSmooth, EndRightly, GoOn, follows, goes_on}
+use Rattle.swallow_top.proofs.Names.{AllZip, nat_tests, Every, Has, broker, NodeId, Rose, RoseBy, rise_of_fewer, storage, Plan, CanRun, book, keep, Trace, in_plan, open_acts, Options, Media, Opening, Open, Shut, Wanting, HasOpened, place_of, Tellers, account_of, Became, inner, medium_at, Ran, WentSmoothly, IsSmoothRun, blank-none, IsGiven, IsTaken, ShelfSight, first_names, kept_under, Kept, HasVolumes, NodeVolumes, all_left, all_taken, names_from, work_taken, zip-long, status_of, Sinking, ◌≡◌, ◌+◌, ◌≤◌, ◌==◌, ◌∙◌, nat_lt, ◌<◌, ◌++◌, ℕ, zero, suc, Bool, true, false, IsTrue, List, [], ◌∷◌, cond, length, map, Option, Some, None, Ok, slice_get, refl, ap, sym, subst, arith, if◌then◌else◌, count_by, false≢true, slice_get-get_or, other_plan, plan_fault, fault_in, node_at, IsFirstFault, pages_for, volumes_of_blank, is_missing, volume_name, IsNodes, working, ends-some, working-below, IsSmooth, EndRightly, GoOn, follows, goes_on}
 use Rattle.std.proofs.lemmas.List.Sums.{sum_by-cons}
 use Rattle.pseudo_time.specs.declared.nodes.NodeKind.{NodeKind}
 use Rattle.pseudo_time.specs.declared.nodes.NodeKind.TheVariants.{Repository, Broker}
@@ -211,10 +211,10 @@ module _ {M : Type 0} (w : Media M) (old new : ShelfSight) (plan : Plan) where
         plain = smooth.plain;
       }
 
-      pub over-smooth : IsOfLanguage plan → Ran w o.ticks o.messages plan (account_of t told) media left → WentSmoothly o.ticks plan t
+      pub over-smooth : CanRun plan → Ran w o.ticks o.messages plan (account_of t told) media left → WentSmoothly o.ticks plan t
       over-smooth language ran = complete w tells o.ticks o.messages most plan language (account_of t told) media left ran smooth-run
 
 -- a smooth run is complete
-pub run-complete : {M : Type 0} (w : Media M) (old new : ShelfSight) (plan : Plan) (language : IsOfLanguage plan) (o : Options) (told : Tellers) (volumes : List (NodeVolumes w)) (left : List (Option M)) (kept : List (Kept M)) → HasVolumes w old new plan volumes left kept → IsTrue w.tells
+pub run-complete : {M : Type 0} (w : Media M) (old new : ShelfSight) (plan : Plan) (language : CanRun plan) (o : Options) (told : Tellers) (volumes : List (NodeVolumes w)) (left : List (Option M)) (kept : List (Kept M)) → HasVolumes w old new plan volumes left kept → IsTrue w.tells
     → (t : Trace) → Ran w o.ticks o.messages plan (account_of t told) (map work_taken volumes) left → (s : Sinking) (most : ℕ) → IsSmooth {M = M} w old new kept plan o (account_of t told) s most → WentSmoothly o.ticks plan t
 run-complete w old new plan language o told volumes left kept has tells t ran s most smooth = over-smooth w old new plan o told volumes left kept has tells t s most smooth language ran

@@ -15,7 +15,7 @@ pub use Rattle.effect_form.specs.declared.outcomes.Outcome.{Outcome}
 pub use Rattle.forward_copy.specs.Currents.{node_log}
 pub use Rattle.message_core.proofs.NodeLemmas.{same_node-refl}
 pub use Rattle.plan_form.specs.PlanFaults.{IsPlanFault}
-pub use Rattle.plan_form.specs.PlanTexts.{EachAct, IsOfLanguage}
+pub use Rattle.plan_form.specs.PlanTexts.{EachAct, CanRun}
 pub use Rattle.plan_form.specs.Plans.{InRange, IsPlan}
 pub use Rattle.plan_form.specs.declared.plans.Plan.{Plan}
 pub use Rattle.plan_volumes.proofs.ApartLemmas.{ends-some, working-below, zip-long}

@@ -1,9 +1,9 @@
 -- What the parts of a call say, said in the words of its promise.
 use Rattle.votes_command.specs.Tellings.{some_down as voters_down}
-use Rattle.swallow_top.proofs.Names.{Every, Plan, IsPlanFault, IsPlan, IsOfLanguage, Trace, open_acts, ObjectId, no_trace, Options, AreWords, Media, some_down, Account, AllKept, Kept, Wanted, Stop, CameOf, HasNoRun, RefusedAs, RunsPlan, AskedNothing, TellsHistory, TellsVolumes, ReadsPlan, ShelfSight, Retired, Rule, TellsAnswer, TellsSnapshot, TellsWatch, TellsRetired, TellsRetirement, mark_at, status_of, Sinking, Ends, EndsIfAny, VoteEnd, Told, IsInputFault, IsInput, IsPoll, PollLine, HavePolled, ReadsPolls, TellsVotes, limits_of, tellers_of, votes_status, Vec, Global, ◌≡◌, ◌⊎◌, ◌≤◌, ◌==◌, inl, inr, ℕ, Bool, true, false, List, [], ◌∷◌, length, Option, Ok, Err, refl, sym, subst, arith, if◌then◌else◌, AreGiven, AreOptions, IsWith, IsNoPlan, AreNoPolls}
+use Rattle.swallow_top.proofs.Names.{Every, Plan, IsPlanFault, IsPlan, CanRun, Trace, open_acts, ObjectId, no_trace, Options, AreWords, Media, some_down, Account, AllKept, Kept, Wanted, Stop, CameOf, HasNoRun, RefusedAs, RunsPlan, AskedNothing, TellsHistory, TellsVolumes, ReadsPlan, ShelfSight, Retired, Rule, TellsAnswer, TellsSnapshot, TellsWatch, TellsRetired, TellsRetirement, mark_at, status_of, Sinking, Ends, EndsIfAny, VoteEnd, Told, IsInputFault, IsInput, IsPoll, PollLine, HavePolled, ReadsPolls, TellsVotes, limits_of, tellers_of, votes_status, Vec, Global, ◌≡◌, ◌⊎◌, ◌≤◌, ◌==◌, inl, inr, ℕ, Bool, true, false, List, [], ◌∷◌, length, Option, Ok, Err, refl, sym, subst, arith, if◌then◌else◌, AreGiven, AreOptions, IsWith, IsNoPlan, AreNoPolls}
 use Rattle.std.specs.Option.{unwrap_or}
 use Rattle.plan_form.specs.Making.{made_plan}
-use Rattle.plan_form.proofs.PlanTextLemmas.{plan_is_whole}
+use Rattle.plan_form.proofs.PlanTextLemmas.{plan_can_run}
 use Rattle.command_words.specs.declared.commands.Command.{Command}
 use Rattle.command_words.specs.declared.commands.Command.TheVariants.{Run, Load, History, Retire, Votes, Watch, AsOf, Audit, Snapshot}
 use Rattle.command_words.specs.declared.options.Given.{Given}
@@ -252,5 +252,5 @@ pub polls-of : (left new : Option (List ℕ)) (before after : ℕ) (polls : Vec 
 polls-of left new before after polls read = of_input-all left (λ input. IsInput input polls.items) (Every IsPoll polls.items × (length polls.items ≤ 16)) (λ input h. (h.1.each, h.1.few)) read.0
 
 -- a plan that was read is of the language
-pub language-of : (left new : Option (List ℕ)) (before after : ℕ) (plan : Plan) → ReadsPlan left new before after (Ok plan) → IsOfLanguage plan
-language-of left new before after plan read = of_input-all left (λ input. IsPlan input plan) (IsOfLanguage plan) (λ input h. plan_is_whole input plan h) read.0
+pub language-of : (left new : Option (List ℕ)) (before after : ℕ) (plan : Plan) → ReadsPlan left new before after (Ok plan) → CanRun plan
+language-of left new before after plan read = of_input-all left (λ input. IsPlan input plan) (CanRun plan) (λ input h. plan_can_run input plan h) read.0

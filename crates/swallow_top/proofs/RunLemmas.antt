@@ -1,5 +1,5 @@
 -- From how a run ended to what comes of its plan.
-use Rattle.swallow_top.proofs.Names.{AllZip, AllZip-long, Plan, IsOfLanguage, Trace, IsLegal, no_trace, Options, Media, AreBack, IsBack, IsLeftAlone, Ran, IsKeptWhole, Tellers, account_of, AllKept, ShelfSight, Kept, HasVolumes, NodeVolumes, work_taken, Wanted, CameOf, RunsPlan, status_of, Sinking, ◌≡◌, ◌⊎◌, inl, inr, ℕ, Bool, true, false, IsTrue, List, length, map, Option, refl, ap, sym, subst, ◌∙◌, RanUntold, HasRanges, EndsAs, HadMemory, Completes, RanOver, WantedMemory, OfRun, TellsEnd, JustNodes}
+use Rattle.swallow_top.proofs.Names.{AllZip, AllZip-long, Plan, CanRun, Trace, IsLegal, no_trace, Options, Media, AreBack, IsBack, IsLeftAlone, Ran, IsKeptWhole, Tellers, account_of, AllKept, ShelfSight, Kept, HasVolumes, NodeVolumes, work_taken, Wanted, CameOf, RunsPlan, status_of, Sinking, ◌≡◌, ◌⊎◌, inl, inr, ℕ, Bool, true, false, IsTrue, List, length, map, Option, refl, ap, sym, subst, ◌∙◌, RanUntold, HasRanges, EndsAs, HadMemory, Completes, RanOver, WantedMemory, OfRun, TellsEnd, JustNodes}
 use Rattle.stream_port.specs.declared.fates.Asked.{Asked}
 use Rattle.run_rounds.specs.declared.ends.End.{End}
 use Rattle.run_rounds.specs.declared.ends.End.TheVariants as end
@@ -40,11 +40,11 @@ module _ {M : Type 0} (w : Media M) (old new : ShelfSight) (plan : Plan) (o : Op
   pub runs-kept : (e : End) → EndsAs w o.ticks o.messages plan told media left e → AllKept old new kept
   runs-kept e ends = all-kept w old new plan volumes left kept has (end-back w o.ticks o.messages plan told media left e ends)
 
-  module _ (language : IsOfLanguage plan) (serial : (p : Plan) (asked : List Asked) (t : Trace) → IsOfLanguage p → IsLegal p asked t → IsSerialOver p t)
-      (late : (p : Plan) (asked : List Asked) (t : Trace) → IsOfLanguage p → IsLegal p asked t → AreLate p t)
-      (finals : (p : Plan) (asked : List Asked) (t : Trace) → IsOfLanguage p → IsLegal p asked t → HoldsFinals p t) (reasons : (p : Plan) (asked : List Asked) (t : Trace) → IsOfLanguage p → IsLegal p asked t → HaveReasons p t)
-      (answers : (p : Plan) (asked : List Asked) (t : Trace) → IsOfLanguage p → IsLegal p asked t → KeepsAnswers p t) (spent : (p : Plan) (asked : List Asked) (t : Trace) → IsOfLanguage p → IsLegal p asked t → SpendsRightly p t)
-      (added : (p : Plan) (asked : List Asked) (t : Trace) → AddedHaveReasons p asked t) (pasts : (p : Plan) (asked : List Asked) (t : Trace) → IsOfLanguage p → IsLegal p asked t → PlacesHavePasts p t) where
+  module _ (language : CanRun plan) (serial : (p : Plan) (asked : List Asked) (t : Trace) → CanRun p → IsLegal p asked t → IsSerialOver p t)
+      (late : (p : Plan) (asked : List Asked) (t : Trace) → CanRun p → IsLegal p asked t → AreLate p t)
+      (finals : (p : Plan) (asked : List Asked) (t : Trace) → CanRun p → IsLegal p asked t → HoldsFinals p t) (reasons : (p : Plan) (asked : List Asked) (t : Trace) → CanRun p → IsLegal p asked t → HaveReasons p t)
+      (answers : (p : Plan) (asked : List Asked) (t : Trace) → CanRun p → IsLegal p asked t → KeepsAnswers p t) (spent : (p : Plan) (asked : List Asked) (t : Trace) → CanRun p → IsLegal p asked t → SpendsRightly p t)
+      (added : (p : Plan) (asked : List Asked) (t : Trace) → AddedHaveReasons p asked t) (pasts : (p : Plan) (asked : List Asked) (t : Trace) → CanRun p → IsLegal p asked t → PlacesHavePasts p t) where
     ran-over : (t : Trace) → HadMemory w volumes → Ran w o.ticks o.messages plan (account_of t told) media left → RanOver {M = M} w old new kept plan o (account_of t told)
     ran-over t memory ran = record {
       volumes = volumes;

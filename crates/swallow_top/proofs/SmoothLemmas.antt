@@ -1,5 +1,5 @@
 -- A smooth run is complete.
-use Rattle.swallow_top.proofs.Names.{eqb-true, append-nil, length-map, filter-append, Every, Has, every-has, NodeId, DownCause, broker, same_node-refl, RoseBy, rise_of_fewer, Effect, Outcome, pages_apart, Plan, InRange, IsOfLanguage, Act, Book, Try, book, keep, reading, Entry, Take, Crash, Down, Tick, Trace, Base, names, own, start_world, walk, Meets, in_plan, IsLegal, counted_by, shown_end, tasks_of, Media, IsBack, place_of, some_down, Became, inner, medium_at, Account, Ran, HasOutcome, filled_by, AllBegun, WentSmoothly, IsSmoothRun, blank-none, ◌≡◌, ◌⊎◌, ◌+◌, ◌≤◌, ◌∙◌, ◌++◌, ◌&&◌, ◌==◌, ℕ, zero, suc, Bool, true, false, IsTrue, List, [], ◌∷◌, Option, Some, None, is_some, length, reverse, slice_get, cond, inl, inr, refl, ap, sym, subst, arith, if◌then◌else◌, every-right, every-left, every-map, has-right, tries_of, Life, all_effects, base_of, fates_of, post_of, gated_log, life_after, HasEnded, IsUnopened, AllDone, CalmPlace, CalmRun, IsUnstopped, MayStop, book_at, log_at, most_pages, WasRefused, blank-count, filling-apart, and-left, down_cause, named-opened, one-down, told-of}
+use Rattle.swallow_top.proofs.Names.{eqb-true, append-nil, length-map, filter-append, Every, Has, every-has, NodeId, DownCause, broker, same_node-refl, RoseBy, rise_of_fewer, Effect, Outcome, pages_apart, Plan, InRange, CanRun, Act, Book, Try, book, keep, reading, Entry, Take, Crash, Down, Tick, Trace, Base, names, own, start_world, walk, Meets, in_plan, IsLegal, counted_by, shown_end, tasks_of, Media, IsBack, place_of, some_down, Became, inner, medium_at, Account, Ran, HasOutcome, filled_by, AllBegun, WentSmoothly, IsSmoothRun, blank-none, ◌≡◌, ◌⊎◌, ◌+◌, ◌≤◌, ◌∙◌, ◌++◌, ◌&&◌, ◌==◌, ℕ, zero, suc, Bool, true, false, IsTrue, List, [], ◌∷◌, Option, Some, None, is_some, length, reverse, slice_get, cond, inl, inr, refl, ap, sym, subst, arith, if◌then◌else◌, every-right, every-left, every-map, has-right, tries_of, Life, all_effects, base_of, fates_of, post_of, gated_log, life_after, HasEnded, IsUnopened, AllDone, CalmPlace, CalmRun, IsUnstopped, MayStop, book_at, log_at, most_pages, WasRefused, blank-count, filling-apart, and-left, down_cause, named-opened, one-down, told-of}
 use Rattle.pseudo_time.specs.Nodes.{repository}
 use Rattle.world_core.specs.Counts.{tick_count}
 use Rattle.world_core.specs.Readings.{world_after}
@@ -93,7 +93,7 @@ none-shown (a ∷ acts) h = (
 
 -- ---- a smooth run
 
-module _ {M : Type 0} (w : Media M) (told : IsTrue w.tells) (most_ticks enough most : ℕ) (plan : Plan) (lang : IsOfLanguage plan) (account : Account) (media left : List (Option M))
+module _ {M : Type 0} (w : Media M) (told : IsTrue w.tells) (most_ticks enough most : ℕ) (plan : Plan) (lang : CanRun plan) (account : Account) (media left : List (Option M))
     (ran : Ran w most_ticks enough plan account media left) (smooth : IsSmoothRun w most enough plan account.trace media left) where
   abbrev t : Trace
   t = account.trace

@@ -1,5 +1,5 @@
 -- Where its broker has begun all acts, and each has an outcome, an act is shown with its outcome.
-use Rattle.swallow_top.proofs.Names.{eqb-true, nat_tests, length-append, length-map, reverse-append, Every, Has, broker, NodeId, Effect, Outcome, Plan, InRange, IsOfLanguage, Act, Book, Try, reading, counted_by, shown_end, tasks_of, HasOutcome, AllBegun, every-has, ◌≡◌, ◌+◌, ◌-◌, ◌≤◌, ◌<◌, ◌∙◌, ◌++◌, ◌==◌, nat_lt, ℕ, zero, suc, Bool, true, false, List, [], ◌∷◌, Option, Some, None, length, map, reverse, slice_get, inl, inr, refl, ap, sym, subst, arith, if◌then◌else◌, cond, filter, eq-eqb, length-reverse, map-append, reverse-reverse, slice_get_within, same_Some, EachAct, act_begun, act_shown, act_with, acts_shown, begun_acts, tries_shown, try_shown, IsOver, has-reverse, sound-kept, IsFinal, IsFinished}
+use Rattle.swallow_top.proofs.Names.{eqb-true, nat_tests, length-append, length-map, reverse-append, Every, Has, broker, NodeId, Effect, Outcome, Plan, InRange, CanRun, Act, Book, Try, reading, counted_by, shown_end, tasks_of, HasOutcome, AllBegun, every-has, ◌≡◌, ◌+◌, ◌-◌, ◌≤◌, ◌<◌, ◌∙◌, ◌++◌, ◌==◌, nat_lt, ℕ, zero, suc, Bool, true, false, List, [], ◌∷◌, Option, Some, None, length, map, reverse, slice_get, inl, inr, refl, ap, sym, subst, arith, if◌then◌else◌, cond, filter, eq-eqb, length-reverse, map-append, reverse-reverse, slice_get_within, same_Some, EachAct, act_begun, act_shown, act_with, acts_shown, begun_acts, tries_shown, try_shown, IsOver, has-reverse, sound-kept, IsFinal, IsFinished}
 use Rattle.value_form.specs.declared.acts.ActSpec.{ActSpec}
 use Rattle.effect_form.specs.declared.outcomes.Outcome.TheVariants as ended
 use Rattle.serial_model.specs.Questions.{Tree}
@@ -34,7 +34,7 @@ index-at repositories brokers n [] i a each h = absurd cc
 index-at repositories brokers n (x ∷ acts) zero a each h = let e : x.index ≡ a.index = ap (λ (y : ActSpec). y.index) (same_Some _ _ h) in let k = each.0.index in omega (arith, e, k)
 index-at repositories brokers n (x ∷ acts) (suc i) a each h = let k = index-at repositories brokers (n + 1) acts i a each.1 h in omega (arith, k)
 
-one-index : (plan : Plan) → IsOfLanguage plan → (a b : ActSpec) → Has a plan.acts → Has b plan.acts → a.index ≡ b.index → a ≡ b
+one-index : (plan : Plan) → CanRun plan → (a b : ActSpec) → Has a plan.acts → Has b plan.acts → a.index ≡ b.index → a ≡ b
 one-index plan lang a b h k e =
     let i = has-at plan.acts a h in
     let j = has-at plan.acts b k in
@@ -143,7 +143,7 @@ every-mapped : {A B : Type 0} (P : B → Type 0) (f : A → B) (xs : List A) →
 every-mapped P f [] h = tt
 every-mapped P f (x ∷ xs) h = (h x (inl refl), every-mapped P f xs (λ y k. h y (inr k)))
 
-module _ (plan : Plan) (lang : IsOfLanguage plan) (logs : NodeId → List Effect) where
+module _ (plan : Plan) (lang : CanRun plan) (logs : NodeId → List Effect) where
   abbrev book_of : ℕ → Book
   book_of b = counted_by plan b (logs (broker b))
 

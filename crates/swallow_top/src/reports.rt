@@ -1,6 +1,6 @@
 //! What came of a run is written, and its status found.
 ghost use Rattle.std.specs.Prelude.{◌≡◌, ◌≢◌, ◌==◌, ◌⊎◌, ℕ, IfOk, if◌then◌else◌};
-ghost use Rattle.plan_form.specs.PlanTexts.{IsOfLanguage};
+ghost use Rattle.plan_form.specs.PlanTexts.{CanRun};
 ghost use Rattle.world_core.specs.Walks as walks;
 ghost use Rattle.world_core.specs.Legal.{JustNodes};
 ghost use Rattle.run_rounds.specs.Reports.{open_acts};
@@ -65,7 +65,7 @@ fn text_of(
     wanted: Wanted,
     trace: &Trace,
 ) -> Result<Reported, AllocError>
-    requires plan { IsOfLanguage plan.now }
+    requires plan { CanRun plan.now }
     requires nodes { JustNodes plan.now trace.now.opened }
     requires ranges { HasRanges trace.now }
     ensures text { IfOk result (λ r. r.text ≡ wanted_text wanted plan.now trace.now) }
@@ -79,7 +79,7 @@ fn text_of(
 
 // Writes the text of a run. The answer is the status.
 fn tell_run<O: Sink>(alloc: Global, plan: &Plan, wanted: Wanted, trace: &Trace, sink: &mut O) -> u8
-    requires plan { IsOfLanguage plan.now }
+    requires plan { CanRun plan.now }
     requires nodes { JustNodes plan.now trace.now.opened }
     requires ranges { HasRanges trace.now }
     ensures { EndsIfAny result (sinking (O.taken sink.old) (O.taken sink.new) (O.faults sink.old) (O.faults sink.new))
@@ -118,7 +118,7 @@ pub fn tell<O: Sink>(
     end: End,
     sink: &mut O,
 ) -> (u8, Told)
-    requires plan { IsOfLanguage plan.now }
+    requires plan { CanRun plan.now }
     requires nodes { OfRun end (λ t. JustNodes plan.now t.opened) }
     requires ranges { OfRun end HasRanges }
     ensures { TellsEnd wanted plan.now end result.0 result.1

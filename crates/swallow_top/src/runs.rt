@@ -1,7 +1,7 @@
 //! A plan is run over the volumes of its nodes.
 ghost use Rattle.std.specs.Prelude.{◌≡◌, ◌≤◌, [], true, length, map, List, Option, vec_len, vec_capacity};
 ghost use Rattle.std.specs.List.{AllZip};
-ghost use Rattle.plan_form.specs.PlanTexts.{IsOfLanguage};
+ghost use Rattle.plan_form.specs.PlanTexts.{CanRun};
 ghost use Rattle.plan_volumes.specs.Openings.{HasOpened, medium_in};
 ghost use Rattle.plan_volumes.specs.Places as order;
 ghost use Rattle.run_rounds.specs.Finishes.{EndsAs, account_of, tellers};
@@ -45,7 +45,7 @@ fn run_opened<
     fates: F,
     clock: C,
 ) -> Finished<F, C, M>
-    requires plan { IsOfLanguage plan.now }
+    requires plan { CanRun plan.now }
     requires count { length openings.items ≡ order.node_count plan.now }
     requires opened { (first : List (Option M)) × AllZip (HasOpened M.Medium) first openings.items }
     requires empty { media.items ≡ [] }
@@ -93,7 +93,7 @@ pub fn run_plan<
 ) -> Finish<S::Medium, F, C>
 where
     S::Medium: Drop + Send,
-    requires plan { IsOfLanguage plan.now }
+    requires plan { CanRun plan.now }
     requires workers { 1 ≤ options.workers }
     ensures ran { RunsPlan S.Medium.Medium
         (shelf_sight S.Shelf shelf.old)

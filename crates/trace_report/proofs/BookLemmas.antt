@@ -1,5 +1,5 @@
 -- What is read off a broker's log, by which of its effects count, is what its book has of this run.
-use Rattle.trace_report.proofs.Names.{◌-◌, cond-true, cond-false, NodeId, Broker, broker, StampParts, ActSpec, Effect, Answer, Got, Stored, Tree, Plan, IsOfLanguage, Act, Try, Book, book, keep, AreBrokerActs, reading, Task, tasks, Scripted, acts_of, own-reading, begun_acts, act_parts, try_parts, begun_to, begun_last, ◌≡◌, ℕ, zero, suc, ◌≤◌, ◌==◌, Bool, true, false, List, [], ◌∷◌, ◌++◌, append_assoc, append-nil, length, map, reverse, refl, sym, ◌∙◌, ap, subst, if◌then◌else◌, arith, Some, length-reverse, enter, close, on_act, on_front, on_try, gain, finish, new_try, fits, counts, add_if, acts_in, entered, closed, tried, spent_by, on_first, on_last, gained, ended, entered_if, read_off, closed-run, plan-own_acts}
+use Rattle.trace_report.proofs.Names.{◌-◌, cond-true, cond-false, NodeId, Broker, broker, StampParts, ActSpec, Effect, Answer, Got, Stored, Tree, Plan, CanRun, Act, Try, Book, book, keep, AreBrokerActs, reading, Task, tasks, Scripted, acts_of, own-reading, begun_acts, act_parts, try_parts, begun_to, begun_last, ◌≡◌, ℕ, zero, suc, ◌≤◌, ◌==◌, Bool, true, false, List, [], ◌∷◌, ◌++◌, append_assoc, append-nil, length, map, reverse, refl, sym, ◌∙◌, ap, subst, if◌then◌else◌, arith, Some, length-reverse, enter, close, on_act, on_front, on_try, gain, finish, new_try, fits, counts, add_if, acts_in, entered, closed, tried, spent_by, on_first, on_last, gained, ended, entered_if, read_off, closed-run, plan-own_acts}
 use Rattle.effect_form.specs.declared.effects.Effect.TheVariants as effect
 use Rattle.effect_form.specs.declared.outcomes.Outcome.{Outcome}
 use Rattle.effect_form.specs.declared.outcomes.Outcome.TheVariants as outcome
@@ -121,7 +121,7 @@ module _ (script : List ℕ → Tree) (me run : ℕ) (plan : List Task) where
 
 -- ---- a broker of a plan
 
-module _ (plan : Plan) (whole : IsOfLanguage plan) (number : ℕ) (own : List ActSpec) (is : own ≡ acts_of number plan.acts) where
+module _ (plan : Plan) (whole : CanRun plan) (number : ℕ) (own : List ActSpec) (is : own ≡ acts_of number plan.acts) where
   pub own-acts : AreBrokerActs own
   own-acts = subst AreBrokerActs (sym is) (plan-own_acts plan number whole)
 

@@ -16,7 +16,7 @@ unfoldable pub use Rattle.object_history.specs.History.{pick, scan, version_coun
 unfoldable pub use Rattle.object_history.specs.Objects.{same_object}
 pub use Rattle.object_history.specs.Views.{value_of}
 pub use Rattle.object_history.specs.declared.marks.Mark.{Mark}
-pub use Rattle.plan_form.specs.PlanTexts.{EachAct, IsOfLanguage}
+pub use Rattle.plan_form.specs.PlanTexts.{EachAct, CanRun}
 pub use Rattle.plan_form.specs.declared.plans.Plan.{Plan}
 pub use Rattle.pseudo_time.proofs.ListLemmas.{every-has, every-reverse}
 pub use Rattle.pseudo_time.proofs.OrderLemmas.{same_stamp-is, stamp_cmp-exact, stamp_cmp-total}

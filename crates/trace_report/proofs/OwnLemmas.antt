@@ -1,5 +1,5 @@
 -- The acts that a broker has begun are its own acts of the plan, and their texts are read as those acts' scripts.
-use Rattle.trace_report.proofs.Names.{slice_get, eqb-true, NodeId, broker, Every, Has, ActSpec, block, IsScript, Effect, denote, Plan, IsOfLanguage, EachAct, Act, Book, reading, OfAct, Task, tasks, acts_of, own-reading, begun_acts, ◌≡◌, inl, inr, ℕ, zero, suc, ◌+◌, ◌==◌, Bool, true, false, List, [], ◌∷◌, length, refl, sym, ◌∙◌, ap, Option, Some, None, if◌then◌else◌, cond, arith, filter, Started, task_of, counted_by, tasks_of, every-has, sound-kept}
+use Rattle.trace_report.proofs.Names.{slice_get, eqb-true, NodeId, broker, Every, Has, ActSpec, block, IsScript, Effect, denote, Plan, CanRun, EachAct, Act, Book, reading, OfAct, Task, tasks, acts_of, own-reading, begun_acts, ◌≡◌, inl, inr, ℕ, zero, suc, ◌+◌, ◌==◌, Bool, true, false, List, [], ◌∷◌, length, refl, sym, ◌∙◌, ap, Option, Some, None, if◌then◌else◌, cond, arith, filter, Started, task_of, counted_by, tasks_of, every-has, sound-kept}
 use Rattle.script_form.specs.RowTexts.{script_text}
 use Rattle.script_form.proofs.RangeLemmas.{printable-range}
 use Rattle.plan_form.proofs.PlanRangeLemmas.{of-whole}
@@ -22,7 +22,7 @@ placed repositories brokers n (a ∷ acts) x h (inr k) =
     let e = q.1 in
     (suc q.0, omega (arith, e), q.2)
 
-pub numbered-is : (plan : Plan) → IsOfLanguage plan → (x : ActSpec) → Has x plan.acts → numbered plan.acts x.index ≡ Some x
+pub numbered-is : (plan : Plan) → CanRun plan → (x : ActSpec) → Has x plan.acts → numbered plan.acts x.index ≡ Some x
 numbered-is plan w x k =
     let q = placed plan.repositories plan.brokers 1 plan.acts x w.acts k in
     let e = q.1 in
@@ -76,10 +76,10 @@ module _ (plan : Plan) (logs : NodeId → List Effect) where
 
 -- ---- its script
 
-pub read-own : (plan : Plan) → IsOfLanguage plan → (x : ActSpec) → Has x plan.acts → reading plan.acts (script_text (block x.script.lines)) ≡ denote (block x.script.lines)
+pub read-own : (plan : Plan) → CanRun plan → (x : ActSpec) → Has x plan.acts → reading plan.acts (script_text (block x.script.lines)) ≡ denote (block x.script.lines)
 read-own plan w x k = every-has (λ (a : ActSpec). reading plan.acts (script_text (block a.script.lines)) ≡ denote (block a.script.lines)) plan.acts x (own-reading plan w) k
 
 -- ---- scripts
 
-pub plan-scripts : (plan : Plan) → IsOfLanguage plan → Every (λ (a : ActSpec). IsScript a.script.lines) plan.acts
+pub plan-scripts : (plan : Plan) → CanRun plan → Every (λ (a : ActSpec). IsScript a.script.lines) plan.acts
 plan-scripts plan w = of-whole (λ (a : ActSpec). IsScript a.script.lines) plan w (λ k a low high is. printable-range plan.repositories (block a.script.lines) is.script)

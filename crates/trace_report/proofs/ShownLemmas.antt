@@ -1,5 +1,5 @@
 -- The acts of a plan are shown as the logs tell them whose begun acts the code has read.
-use Rattle.trace_report.proofs.Names.{option_map, is_at, eqb-true, true≢false, reverse-append, map-append, NodeId, Every, Has, ActSpec, Stmt, block, Effect, Tree, denote, talked, Plan, IsOfLanguage, EachAct, Act, Try, reading, OfAct, Task, TryReport, ActReport, BegunAct, BegunTry, acts_shown, begun_acts, ActParts, act_parts, try_parts, kept, kept_act, kept_try, begun_to, HasActs, act_told, part_at, try_told, rules, ◌≡◌, inl, inr, ℕ, zero, suc, ◌+◌, ◌≤◌, ◌<◌, ◌==◌, Bool, true, false, List, [], ◌∷◌, ◌++◌, map, reverse, refl, sym, ◌∙◌, ap, subst, Option, Some, None, if◌then◌else◌, cond, arith, nat_cmp, eq-eqb, reverse-reverse, act_begun, act_shown, shown_end, spent_at, tries_shown, try_shown, spent_told, tries_told, every-reverse}
+use Rattle.trace_report.proofs.Names.{option_map, is_at, eqb-true, true≢false, reverse-append, map-append, NodeId, Every, Has, ActSpec, Stmt, block, Effect, Tree, denote, talked, Plan, CanRun, EachAct, Act, Try, reading, OfAct, Task, TryReport, ActReport, BegunAct, BegunTry, acts_shown, begun_acts, ActParts, act_parts, try_parts, kept, kept_act, kept_try, begun_to, HasActs, act_told, part_at, try_told, rules, ◌≡◌, inl, inr, ℕ, zero, suc, ◌+◌, ◌≤◌, ◌<◌, ◌==◌, Bool, true, false, List, [], ◌∷◌, ◌++◌, map, reverse, refl, sym, ◌∙◌, ap, subst, Option, Some, None, if◌then◌else◌, cond, arith, nat_cmp, eq-eqb, reverse-reverse, act_begun, act_shown, shown_end, spent_at, tries_shown, try_shown, spent_told, tries_told, every-reverse}
 use Rattle.std.specs.Map.{lookup}
 use Rattle.std.proofs.lemmas.Bool.Decides.{nat_tests}
 use Rattle.trace_report.proofs.OwnLemmas.{IsOwn, begun-own, begun-tries, numbered, numbered-is, read-own}
@@ -60,7 +60,7 @@ differs m b e s = true≢false (sym (ap (λ k. k == b) s ∙ eq-eqb b b refl) �
 below : (n b : ℕ) → (suc n == b) ≡ false → b ≤ suc n → b ≤ n
 below n b e le = grind (arith, nat_tests)
 
-module _ (plan : Plan) (w : IsOfLanguage plan) (x : ActSpec) (among : Has x plan.acts) where
+module _ (plan : Plan) (w : CanRun plan) (x : ActSpec) (among : Has x plan.acts) where
   -- what has the index of a plan's act is begun from that act
   same-spec : (b : ℕ) (a : Act) → IsOwn plan b a → a.task.index ≡ x.index → b ≡ x.broker
   same-spec b a o e =
@@ -160,7 +160,7 @@ tries-read : (plan : Plan) (lines : List Stmt) (a : Act) → reading plan.acts a
 tries-read plan lines a e [] h = tt
 tries-read plan lines a e (t ∷ ts) h = (ap (λ (k : Task). reading plan.acts k.script) h.0.0 ∙ e, tries-read plan lines a e ts h.1)
 
-module _ (plan : Plan) (w : IsOfLanguage plan) (logs : NodeId → List Effect) (x : ActSpec) (among : Has x plan.acts) where
+module _ (plan : Plan) (w : CanRun plan) (logs : NodeId → List Effect) (x : ActSpec) (among : Has x plan.acts) where
   abbrev begun : Option Act
   begun = act_begun x.index (begun_acts plan logs x.broker)
 
@@ -193,7 +193,7 @@ brokers-in : (repositories brokers n : ℕ) (acts : List ActSpec) → EachAct re
 brokers-in repositories brokers n [] h = tt
 brokers-in repositories brokers n (a ∷ acts) h = ((h.0.broker.0, h.0.broker.1), brokers-in repositories brokers (n + 1) acts h.1)
 
-module _ (plan : Plan) (w : IsOfLanguage plan) (logs : NodeId → List Effect) where
+module _ (plan : Plan) (w : CanRun plan) (logs : NodeId → List Effect) where
   acts-same : (acts : List ActSpec) → Every (λ (a : ActSpec). (1 ≤ a.broker) × (a.broker ≤ plan.brokers)) acts → ((x : ActSpec) → Has x acts → Has x plan.acts) →
       map (λ a. act_told a (part_at a.index (map act_parts (begun_to plan logs plan.brokers)))) acts ≡ map (act_shown plan logs) acts
   acts-same [] h k = refl

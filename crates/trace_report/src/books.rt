@@ -1,5 +1,5 @@
 ghost use Rattle.std.specs.Prelude.{◌≡◌, ◌≤◌, length, map, reverse, IfOk, OnOk};
-ghost use Rattle.plan_form.specs.PlanTexts.{IsOfLanguage};
+ghost use Rattle.plan_form.specs.PlanTexts.{CanRun};
 ghost use Rattle.world_core.specs.Nodes as nodes;
 ghost use Rattle.trace_report.specs.Acts as acts;
 ghost use Rattle.trace_report.specs.Begun.{kept, act_parts};
@@ -63,7 +63,7 @@ fn begun_by(
     logs: &[Opened],
     number: u8,
 ) -> Result<Vec<BegunAct>, AllocError>
-    requires whole { IsOfLanguage plan.now }
+    requires whole { CanRun plan.now }
     requires low { 1 ≤ number }
     requires high { number ≤ 16 }
     ensures { IfOk result (λ begun. kept begun.items ≡ map act_parts
@@ -78,7 +78,7 @@ fn begun_by(
 /// The acts that the brokers of a plan have begun, those of the last broker first, each broker's in
 /// their order.
 pub fn begun_in(alloc: Global, plan: &Plan, logs: &[Opened]) -> Result<Vec<BegunAct>, AllocError>
-    requires { IsOfLanguage plan.now }
+    requires { CanRun plan.now }
     ensures { IfOk result (λ begun. kept begun.items ≡ map act_parts
         (spec.begun_to plan.now (logs_by logs.now) plan.now.brokers)) }
 {

@@ -1,6 +1,6 @@
 ghost use Rattle.std.specs.Prelude.{◌≡◌, ◌≤◌, ◌^◌, Some, IfOk};
 ghost use Rattle.pseudo_time.specs.Lists.{Every};
-ghost use Rattle.plan_form.specs.PlanTexts.{IsOfLanguage};
+ghost use Rattle.plan_form.specs.PlanTexts.{CanRun};
 ghost use Rattle.report_writer.specs.Standings.{count_of};
 ghost use Rattle.report_writer.specs.declared.records.ActOutcome.TheVariants.{Open};
 ghost use Rattle.trace_logs.specs.Replays.{IsOpened, IsOnce, IsMoment};
@@ -41,7 +41,7 @@ pub fn report_by(
     logs: &[Opened],
     trace: &Trace,
 ) -> Result<Reported, AllocError>
-    requires { IsOfLanguage plan.now }
+    requires { CanRun plan.now }
     ensures text { IfOk result (λ r. r.text ≡ run_text_by plan.now (logs_by logs.now) trace.now) }
     ensures unfinished { IfOk result (λ r. r.unfinished ≡ open_by plan.now (logs_by logs.now)) }
 {
@@ -66,7 +66,7 @@ pub fn report_by(
 /// Numbers of nodes are 1 to 16, no node is opened twice, the effects in the logs are in range, and no
 /// moment is above 2^63.
 pub fn report(alloc: Global, plan: &Plan, trace: &Trace) -> Result<Reported, AllocError>
-    requires whole { IsOfLanguage plan.now }
+    requires whole { CanRun plan.now }
     requires opened { Every IsOpened trace.now.opened }
     requires once { IsOnce trace.now.opened }
     requires start { trace.now.start ≤ 2 ^ 63 }

@@ -2,7 +2,7 @@ ghost use Rattle.std.specs.Prelude.{◌≡◌, List, Some, map, IfOk};
 ghost use Rattle.effect_form.specs.declared.effects.Effect.{Effect};
 ghost use Rattle.pseudo_time.specs.declared.nodes.NodeId.{NodeId};
 ghost use Rattle.pseudo_time.specs.Lists.{Every};
-ghost use Rattle.plan_form.specs.PlanTexts.{IsOfLanguage};
+ghost use Rattle.plan_form.specs.PlanTexts.{CanRun};
 ghost use Rattle.value_form.specs.Ranges.{IsScript};
 ghost use Rattle.trace_report.specs.Acts.{acts_shown};
 ghost use Rattle.trace_report.specs.Acts as acts;
@@ -163,7 +163,7 @@ pub fn acts_of_plan(
     plan: &Plan,
     begun: Vec<BegunAct>,
 ) -> Result<Vec<ActReport>, AllocError>
-    requires { IsOfLanguage plan.now }
+    requires { CanRun plan.now }
     ensures { (logs : NodeId → List Effect) →
         kept begun.items ≡ map act_parts (begun_to plan.now logs plan.now.brokers) →
         IfOk result (λ shown. shown.items ≡ acts_shown plan.now logs) }

@@ -1,6 +1,6 @@
 ghost use Rattle.std.specs.Prelude.{◌≡◌, ◌≤◌, ◌^◌, ◌++◌, None, IfOk, OnOk};
 ghost use Rattle.pseudo_time.specs.Lists.{Every};
-ghost use Rattle.plan_form.specs.PlanTexts.{IsOfLanguage};
+ghost use Rattle.plan_form.specs.PlanTexts.{CanRun};
 ghost use Rattle.trace_logs.specs.Replays.{IsOpened, IsOnce, IsMoment};
 ghost use Rattle.trace_report.specs.Reports as spec;
 ghost use Rattle.trace_report.specs.Reports.{logs_by};
@@ -89,7 +89,7 @@ pub fn summary_by(
     logs: &[Opened],
     trace: &Trace,
 ) -> Result<Reported, AllocError>
-    requires { IsOfLanguage plan.now }
+    requires { CanRun plan.now }
     ensures text { IfOk result (λ r. r.text ≡ spec.load_text_by seed plan.now (logs_by logs.now) trace.now) }
     ensures unfinished { IfOk result (λ r. r.unfinished ≡ spec.open_by plan.now (logs_by logs.now)) }
 {
@@ -115,7 +115,7 @@ pub fn summary_by(
 /// Numbers of nodes are 1 to 16, no node is opened twice, the effects in the logs are in range, and no
 /// moment is above 2^63.
 pub fn summary(alloc: Global, seed: u64, plan: &Plan, trace: &Trace) -> Result<Reported, AllocError>
-    requires whole { IsOfLanguage plan.now }
+    requires whole { CanRun plan.now }
     requires opened { Every IsOpened trace.now.opened }
     requires once { IsOnce trace.now.opened }
     requires start { trace.now.start ≤ 2 ^ 63 }

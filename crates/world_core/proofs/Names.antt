@@ -11,7 +11,7 @@ pub use Rattle.object_history.specs.History.{Seen, floor_of, is_settled, sees, s
 pub use Rattle.object_history.specs.Views.{IsOnFloor}
 pub use Rattle.object_history.specs.declared.steps.WriteStep.{WriteStep}
 pub use Rattle.plan_form.proofs.PlanRangeLemmas.{of-whole}
-pub use Rattle.plan_form.specs.PlanTexts.{IsOfLanguage}
+pub use Rattle.plan_form.specs.PlanTexts.{CanRun}
 pub use Rattle.plan_form.specs.declared.plans.Plan.{Plan}
 pub use Rattle.pseudo_time.proofs.ListLemmas.{every-append, every-has, every-map, has-left, has-right}
 pub use Rattle.pseudo_time.specs.Lists.{Every, Has}

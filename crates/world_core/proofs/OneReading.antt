@@ -1,5 +1,5 @@
 -- One reading for a plan and all plans of the past.
-use Rattle.world_core.proofs.Names.{Every, Has, every-append, has-left, NodeId, ActSpec, Effect, Asked, Tree, Plan, IsOfLanguage, Scripted, Trace, World, Legal, in_plan, Call, AreCalls, HasPast, logs_after, log_left, IsBrokerAct, ◌≡◌, ℕ, Bool, true, false, List, [], ◌∷◌, ◌++◌, refl, ◌∙◌, ap, if◌then◌else◌, take, has-right, alike, own_reading, reads-all, reads-own}
+use Rattle.world_core.proofs.Names.{Every, Has, every-append, has-left, NodeId, ActSpec, Effect, Asked, Tree, Plan, CanRun, Scripted, Trace, World, Legal, in_plan, Call, AreCalls, HasPast, logs_after, log_left, IsBrokerAct, ◌≡◌, ℕ, Bool, true, false, List, [], ◌∷◌, ◌++◌, refl, ◌∙◌, ap, if◌then◌else◌, take, has-right, alike, own_reading, reads-all, reads-own}
 use Rattle.broker_core.specs.Readings.{reading}
 use Rattle.world_core.proofs.PlanRangeLemmas.{plan-acts}
 use Rattle.world_core.specs.Readings.{IsLegal, WereLeft}
@@ -12,11 +12,11 @@ acts_in [] = []
 acts_in (c ∷ cs) = c.plan.acts ++ acts_in cs
 
 -- the reading of a plan's acts reads them
-pub own-reading : (plan : Plan) → IsOfLanguage plan → Scripted (reading plan.acts) plan.acts
+pub own-reading : (plan : Plan) → CanRun plan → Scripted (reading plan.acts) plan.acts
 own-reading plan w = reads-own plan.acts (plan-acts plan w)
 
 abbrev AreWhole : List Call → Type 0
-AreWhole cs = Every (λ (c : Call). IsOfLanguage c.plan) cs
+AreWhole cs = Every (λ (c : Call). CanRun c.plan) cs
 
 all-acts : (cs : List Call) → AreWhole cs → Every IsBrokerAct (acts_in cs)
 unfolding acts_in
@@ -35,7 +35,7 @@ module _ (all : List ActSpec) (ps : Every IsBrokerAct all) where
   by-plan true x x' y y' e f = e
   by-plan false x x' y y' e f = f
 
-  read-all : (c : Call) (cs : List Call) → IsOfLanguage c.plan → ((a : ActSpec) → Has a (acts_in (c ∷ cs)) → Has a all) → Scripted common c.plan.acts
+  read-all : (c : Call) (cs : List Call) → CanRun c.plan → ((a : ActSpec) → Has a (acts_in (c ∷ cs)) → Has a all) → Scripted common c.plan.acts
   unfolding acts_in
   read-all c cs w h = reads-all all c.plan.acts ps (plan-acts c.plan w) (λ a k. h a (has-left c.plan.acts (acts_in cs) a k))
 
@@ -59,7 +59,7 @@ module _ (all : List ActSpec) (ps : Every IsBrokerAct all) where
   )
 
 -- Runs that are legal each by its own plan, and a trace over what they left, are legal by one reading.
-pub common-reading : (plan : Plan) (asked : List Asked) (t : Trace) (logs : NodeId → List Effect) → IsOfLanguage plan → IsLegal plan asked t → (left : WereLeft logs) →
+pub common-reading : (plan : Plan) (asked : List Asked) (t : Trace) (logs : NodeId → List Effect) → CanRun plan → IsLegal plan asked t → (left : WereLeft logs) →
     (script : List ℕ → Tree) × AreCalls (alike script) left.0 × ((n : NodeId) → logs n ≡ logs_after (alike script) left.0 n) × Legal script plan asked t
 common-reading plan asked t logs w l left =
     let all = plan.acts ++ acts_in left.0 in
@@ -72,7 +72,7 @@ common-reading plan asked t logs w l left =
     )
 
 -- So the logs have a past by it.
-pub one-reading : (plan : Plan) (asked : List Asked) (t : Trace) (logs : NodeId → List Effect) → IsOfLanguage plan → IsLegal plan asked t → WereLeft logs →
+pub one-reading : (plan : Plan) (asked : List Asked) (t : Trace) (logs : NodeId → List Effect) → CanRun plan → IsLegal plan asked t → WereLeft logs →
     (script : List ℕ → Tree) × HasPast (alike script) logs × Legal script plan asked t
 one-reading plan asked t logs w l left =
     let r = common-reading plan asked t logs w l left in

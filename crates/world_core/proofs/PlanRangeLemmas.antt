@@ -1,6 +1,6 @@
 -- The acts of a plan of the language are acts that a broker can have, and their scripts are in range.
 use Rattle.std.proofs.lemmas.List.Sums.{length-filter, count_by-le-length}
-use Rattle.world_core.proofs.Names.{Every, ActSpec, block, Plan, IsOfLanguage, IsBrokerAct, acts_of, ℕ, ◌≤◌, Bool, true, false, cond, List, [], ◌∷◌, arith, ◌==◌, filter, of-whole, AreBrokerActs, printable-up}
+use Rattle.world_core.proofs.Names.{Every, ActSpec, block, Plan, CanRun, IsBrokerAct, acts_of, ℕ, ◌≤◌, Bool, true, false, cond, List, [], ◌∷◌, arith, ◌==◌, filter, of-whole, AreBrokerActs, printable-up}
 use Rattle.plan_form.specs.PlanTexts as plans
 use Rattle.serial_model.specs.Ranges.{BlockInRange}
 use Rattle.serial_model.proofs.ScriptRangeLemmas.{printable-InRange}
@@ -20,7 +20,7 @@ act-is repositories brokers k act few low high is = record {
   script = printable-up repositories 16 (block act.script.lines) few is.script;
 }
 
-pub plan-acts : (plan : Plan) → IsOfLanguage plan → Every IsBrokerAct plan.acts
+pub plan-acts : (plan : Plan) → CanRun plan → Every IsBrokerAct plan.acts
 plan-acts plan w = of-whole IsBrokerAct plan w (λ k act low high is. act-is plan.repositories plan.brokers k act w.repositories.1 low high is)
 
 every-filter : {X : Type 0} (P : X → Type 0) (test : X → Bool) (xs : List X) → Every P xs → Every P (filter test xs)
@@ -37,11 +37,11 @@ own-acts b acts h = record {
   few = let e = length-filter (λ (a : ActSpec). a.broker == b) acts in let l = count_by-le-length (λ (a : ActSpec). a.broker == b) acts in let f = h.few in omega (arith, e, l, f);
 }
 
-pub plan-AreBrokerActs : (plan : Plan) → IsOfLanguage plan → AreBrokerActs plan.acts
+pub plan-AreBrokerActs : (plan : Plan) → CanRun plan → AreBrokerActs plan.acts
 plan-AreBrokerActs plan w = record { each = plan-acts plan w; few = w.few }
 
-pub plan-own_acts : (plan : Plan) (b : ℕ) → IsOfLanguage plan → AreBrokerActs (acts_of b plan.acts)
+pub plan-own_acts : (plan : Plan) (b : ℕ) → CanRun plan → AreBrokerActs (acts_of b plan.acts)
 plan-own_acts plan b w = own-acts b plan.acts (plan-AreBrokerActs plan w)
 
-pub whole-scripts : (plan : Plan) → IsOfLanguage plan → Every (λ act. BlockInRange (block act.script.lines)) plan.acts
+pub whole-scripts : (plan : Plan) → CanRun plan → Every (λ act. BlockInRange (block act.script.lines)) plan.acts
 whole-scripts plan w = of-whole (λ act. BlockInRange (block act.script.lines)) plan w (λ k act low high is_act. printable-InRange plan.repositories (block act.script.lines) is_act.script)

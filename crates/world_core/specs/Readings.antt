@@ -5,7 +5,7 @@ use Rattle.pseudo_time.specs.declared.nodes.NodeId.{NodeId}
 use Rattle.effect_form.specs.declared.effects.Effect.{Effect}
 use Rattle.stream_port.specs.declared.fates.Asked.{Asked}
 use Rattle.plan_form.specs.declared.plans.Plan.{Plan}
-use Rattle.plan_form.specs.PlanTexts.{IsOfLanguage}
+use Rattle.plan_form.specs.PlanTexts.{CanRun}
 use Rattle.broker_core.specs.Readings.{reading}
 use Rattle.world_core.specs.declared.traces.Trace.{Trace}
 use Rattle.world_core.specs.Walks.{World, Life, walk}
@@ -37,9 +37,9 @@ AllOpened plan t = (n : NodeId) → in_plan plan n ≡ true → WasNotOpened t.e
 
 -- ---- logs that earlier runs left
 
--- these are runs of plans of the language, each over what those before it left
+-- these are runs of plans that can run, each over what those before it left
 abbrev pub WereRuns : List Call → Type 0
-WereRuns cs = AreCalls own_reading cs × Every (λ (c : Call). IsOfLanguage c.plan) cs
+WereRuns cs = AreCalls own_reading cs × Every (λ (c : Call). CanRun c.plan) cs
 
 -- the logs come from empty ones by runs of this program
 abbrev pub WereLeft : (NodeId → List Effect) → Type 0

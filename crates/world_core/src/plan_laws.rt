@@ -1,4 +1,4 @@
-// Each law holds for every plan of the language.
+// Each law holds for every plan that can run.
 ghost use Rattle.std.specs.Prelude.{◌≡◌, ℕ, List};
 ghost use Rattle.pseudo_time.specs.Lists.{Every};
 ghost use Rattle.pseudo_time.specs.StampParts.{IsInRange};
@@ -7,7 +7,7 @@ ghost use Rattle.value_form.specs.Mirror.{block};
 ghost use Rattle.effect_form.specs.declared.effects.Effect.{Effect};
 ghost use Rattle.stream_port.specs.declared.fates.Asked.{Asked};
 ghost use Rattle.plan_form.specs.declared.plans.Plan.{Plan};
-ghost use Rattle.plan_form.specs.PlanTexts.{IsOfLanguage};
+ghost use Rattle.plan_form.specs.PlanTexts.{CanRun};
 ghost use Rattle.serial_model.specs.Questions.{Tree};
 ghost use Rattle.serial_model.specs.Ranges.{BlockInRange};
 ghost use Rattle.broker_core.specs.Ledgers.{AreBrokerActs};
@@ -25,12 +25,12 @@ ghost use Rattle.world_core.specs.Walks.{walk};
 /// scripts ask for is in range, and the broker and home of each are those of a stamp. So each script
 /// of a plan has a reading, that of the plan's acts.
 pub fn law_of_plans_in_range()
-    ensures acts { (plan : Plan) → IsOfLanguage plan → AreBrokerActs plan.acts }
-    ensures own { (plan : Plan) (b : ℕ) → IsOfLanguage plan → AreBrokerActs (acts_of b plan.acts) }
-    ensures names { (plan : Plan) → IsOfLanguage plan → Every (λ act. IsInRange 1 act.broker act.home) plan.acts }
-    ensures scripts { (plan : Plan) → IsOfLanguage plan →
+    ensures acts { (plan : Plan) → CanRun plan → AreBrokerActs plan.acts }
+    ensures own { (plan : Plan) (b : ℕ) → CanRun plan → AreBrokerActs (acts_of b plan.acts) }
+    ensures names { (plan : Plan) → CanRun plan → Every (λ act. IsInRange 1 act.broker act.home) plan.acts }
+    ensures scripts { (plan : Plan) → CanRun plan →
         Every (λ act. BlockInRange (block act.script.lines)) plan.acts }
-    ensures read { (plan : Plan) → IsOfLanguage plan → Scripted (reading plan.acts) plan.acts }
+    ensures read { (plan : Plan) → CanRun plan → Scripted (reading plan.acts) plan.acts }
 {}
 
 /// Two readings that both read a plan's scripts give the same walk of its traces, and the same traces
@@ -47,7 +47,7 @@ pub fn readings_walk_alike()
 /// Where earlier runs left these logs, each legal by its own plan, there is one reading of scripts by
 /// which the logs have a past and a trace that is legal by its plan is legal.
 pub fn one_reading_for_all()
-    ensures { (plan : Plan) (asked : List Asked) (t : Trace) (logs : NodeId → List Effect) → IsOfLanguage plan →
+    ensures { (plan : Plan) (asked : List Asked) (t : Trace) (logs : NodeId → List Effect) → CanRun plan →
         IsLegal plan asked t → WereLeft logs
         → (script : List ℕ → Tree) × HasPast (alike script) logs × Legal script plan asked t }
 {}

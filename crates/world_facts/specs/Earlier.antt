@@ -8,7 +8,7 @@ use Rattle.effect_form.specs.declared.effects.Effect.{Effect}
 use Rattle.message_form.specs.Posts.{Post}
 use Rattle.serial_model.specs.Questions.{Tree}
 use Rattle.plan_form.specs.declared.plans.Plan.{Plan}
-use Rattle.plan_form.specs.PlanTexts.{IsOfLanguage}
+use Rattle.plan_form.specs.PlanTexts.{CanRun}
 use Rattle.object_retirement.specs.Forward.{MayRetire, forward}
 use Rattle.world_core.specs.declared.entries.Entry.{Entry}
 use Rattle.world_core.specs.declared.entries.Entry.TheVariants.{Tick}
@@ -46,10 +46,10 @@ AreRuns [] = Unit {0}
 AreRuns (Running c ∷ cs) = AreRuns cs
 AreRuns (Retiring r at ∷ cs) = ⊥
 
--- the runs among these calls are of plans of the language
+-- the runs among these calls are of plans that can run
 abbrev pub AreOfLanguage : List Earlier → Type 0
 AreOfLanguage [] = Unit {0}
-AreOfLanguage (Running c ∷ cs) = IsOfLanguage c.plan × AreOfLanguage cs
+AreOfLanguage (Running c ∷ cs) = CanRun c.plan × AreOfLanguage cs
 AreOfLanguage (Retiring r at ∷ cs) = AreOfLanguage cs
 
 -- the logs come from empty ones by such runs, each plan read by its own acts, and by retirements

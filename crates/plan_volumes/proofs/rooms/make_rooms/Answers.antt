@@ -4,7 +4,7 @@ use Rattle.plan_volumes.proofs.rooms.make_rooms.Goals as goal
 pub overflow_mul-count : goal.overflow_mul-count
 overflow_mul-count g c =
     let repositories = c.requires.repositories.1 in
-    let brokers = c.requires.brokers.1 in
+    let brokers = c.requires.brokers in
     omega (arith, repositories, brokers, c.node_count-count.ensures)
 
 pub returns : goal.returns

@@ -1,4 +1,4 @@
-use Rattle.swallow_top.proofs.Names.{Every, IsOfLanguage, AreWords, IsPoll, RefusedAs, AskedNothing, shelf_sight, sinking, ◌⊎◌, ◌∙◌, ◌≤◌, ap, length, refl, sym, subst, said}
+use Rattle.swallow_top.proofs.Names.{Every, CanRun, AreWords, IsPoll, RefusedAs, AskedNothing, shelf_sight, sinking, ◌⊎◌, ◌∙◌, ◌≤◌, ap, length, refl, sym, subst, said}
 use Rattle.plan_form.proofs.MadeLemmas.{made_is_whole}
 use Rattle.command_words.proofs.WordLemmas.{few-ticks}
 use Rattle.swallow_top.proofs.PromiseLemmas.{language-of, polls-of, promise-asked, promise-load, promise-no-polls, promise-refused, promise-run, promise-votes, quiet-call, some-workers}
@@ -12,7 +12,7 @@ pub run_plan-requires-clause-workers : goal.run_plan-requires-clause-workers
 run_plan-requires-clause-workers g c κs within = some-workers c.in-Some-Run.options (subst (λ x. AreWords x (said c.args.words.now)) c.in-Some-Run.field-0-is c.in-Some-Run.ensures.words).0 (subst (λ x. AreWords x (said c.args.words.now)) c.in-Some-Run.field-0-is c.in-Some-Run.ensures.words).2
 
 pub run_plan-requires-in-Ok-make-clause-plan : goal.run_plan-requires-in-Ok-make-clause-plan
-run_plan-requires-in-Ok-make-clause-plan g c κs within = subst IsOfLanguage (sym c.in-Ok-make.ensures) (made_is_whole c.in-Some-Load.seed c.in-Some-Load.count (subst (λ x. AreWords x (said c.args.words.now)) c.in-Some-Load.field-0-is c.in-Some-Load.ensures.words).count_is.high)
+run_plan-requires-in-Ok-make-clause-plan g c κs within = subst CanRun (sym c.in-Ok-make.ensures) (made_is_whole c.in-Some-Load.seed c.in-Some-Load.count (subst (λ x. AreWords x (said c.args.words.now)) c.in-Some-Load.field-0-is c.in-Some-Load.ensures.words).count_is.high).0
 
 pub run_plan-requires-in-Ok-make-clause-workers : goal.run_plan-requires-in-Ok-make-clause-workers
 run_plan-requires-in-Ok-make-clause-workers g c κs within = some-workers c.in-Some-Load.options (subst (λ x. AreWords x (said c.args.words.now)) c.in-Some-Load.field-0-is c.in-Some-Load.ensures.words).more (subst (λ x. AreWords x (said c.args.words.now)) c.in-Some-Load.field-0-is c.in-Some-Load.ensures.words).options
