@@ -44,3 +44,9 @@ module _ (plan : Plan) (lang : CanRun plan) where
       opened = subst (Every IsOpened) (sym whole.opened) (subst (Every IsOpened) (sym s.opened) (opened-in 0 os (omega (arith, count)) ranges));
       moments = whole.moments;
     }
+
+-- ---- plans without brokers
+
+-- no number is one of none
+pub none-within : (b : ℕ) → is_within b 0 ≡ true → ⊥
+none-within b h = let range = in-range b 0 h in omega (arith, range.0, range.1)
