@@ -1,5 +1,5 @@
 -- The moments of a run, the numbers of its nodes and the effects of their logs are in range.
-use Rattle.run_rounds.proofs.Names.{Every, repository, broker, Asked, Plan, CanRun, Trace, Origin, IsWhole, Opening, Open, Shut, Wanting, Media, HasOpened, IsInRange, opened_from, node_at, node_count, IsSetUp, ◌≡◌, ◌≤◌, ◌<◌, ◌+◌, ◌-◌, ◌^◌, nat_lt, ℕ, suc, Bool, true, false, List, [], ◌∷◌, Option, Some, None, length, if◌then◌else◌, refl, sym, subst, arith, All, AllZip, nat_tests, All-nil, All-cons, HasRanges}
+use Rattle.run_rounds.proofs.Names.{Every, repository, broker, Asked, Plan, CanRun, Trace, Origin, IsWhole, Opening, Open, Shut, Wanting, Media, HasOpened, IsInRange, opened_from, node_at, node_count, IsSetUp, ◌≡◌, ◌≤◌, ◌<◌, ◌+◌, ◌-◌, ◌^◌, nat_lt, ℕ, suc, Bool, true, false, List, [], ◌∷◌, Option, Some, None, length, if◌then◌else◌, refl, sym, subst, arith, All, AllZip, nat_tests, All-nil, All-cons, HasRanges, in-range, is_within}
 use Rattle.trace_report.specs.Replays.{IsOpened}
 use Rattle.run_rounds.proofs.ListLemmas.{all-first, all-rest}
 
