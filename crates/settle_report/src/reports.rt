@@ -59,11 +59,7 @@ fn report_by(
 ///
 /// Numbers of nodes are 1 to 16, no node is opened twice, the effects in the logs are in range, and no
 /// moment is above 2^63. The cost is nearly linear in the effects of all logs.
-pub fn settle_report(
-    alloc: Global,
-    plan: &Plan,
-    trace: &Trace,
-) -> Result<SettleReport, AllocError>
+pub fn settle_report(alloc: Global, plan: &Plan, trace: &Trace) -> Result<SettleReport, AllocError>
     requires whole { CanRun plan.now }
     requires opened { Every IsOpened trace.now.opened }
     requires once { IsOnce trace.now.opened }

@@ -32,12 +32,7 @@ fn becomes(committed: bool, before: Option<bool>, now: Option<bool>) -> bool
 }
 
 // How many of these versions were settled so between two logs.
-fn settled_count(
-    committed: bool,
-    was: &Settles,
-    is: &Settles,
-    versions: &[HeldVersion],
-) -> u64
+fn settled_count(committed: bool, was: &Settles, is: &Settles, versions: &[HeldVersion]) -> u64
     ensures { (before after : _) → AreKnown (reverse before) was.now → AreKnown (reverse after) is.now →
         result ≡ length (filter (spec.is_settled_as committed before after) versions.now) }
 {

@@ -1,3 +1,0 @@
-pub mod Contract
-pub mod Plans
-pub mod Tellings
