@@ -15,7 +15,7 @@ use std::alloc::{AllocError, Global};
 pub struct Tally {
     pub committed: u64,
     pub aborted: u64,
-    pub open: u64,
+    pub undecided: u64,
 }
 
 // Whether an attempt wasn't known before, and is known as this now.
@@ -82,6 +82,6 @@ pub fn tally_of(
     Ok(Tally {
         committed: settled_count(true, &was, &is, versions.as_slice()),
         aborted: settled_count(false, &was, &is, versions.as_slice()),
-        open: (open.len() - listed) as u64,
+        undecided: (open.len() - listed) as u64,
     })
 }

@@ -40,7 +40,7 @@ fn push_tally(
     push_named(alloc, out, b"repository ", number as u64)?;
     push_named(alloc, out, b" committed ", tally.committed)?;
     push_named(alloc, out, b" aborted ", tally.aborted)?;
-    push_named(alloc, out, b" open ", tally.open)?;
+    push_named(alloc, out, b" open ", tally.undecided)?;
     out.push(b'\n')?;
     Ok(())
 }
