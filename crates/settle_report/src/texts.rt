@@ -89,11 +89,11 @@ fn push_why(
     alloc: Global,
     out: &mut Vec<u8>,
     home: u8,
-    record: Option<RecordState>,
+    state: Option<RecordState>,
 ) -> Result<(), AllocError>
     ensures { OnOk result (out.new.items ≡ out.old.items ++ spec.why_text home record) }
 {
-    match record {
+    match state {
         Some(RecordState::Unknown { deadline }) => push_named(alloc, out, b" deadline ", deadline),
         Some(RecordState::Decided(_)) => push_named(alloc, out, b" home ", home as u64),
         None => push_named(alloc, out, b" home ", home as u64),
@@ -105,7 +105,7 @@ fn push_version(
     alloc: Global,
     out: &mut Vec<u8>,
     version: HeldVersion,
-    record: Option<RecordState>,
+    state: Option<RecordState>,
 ) -> Result<(), AllocError>
     ensures { OnOk result (out.new.items ≡ out.old.items ++ spec.version_line version record) }
 {
@@ -113,7 +113,7 @@ fn push_version(
     push_object(alloc, out, version.object)?;
     out.push(b' ')?;
     push_time(alloc, out, version.start)?;
-    push_why(alloc, out, version.start.stamp().home(), record)?;
+    push_why(alloc, out, version.start.stamp().home(), state)?;
     out.push(b'\n')?;
     Ok(())
 }
@@ -129,8 +129,8 @@ pub fn push_open(
         OnOk result (out.new.items ≡ out.old.items ++ flat_map (spec.open_line repositories logs) open.now) }
 {
     for version in open {
-        let record = record_at(ledgers, version.start.stamp());
-        push_version(alloc, out, *version, record)?;
+        let state = record_at(ledgers, version.start.stamp());
+        push_version(alloc, out, *version, state)?;
     }
     Ok(())
 }
