@@ -49,17 +49,17 @@ fn push_tally(
 fn push_repository(
     alloc: Global,
     out: &mut Vec<u8>,
-    open: &mut Vec<HeldVersion>,
+    undecided: &mut Vec<HeldVersion>,
     number: u8,
     before: &[Opened],
     after: &[Opened],
 ) -> Result<(), AllocError>
     ensures out { OnOk result (out.new.items ≡ out.old.items ++
         spec.repository_line (logs_by before.now) (logs_by after.now) (repository number)) }
-    ensures open { OnOk result (open.new.items ≡ open.old.items ++ open_in (logs_by after.now (repository number))) }
+    ensures undecided { OnOk result (undecided.new.items ≡ undecided.old.items ++ open_in (logs_by after.now (repository number))) }
 {
     let node = NodeId::repository(number);
-    let tally = tally_of(alloc, log_of(before, node), log_of(after, node), open)?;
+    let tally = tally_of(alloc, log_of(before, node), log_of(after, node), undecided)?;
     push_tally(alloc, out, number, tally)
 }
 
@@ -68,18 +68,18 @@ fn push_repository(
 pub fn push_repositories(
     alloc: Global,
     out: &mut Vec<u8>,
-    open: &mut Vec<HeldVersion>,
+    undecided: &mut Vec<HeldVersion>,
     repositories: u8,
     before: &[Opened],
     after: &[Opened],
 ) -> Result<(), AllocError>
     ensures out { OnOk result (out.new.items ≡ out.old.items ++
         flat_map (spec.repository_line (logs_by before.now) (logs_by after.now)) (nodes_to repository repositories)) }
-    ensures open { OnOk result (open.new.items ≡ open.old.items ++
+    ensures undecided { OnOk result (undecided.new.items ≡ undecided.old.items ++
         flat_map (λ (n : NodeId). open_in (logs_by after.now n)) (nodes_to repository repositories)) }
 {
     for below in 0..repositories {
-        push_repository(alloc, out, open, below + 1, before, after)?;
+        push_repository(alloc, out, undecided, below + 1, before, after)?;
     }
     Ok(())
 }
@@ -123,12 +123,12 @@ pub fn push_open(
     alloc: Global,
     out: &mut Vec<u8>,
     ledgers: &[Records],
-    open: &[HeldVersion],
+    undecided: &[HeldVersion],
 ) -> Result<(), AllocError>
     ensures { (repositories : ℕ) (logs : NodeId → List Effect) → AreLedgers repositories logs ledgers.now →
-        OnOk result (out.new.items ≡ out.old.items ++ flat_map (spec.open_line repositories logs) open.now) }
+        OnOk result (out.new.items ≡ out.old.items ++ flat_map (spec.open_line repositories logs) undecided.now) }
 {
-    for version in open {
+    for version in undecided {
         let state = record_at(ledgers, version.start.stamp());
         push_version(alloc, out, *version, state)?;
     }
