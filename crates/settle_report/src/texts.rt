@@ -29,12 +29,7 @@ pub fn push_head(alloc: Global, out: &mut Vec<u8>, repositories: u8) -> Result<(
 }
 
 // Appends the line of a repository.
-fn push_tally(
-    alloc: Global,
-    out: &mut Vec<u8>,
-    number: u8,
-    tally: Tally,
-) -> Result<(), AllocError>
+fn push_tally(alloc: Global, out: &mut Vec<u8>, number: u8, tally: Tally) -> Result<(), AllocError>
     ensures { OnOk result (out.new.items ≡ out.old.items ++ spec.tally_line number tally) }
 {
     push_named(alloc, out, b"repository ", number as u64)?;
@@ -91,7 +86,7 @@ fn push_why(
     home: u8,
     state: Option<RecordState>,
 ) -> Result<(), AllocError>
-    ensures { OnOk result (out.new.items ≡ out.old.items ++ spec.why_text home record) }
+    ensures { OnOk result (out.new.items ≡ out.old.items ++ spec.why_text home state) }
 {
     match state {
         Some(RecordState::Unknown { deadline }) => push_named(alloc, out, b" deadline ", deadline),
@@ -107,7 +102,7 @@ fn push_version(
     version: HeldVersion,
     state: Option<RecordState>,
 ) -> Result<(), AllocError>
-    ensures { OnOk result (out.new.items ≡ out.old.items ++ spec.version_line version record) }
+    ensures { OnOk result (out.new.items ≡ out.old.items ++ spec.version_line version state) }
 {
     out.extend_from_slice(b"open ")?;
     push_object(alloc, out, version.object)?;
