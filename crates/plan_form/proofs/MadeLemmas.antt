@@ -336,15 +336,17 @@ last_is count = (act_of_is (count + 1) 1 1 audit (omega arith, omega arith) (ome
 pub made_is_whole : (seed count : ℕ) → count ≤ 9999 → IsOfLanguage (made_plan seed count)
 made_is_whole seed count h =
     let size = length-append (transfers count seed 1) (act_of (count + 1) 1 1 audit ∷ []) in
-    let same = transfers_count count seed 1 in
-    (record {
-      run = (omega arith, omega arith);
-      repositories = (omega arith, omega arith);
-      brokers = omega arith;
-      acts = each_then 1 (transfers count seed 1) (act_of (count + 1) 1 1 audit ∷ []) (transfers_are count seed 1)
-          (subst (λ z. EachAct 8 8 z (act_of (count + 1) 1 1 audit ∷ [])) (let e : count + 1 ≡ 1 + length (transfers count seed 1) = omega (arith, same) in e) (last_is count));
-      few = omega (arith, size, same, h);
-    }, omega arith)
+    let same = transfers_count count seed 1 in (
+      record {
+        run = (omega arith, omega arith);
+        repositories = (omega arith, omega arith);
+        brokers = omega arith;
+        acts = each_then 1 (transfers count seed 1) (act_of (count + 1) 1 1 audit ∷ []) (transfers_are count seed 1)
+            (subst (λ z. EachAct 8 8 z (act_of (count + 1) 1 1 audit ∷ [])) (let e : count + 1 ≡ 1 + length (transfers count seed 1) = omega (arith, same) in e) (last_is count));
+        few = omega (arith, size, same, h);
+      },
+      omega arith,
+    )
 
 head_size : length (head_text 1 8 8) ≤ 60
 head_size =
