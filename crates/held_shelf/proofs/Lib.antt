@@ -1,0 +1,3 @@
+mod HeldLemmas
+mod SlotLemmas
+pub mod Names

@@ -1,0 +1,4 @@
+pub mod AskedNames
+pub mod Held
+pub mod PutBack
+pub mod Slots
