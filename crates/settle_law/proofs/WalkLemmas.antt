@@ -1,6 +1,7 @@
 -- What a walk without brokers keeps.
-use Rattle.std.proofs.Common.{◌≡◌, ◌<◌, ℕ, zero, suc, Bool, true, false, ◌&&◌, List, [], ◌∷◌, ◌++◌, map, inl, inr, refl, sym, ap, subst, ◌∙◌, Option, Some, None, is_some, append_assoc, reverse, if◌then◌else◌}
+use Rattle.std.proofs.Common.{◌≡◌, ◌<◌, ◌≤◌, ℕ, zero, suc, arith, nat_le, Bool, true, false, ◌&&◌, List, [], ◌∷◌, ◌++◌, map, inl, inr, refl, sym, ap, subst, ◌∙◌, Option, Some, None, is_some, append_assoc, reverse, if◌then◌else◌}
 use Rattle.std.proofs.lemmas.Bool.{false≢true, true≢false}
+use Rattle.std.proofs.lemmas.Bool.Decides.{nat_tests}
 use Rattle.std.proofs.lemmas.List.{append-nil, reverse-append, reverse-reverse}
 use Rattle.std.specs.List.{filter}
 use Rattle.stream_port.specs.declared.fates.Fate.{Fate}
@@ -250,8 +251,15 @@ module _ (b : Base) where
 
 -- no number is one of none
 pub none-within : (n : ℕ) → is_within n 0 ≡ false
-none-within zero = refl
-none-within (suc n) = refl
+none-within n = go (nat_le 1 n) (nat_le n 0) refl refl
+  where
+    go : (a b : Bool) → nat_le 1 n ≡ a → nat_le n 0 ≡ b → (a && b) ≡ false
+    go false b p q = refl
+    go true false p q = refl
+    go true true p q =
+        let low : 1 ≤ n = grind (arith, nat_tests) in
+        let high : n ≤ 0 = grind (arith, nat_tests) in
+        absurd (omega (arith, low, high))
 
 pub none-mapped : {X Y : Type 0} (g : X → Y) (xs : List X) → map g xs ≡ [] → xs ≡ []
 none-mapped g [] e = refl
