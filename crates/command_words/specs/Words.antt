@@ -9,7 +9,7 @@ use Rattle.command_words.specs.declared.commands.Options.{Options}
 use Rattle.command_words.specs.declared.rules.Rule.{Rule}
 use Rattle.command_words.specs.declared.rules.Rule.TheVariants.{Count, Sum, Last}
 use Rattle.command_words.specs.declared.commands.Command.{Command}
-use Rattle.command_words.specs.declared.commands.Command.TheVariants.{Run, Load, History, Retire, Votes, Watch, AsOf, Audit, Snapshot}
+use Rattle.command_words.specs.declared.commands.Command.TheVariants.{Run, Load, History, Retire, Votes, Watch, AsOf, Audit, Snapshot, Settle}
 use Rattle.command_words.specs.declared.options.Given.{Given}
 
 -- ---- numbers
@@ -113,6 +113,12 @@ abbrev pub IsSnapshot : Option ℕ → List (List ℕ) → Type 0
 IsSnapshot None words = words ≡ codes "snapshot" ∷ []
 IsSnapshot (Some clock) words = (word : List ℕ) × (words ≡ codes "snapshot" ∷ word ∷ []) × IsNumber 1 (2 ^ 40 - 1) clock word
 
+-- this word, and how many repositories settle
+pub record IsSettle (repositories : ℕ) (words : List (List ℕ)) : Type 0 where
+  pub word : List ℕ
+  pub are : words ≡ codes "settle" ∷ word ∷ []
+  pub number_is : IsNumber 1 16 repositories word
+
 -- the words are this command
 abbrev pub AreWords : Command → List (List ℕ) → Type 0
 AreWords (Run o) words = (more : List (List ℕ)) × (words ≡ codes "run" ∷ more) × AreOptions o more
@@ -124,6 +130,7 @@ AreWords (Watch repository rule) words = IsWatch repository rule words
 AreWords (AsOf repository clock) words = IsAsOf repository clock words
 AreWords (Audit object) words = IsAudit object words
 AreWords (Snapshot clock) words = IsSnapshot clock words
+AreWords (Settle repositories) words = IsSettle repositories words
 
 -- what the words of a call are
 abbrev pub said : List (Bor (List ℕ)) → List (List ℕ)

@@ -2,7 +2,7 @@
 ghost use Rattle.std.specs.Prelude.{◌≡◌, ◌∷◌, ℕ, codes, Option, None, IfSome, MatchOption};
 ghost use Rattle.value_form.specs.declared.objects.ObjectId.{ObjectId};
 ghost use Rattle.command_words.specs.declared.rules.Rule.{Rule};
-ghost use Rattle.command_words.specs.Words.{AreWords, AreNone, IsLoad, IsHistory, IsRetire, IsWatch, IsAsOf, IsAudit, IsSnapshot, said};
+ghost use Rattle.command_words.specs.Words.{AreWords, AreNone, IsLoad, IsHistory, IsRetire, IsWatch, IsAsOf, IsAudit, IsSnapshot, IsSettle, said};
 
 use crate::numbers::{number, object};
 use crate::options::{options, vote_options};
@@ -61,6 +61,11 @@ pub enum Command {
     Snapshot {
         /// 1 to 1,099,511,627,775; or else the one above all clocks of the repositories.
         clock: Option<u64>,
+    },
+    /// Settle what is in doubt in repositories 1 to this number.
+    Settle {
+        /// 1 to 16.
+        repositories: u8,
     },
 }
 
@@ -160,9 +165,23 @@ fn snapshot(words: &[&str]) -> Option<Command>
     }
 }
 
+// A settle: its number of repositories.
+fn settle(words: &[&str]) -> Option<Command>
+    ensures { MatchOption result ((repositories : ℕ) →
+        IsSettle repositories (codes "settle" ∷ said words.now) → ⊥)
+        (λ c. AreWords c (codes "settle" ∷ said words.now)) }
+{
+    let [word] = words else {
+        return None;
+    };
+    Some(Command::Settle {
+        repositories: number(word, 1, 16)? as u8,
+    })
+}
+
 /// The command that the words are: `run OPTIONS`, `load SEED COUNT OPTIONS`, `history R.N`,
-/// `retire R CLOCK`, `votes OPTIONS`, `watch R RULE`, `asof R CLOCK`, `audit R.N`, `snapshot CLOCK` or
-/// `snapshot`. OPTIONS are any of `--workers W` (1 unless given; not of votes), `--ticks T` (10,000) and
+/// `retire R CLOCK`, `votes OPTIONS`, `watch R RULE`, `asof R CLOCK`, `audit R.N`, `snapshot CLOCK`,
+/// `snapshot` or `settle N`. OPTIONS are any of `--workers W` (1 unless given; not of votes), `--ticks T` (10,000) and
 /// `--messages N` (200,000), in any order, each at most once, name and number as two words. RULE is `count`,
 /// `sum` or `last`. Numbers are decimal digits without a sign or a zero in front. None where they are no
 /// command.
@@ -183,6 +202,7 @@ pub fn read_words(words: &[&str]) -> Option<Command>
         "asof" => asof(more),
         "audit" => audit(more),
         "snapshot" => snapshot(more),
+        "settle" => settle(more),
         _ => None,
     }
 }

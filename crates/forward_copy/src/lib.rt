@@ -16,4 +16,5 @@ pub use carries::carry;
 pub use copies::Forward;
 pub use faults::ForwardFault;
 pub use forwards::forward;
+pub use settles::settles_of;
 pub use wholes::has_whole;

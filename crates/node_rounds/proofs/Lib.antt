@@ -2,6 +2,7 @@ pub mod BrokerCrosses
 pub mod Crosses
 pub mod PageLemmas
 pub mod PairLemmas
+pub mod PauseLemmas
 pub mod RepositoryCrosses
 pub mod RoundLemmas
 pub mod SettledLemmas

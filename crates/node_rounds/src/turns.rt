@@ -87,9 +87,9 @@ fn idle_behind(idle: u32, worked: bool) -> u32 {
     idle.saturating_add(1)
 }
 
-// A share's part of a round: its nodes have so many turns, one at least, or fewer where none of them does
-// anything in several that follow one another. Takes no memory.
-fn share_often<L, S: Turns<L>, R: Wait>(rt: &R, shared: &L, turns: u32, nodes: &mut Vec<S>)
+/// A share's part of a round: its nodes have so many turns, one at least, or fewer if none of them does
+/// anything in several that follow one another. Takes no memory.
+pub fn share_often<L, S: Turns<L>, R: Wait>(rt: &R, shared: &L, turns: u32, nodes: &mut Vec<S>)
     requires ready { All (S.ready shared.now) nodes.old.items }
     ensures does { AllZip (S.does shared.now) nodes.old.items nodes.new.items }
     ensures room { (vec_len nodes.new ≡ vec_len nodes.old) × (vec_capacity nodes.new ≡ vec_capacity nodes.old) }

@@ -1,7 +1,8 @@
 -- What the closing of a run's wire says, and what its calls ask.
-use Rattle.run_rounds.proofs.Names.{Asked, View, Founding, LockTable, IsOneOf, CarriesOn, fresh, knows, Entry, Trace, Idle, fates_of, IsLegal, Origin, WireParts, owner_of, IsWirePass, Sight, owners_for, IsWhole, LeavesUntold, end_of, tick_count, NodeParts, Limits, Reason, Media, End, ClosedAs, HaveGone, IfRan, IfWanting, Pass, ◌≡◌, ◌⊎◌, ◌+◌, ◌++◌, ◌↔◌, ◌∙◌, ℕ, Bool, true, IsTrue, List, [], ◌∷◌, Option, inl, inr, refl, ap, sym, subst, All, All-push, ToldFor}
+use Rattle.run_rounds.proofs.Names.{Asked, View, Founding, LockTable, IsOneOf, CarriesOn, fresh, knows, Entry, Trace, Idle, fates_of, IsLegal, Origin, WireParts, owner_of, IsWirePass, Sight, owners_for, IsWhole, LeavesUntold, end_of, tick_count, NodeParts, Reason, Media, End, ClosedAs, HaveGone, IfRan, IfWanting, Pass, ◌≡◌, ◌⊎◌, ◌+◌, ◌++◌, ◌↔◌, ◌∙◌, ℕ, Bool, true, IsTrue, List, [], ◌∷◌, Option, inl, inr, refl, ap, sym, subst, All, All-push, ToldFor}
 use Rattle.run_starts.specs.Reason.TheVariants as reason
 use Rattle.run_rounds.specs.declared.ends.End.TheVariants as end
+use Rattle.run_rounds.specs.declared.goals.Course.{Course}
 
 -- ---- what is told
 
@@ -70,5 +71,5 @@ new-conductor w k e = (ap (λ (s : Sight). s.owner) e, ap (λ (s : Sight). tick_
 -- ---- media
 
 -- how nodes have gone, of the media as they are handed on
-pub gone-left : {M : Type 0} (w : Media M) (limits : Limits) (begun : List (NodeParts M)) (why : Reason) (media left : List (Option M)) (passes : List Pass) → left ≡ media → HaveGone w limits begun why media passes → HaveGone w limits begun why left passes
-gone-left {M} w limits begun why media left passes e h = subst (λ (l : List (Option M)). HaveGone w limits begun why l passes) (sym e) h
+pub gone-left : {M : Type 0} (w : Media M) (course : Course) (begun : List (NodeParts M)) (why : Reason) (media left : List (Option M)) (passes : List Pass) → left ≡ media → HaveGone w course begun why media passes → HaveGone w course begun why left passes
+gone-left {M} w course begun why media left passes e h = subst (λ (l : List (Option M)). HaveGone w course begun why l passes) (sym e) h

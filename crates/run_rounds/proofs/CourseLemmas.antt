@@ -5,7 +5,10 @@ use Rattle.run_starts.specs.Sights.{Looked}
 use Rattle.run_starts.proofs.PairLemmas.{any-through, zip-through, zip-with}
 use Rattle.run_starts.proofs.RoundLemmas.{goes-joins, kept-joins, looked-own, looked-owner}
 use Rattle.run_rounds.specs.Closings.{TicksWereWanted}
-use Rattle.run_rounds.specs.Settled.{SettledEnds}
+use Rattle.std.specs.Prelude.{MatchBool, ⊥}
+use Rattle.run_starts.specs.Reasons.{SeesMore}
+use Rattle.run_rounds.specs.Closings.{HaveGoneOn, PauseEnds}
+use Rattle.run_rounds.specs.Settled.{AreSettled, IsToldIdle, SettledEnds}
 use Rattle.run_starts.specs.Reason.TheVariants as reason
 
 module _ {M : Type 0} (W : ℕ) (pos : 0 < W) (nodes : List (NodeParts M)) (shares : List (Vec (NodeParts M) Global)) (d : IsDealt W nodes shares) (size : length shares ≡ W) where
@@ -60,10 +63,12 @@ module _ {M : Type 0} (w : Media M) (W : ℕ) (pos : 0 < W) (begun : List (NodeP
           → (IsTrue w.tells → TicksAreWanted (base_at k) k.story new)
           → EndsFor w.tells limits why new k → HaveCome w limits begun why nodes k
       have-come kept each owner ticks wanted ends = record {
-        went = subst (λ (xs : List (NodeParts M)). AllZip (GoesOn w.tells w.faults w.reads) begun xs) (sym nodes-are) as-dealt.2;
-        kept = kept-listed kept;
-        all = each-node (HasAllOf k.story) each;
-        owner = owner;
+        on = record {
+          went = subst (λ (xs : List (NodeParts M)). AllZip (GoesOn w.tells w.faults w.reads) begun xs) (sym nodes-are) as-dealt.2;
+          kept = kept-listed kept;
+          all = each-node (HasAllOf k.story) each;
+          owner = owner;
+        };
         ticks = ticks;
         wanted = λ told front moment more is. some-listed W pos (IsLateAfter (base_at k) front) nodes new nodes-dealt shares-count (wanted told front moment more is);
         ends = ends-listed W pos nodes new nodes-dealt shares-count w.tells limits why k ends;
@@ -87,6 +92,19 @@ all-passes {M} lock nodes passes conductor are each own =
 
 -- ---- repositories that settled
 
+-- nodes at work that had gone on so far settled
+module _ {M : Type 0} (w : Media M) (begun old new : List (NodeParts M)) (k now : Sight) (up : All IsUp old) (went : AllZip (GoesOn w.tells w.faults w.reads) old new)
+    (kept : AllZip (IsKeptThrough w.tells w.stages) old new) (looked : Looked k now) (all : All (HasAllOf now.story) new) where
+  pub on-settled : HaveGoneOn w begun old k → HaveGoneOn w begun new now
+  on-settled on = record {
+    went = zip-through (GoesOn w.tells w.faults w.reads) (λ y z. IsUp y × GoesOn w.tells w.faults w.reads y z) (GoesOn w.tells w.faults w.reads) (λ x y z p q. goes-joins w.tells w.faults w.reads x y z p q.0 q.1) begun old new on.went
+        (zip-with IsUp (GoesOn w.tells w.faults w.reads) (λ y z. IsUp y × GoesOn w.tells w.faults w.reads y z) (λ y z u g. (u, g)) old new up went);
+    kept = zip-through (IsKeptThrough w.tells w.stages) (λ y z. IsUp y × IsKeptThrough w.tells w.stages y z) (IsKeptThrough w.tells w.stages) (λ x y z p q. kept-joins w.tells w.stages x y z p q.0 q.1) begun old new on.kept
+        (zip-with IsUp (IsKeptThrough w.tells w.stages) (λ y z. IsUp y × IsKeptThrough w.tells w.stages y z) (λ y z u g. (u, g)) old new up kept);
+    all = all;
+    owner = looked-owner looked ∙ on.owner;
+  }
+
 module _ {M : Type 0} (w : Media M) (limits : Limits) (begun old new : List (NodeParts M)) (k now : Sight) (came : HaveCome w limits begun reason.Done old k) (went : AllZip (GoesOn w.tells w.faults w.reads) old new)
     (kept : AllZip (IsKeptThrough w.tells w.stages) old new) (looked : Looked k now) (owns : Owns k) (still : Owns now) (all : All (HasAllOf now.story) new) where
   at-base : base_at now ≡ base_at k
@@ -94,8 +112,8 @@ module _ {M : Type 0} (w : Media M) (limits : Limits) (begun old new : List (Nod
 
   wanted-still : IsTrue w.tells → TicksWereWanted now new
   wanted-still told front moment rest is =
-      let owner = looked-owner looked ∙ came.owner in
-      let a = story-ticks k came.owner owns in
+      let owner = looked-owner looked ∙ came.on.owner in
+      let a = story-ticks k came.on.owner owns in
       let b = story-ticks now owner still in
       let own = ap tick_count (looked-own looked) in
       let h = tick-before k.story now.story front moment rest looked.before.carries.begins (omega (arith, a, b, own)) is in
@@ -112,13 +130,55 @@ module _ {M : Type 0} (w : Media M) (limits : Limits) (begun old new : List (Nod
   -- nodes that had come so far, and settled
   pub come-settled : (r : Reason) → SettledEnds r new → (IsTrue w.tells → r ≡ reason.Done → All IsDone old → All IsDone new) → HaveCome w limits begun r new now
   come-settled r ends done = record {
-    went = zip-through (GoesOn w.tells w.faults w.reads) (λ y z. IsUp y × GoesOn w.tells w.faults w.reads y z) (GoesOn w.tells w.faults w.reads) (λ x y z p q. goes-joins w.tells w.faults w.reads x y z p q.0 q.1) begun old new came.went
-        (zip-with IsUp (GoesOn w.tells w.faults w.reads) (λ y z. IsUp y × GoesOn w.tells w.faults w.reads y z) (λ y z u g. (u, g)) old new came.ends.0 went);
-    kept = zip-through (IsKeptThrough w.tells w.stages) (λ y z. IsUp y × IsKeptThrough w.tells w.stages y z) (IsKeptThrough w.tells w.stages) (λ x y z p q. kept-joins w.tells w.stages x y z p q.0 q.1) begun old new came.kept
-        (zip-with IsUp (IsKeptThrough w.tells w.stages) (λ y z. IsUp y × IsKeptThrough w.tells w.stages y z) (λ y z u g. (u, g)) old new came.ends.0 kept);
-    all = all;
-    owner = looked-owner looked ∙ came.owner;
+    on = on-settled w begun old new k now came.ends.0 went kept looked all came.on;
     ticks = subst (λ (es : List Entry). tick_count es ≤ limits.ticks) (sym (looked-own looked)) came.ticks;
     wanted = wanted-still;
     ends = ends-still r ends done;
   }
+
+-- ---- a run that only settles
+
+module _ {M : Type 0} (tells : Bool) (nodes : List (NodeParts M)) where
+  pub pause-ends : (why told : Reason) → IsToldIdle why told → SettledEnds why nodes → (IsTrue tells → why ≡ reason.Done → AreSettled nodes) → PauseEnds tells told nodes
+  pause-ends reason.Done told is ends settled = subst (λ (r : Reason). PauseEnds tells r nodes) (sym is) (ends, λ yes. settled yes refl)
+  pause-ends reason.Down told is ends settled = subst (λ (r : Reason). PauseEnds tells r nodes) (sym is) ends
+  pause-ends reason.Wanting told is ends settled = subst (λ (r : Reason). PauseEnds tells r nodes) (sym is) tt
+  pause-ends reason.Enough told is ends settled = absurd ends
+  pause-ends reason.RunOut told is ends settled = absurd ends
+
+-- of an idle wire alone it is told that nothing is left to do
+pub was-done : (why told : Reason) → IsToldIdle why told → told ≡ reason.RunOut → (why ≡ reason.RunOut → ⊥) → why ≡ reason.Done
+was-done reason.Done told is out not = refl
+was-done reason.Down told is out not = absurd (let z : reason.Down ≡ reason.RunOut = sym is ∙ out in cc z)
+was-done reason.Wanting told is out not = absurd (let z : reason.Wanting ≡ reason.RunOut = sym is ∙ out in cc z)
+was-done reason.Enough told is out not = absurd (let z : reason.Enough ≡ reason.RunOut = sym is ∙ out in cc z)
+was-done reason.RunOut told is out not = absurd (not refl)
+
+-- nodes that are done are at work
+pub settled-up : {M : Type 0} (why : Reason) (nodes : List (NodeParts M)) → SettledEnds why nodes → why ≡ reason.Done → All IsUp nodes
+settled-up reason.Done nodes h is = h
+settled-up reason.Down nodes h is = absurd (cc is)
+settled-up reason.Wanting nodes h is = absurd (cc is)
+settled-up reason.Enough nodes h is = absurd (cc is)
+settled-up reason.RunOut nodes h is = absurd (cc is)
+
+-- and such nodes haven't run out
+pub never-out : {M : Type 0} (why : Reason) (nodes : List (NodeParts M)) → SettledEnds why nodes → why ≡ reason.RunOut → ⊥
+never-out reason.Done nodes h is = cc is
+never-out reason.Down nodes h is = cc is
+never-out reason.Wanting nodes h is = cc is
+never-out reason.Enough nodes h is = cc is
+never-out reason.RunOut nodes h is = h
+
+module _ (a b : Sight) (none : tick_count a.own ≡ 0) where
+  pub one-at-most : (made : Bool) → MatchBool made (SeesMore 1 a b) (SeesMore 0 a b) → tick_count b.own ≤ 1
+  one-at-most true h = let t = h.ticked in omega (arith, t, none)
+  one-at-most false h = let t = h.ticked in omega (arith, t, none)
+
+  pub one-made : (made : Bool) → made ≡ true → MatchBool made (SeesMore 1 a b) (SeesMore 0 a b) → tick_count b.own ≡ 1
+  one-made true is h = let t = h.ticked in omega (arith, t, none)
+  one-made false is h = absurd (cc is)
+
+pub sees-owner : (made : Bool) (a b : Sight) → MatchBool made (SeesMore 1 a b) (SeesMore 0 a b) → b.owner ≡ a.owner
+sees-owner true a b h = h.owner
+sees-owner false a b h = h.owner

@@ -1,5 +1,5 @@
 -- The moments of a run, the numbers of its nodes and the effects of their logs are in range.
-use Rattle.run_rounds.proofs.Names.{Every, repository, broker, Asked, Plan, CanRun, Trace, Origin, IsWhole, Opening, Open, Shut, Wanting, Media, HasOpened, IsInRange, opened_from, node_at, node_count, IsSetUp, ◌≡◌, ◌≤◌, ◌<◌, ◌+◌, ◌-◌, ◌^◌, nat_lt, ℕ, suc, Bool, true, false, List, [], ◌∷◌, Option, Some, None, length, if◌then◌else◌, refl, sym, subst, arith, All, AllZip, nat_tests, All-nil, All-cons, HasRanges}
+use Rattle.run_rounds.proofs.Names.{Every, repository, broker, Asked, Plan, CanRun, Trace, Origin, IsWhole, Opening, Open, Shut, Wanting, Media, HasOpened, IsInRange, opened_from, node_at, node_count, IsSetUp, ◌≡◌, ◌≤◌, ◌<◌, ◌+◌, ◌-◌, ◌^◌, nat_lt, ℕ, suc, Bool, true, false, List, [], ◌∷◌, Option, Some, None, length, if◌then◌else◌, refl, sym, subst, arith, All, AllZip, nat_tests, All-nil, All-cons, HasRanges, in-range, is_within}
 use Rattle.trace_report.specs.Replays.{IsOpened}
 use Rattle.run_rounds.proofs.ListLemmas.{all-first, all-rest}
 
@@ -44,3 +44,9 @@ module _ (plan : Plan) (lang : CanRun plan) where
       opened = subst (Every IsOpened) (sym whole.opened) (subst (Every IsOpened) (sym s.opened) (opened-in 0 os (omega (arith, count)) ranges));
       moments = whole.moments;
     }
+
+-- ---- plans without brokers
+
+-- no number is one of none
+pub none-within : (b : ℕ) → is_within b 0 ≡ true → ⊥
+none-within b h = let range = in-range b 0 h in omega (arith, range.0, range.1)

@@ -1,12 +1,14 @@
 -- A run of which a node couldn't be opened.
 use Rattle.std.proofs.Common.{◌≡◌, ◌≢◌, ◌+◌, ◌⊎◌, inl, inr, ◌∙◌, ◌++◌, ℕ, true, IsTrue, List, [], ◌∷◌, length, map, Option, Some, None, Ok, All, slice_get, take, refl, ap, sym, subst, arith, append-nil}
-use Rattle.run_rounds.proofs.Names.{Every, NodeId, DownCause, Asked, RoseBy, rose_by_none, Image, LeftNow, Goes, goes_nowhere, Effect, storage, Plan, CanRun, IsOneOf, entries_of, CarriesOn, fresh, knows, Entry, Down, Opened, Trace, Life, opened_life, opened_log, own, walk, base_of, in_plan, WasNotOpened, life_after, reading, WireParts, owner_for, owner_of, Sight, owners_for, down_cause, IsIntact, costs, IsKept, kept-none, Reason, Opening, Open, Shut, Wanting, Media, Passes, cuts_of, AreReady, HasOpened, IsOpen, log_in, medium_in, opened_from, node_at, node_count, place_of, at-place, in-at, log-at, place-at, Along, HasFallen, IsSetUp, downs_of, zip-at, zip-back, End, Pass, ClosedAs, IfRan, EndsAs, account_of, tellers, KeepsThroughout, SurvivesKills, AreCounted, Became, HaveCauses, KeepsLog, RestoresLogs, inner, medium_at, Ran, AllZip, option_map, unwrap_or, take-length, slice_get-map, slice_get_within, same_Some, IsAsItWas, IsShutFor, one-place, some-within, all-front, all-last}
+use Rattle.run_rounds.proofs.Names.{Every, NodeId, DownCause, Asked, RoseBy, rose_by_none, Image, LeftNow, Goes, goes_nowhere, Effect, storage, Plan, CanRun, IsOneOf, entries_of, CarriesOn, fresh, knows, Entry, Down, Opened, Trace, Life, opened_life, opened_log, own, walk, base_of, in_plan, WasNotOpened, life_after, reading, WireParts, owner_for, owner_of, Sight, owners_for, down_cause, IsIntact, costs, IsKept, kept-none, Reason, Opening, Open, Shut, Wanting, Media, Passes, cuts_of, AreReady, HasOpened, IsOpen, log_in, medium_in, opened_from, node_at, node_count, place_of, at-place, in-at, log-at, place-at, Along, HasFallen, IsSetUp, downs_of, zip-at, zip-back, End, Pass, ClosedAs, IfRan, account_of, tellers, KeepsThroughout, SurvivesKills, AreCounted, Became, HaveCauses, KeepsLog, RestoresLogs, inner, medium_at, AllZip, option_map, unwrap_or, take-length, slice_get-map, slice_get_within, same_Some, IsAsItWas, IsShutFor, one-place, some-within, all-front, all-last}
 use Rattle.pseudo_time.specs.declared.down_causes.DownCause.TheVariants as down
 use Rattle.run_starts.proofs.TurnPageLemmas.{whole-same}
 use Rattle.run_starts.proofs.StepLemmas.{passes-between}
 use Rattle.run_starts.specs.Reason.TheVariants as reason
 use Rattle.run_rounds.specs.declared.ends.End.TheVariants as end
 use Rattle.run_rounds.specs.Ends.{IsUnopened}
+use Rattle.run_rounds.specs.Finishes.{EndsTo}
+use Rattle.run_rounds.specs.Runs.{RanTo}
 use Rattle.run_rounds.proofs.BackLemmas.{opened-alone, opened-back, opened-in-range, opened-kept, ready-at}
 use Rattle.run_rounds.proofs.DownTraces.{AreOwn, IsFall, all-downs, all-falls, cause-at, cause-of, fall-of, falls-at, life-still, none-of, own-along}
 use Rattle.run_rounds.proofs.KillLemmas.{inner-some, keeps-places}
@@ -228,7 +230,7 @@ module _ {M : Type 0} {g : _} (w : Media M) where
 fresh-own : (k : Sight) (wire : WireParts) (es : List Entry) → k ≡ fresh wire 0 → CarriesOn owner_of k es → entries_of owner_of 0 es ≡ []
 fresh-own k wire es unseen car = subst (λ (s : Sight). entries_of owner_of s.owner es ≡ s.own) unseen car.own
 
-module _ {M : Type 0} {g : _} (w : Media M) (most_ticks enough : ℕ) (plan : Plan) (wire : WireParts) (first : List (Option M)) (os : List (Opening M g)) (front passes : List Pass) (conductor : Pass) (why : Reason) (asked : List Asked) (answers : Option (List ℕ))
+module _ {M : Type 0} {g : _} (w : Media M) (plan : Plan) (wire : WireParts) (first : List (Option M)) (os : List (Opening M g)) (front passes : List Pass) (conductor : Pass) (why : Reason) (asked : List Asked) (answers : Option (List ℕ))
     (set : IsSetUp plan os wire.origin.asked wire.origin.answers wire.origin) (language : CanRun plan) (count : length os ≡ node_count plan) (ready : AreReady plan 0 os) (opened : AllZip (HasOpened w) first os)
     (are : passes ≡ front ++ conductor ∷ []) (unseen : knows conductor ≡ fresh wire 0) (why-is : (why ≡ reason.Down) ⊎ (why ≡ reason.Wanting)) (n : ℕ) (size : n ≡ length os)
     (fell : why ≡ reason.Down → Along (λ i o pass. HasFallen wire (node_at plan i) o pass) 0 (take n os) front)
@@ -259,7 +261,7 @@ module _ {M : Type 0} {g : _} (w : Media M) (most_ticks enough : ℕ) (plan : Pl
     falls = all-falls plan os t.entries owned (fresh-own (knows conductor) wire t.entries unseen (all-last (λ pass. CarriesOn owner_of (knows pass) t.entries) passes front conductor are close.carries))
         (subst (λ (l : List Opened). All (λ e. IsOneOf (owners_for l) (owner_of e)) t.entries) set.opened close.owned)
 
-    ran : Ran w most_ticks enough plan (account_of t (tellers wire.origin.asked asked wire.origin.answers answers)) first (map medium_in os)
+    ran : RanTo w (IsUnopened plan) plan (account_of t (tellers wire.origin.asked asked wire.origin.answers answers)) first (map medium_in os)
     ran =
         let opened-as = close.whole.opened ∙ set.opened in
         record {
@@ -267,7 +269,7 @@ module _ {M : Type 0} {g : _} (w : Media M) (most_ticks enough : ℕ) (plan : Pl
           ready = ready-told plan os wire.origin t set language count ready close.whole.opened;
           ranges = ranges-of plan language os wire.origin.asked asked wire.origin.answers answers wire.origin w.tells t set count (opened-in-range w first os opened) close.whole;
           is_told = λ told. is-told plan os wire.origin t set language count ready w.tells asked answers told close.whole;
-          over = λ told. inr (some-unopened w plan first os t opened-as count ready opened falls owned shut.0 shut.1 shut.2 shut.3);
+          over = λ told. (some-unopened w plan first os t opened-as count ready opened falls owned shut.0 shut.1 shut.2 shut.3);
           logs = logs-kept w plan first os t opened-as count ready opened falls owned;
           counts = counts-kept w plan first os t opened-as count ready opened falls owned;
           stops = λ told. causes-kept w plan first os t opened-as count ready opened falls owned told;
@@ -275,7 +277,7 @@ module _ {M : Type 0} {g : _} (w : Media M) (most_ticks enough : ℕ) (plan : Pl
         }
 
   -- how a run ends of which a node couldn't be opened
-  pub ends-unopened : (e : End) → IfRan e (λ t. ClosedAs w.tells wire.origin passes why t asked answers) → EndsAs w most_ticks enough plan (tellers wire.origin.asked asked wire.origin.answers answers) first (map medium_in os) e
+  pub ends-unopened : (e : End) → IfRan e (λ t. ClosedAs w.tells wire.origin passes why t asked answers) → EndsTo w (IsUnopened plan) plan (tellers wire.origin.asked asked wire.origin.answers answers) first (map medium_in os) e
   ends-unopened (end.Ran t) close = ran t close
   ends-unopened (end.Refused fault) close = absurd close
   ends-unopened end.NoMemory close = (opened-back w first os opened, opened-kept w first os opened, λ told. inl (opened-alone w first os opened))

@@ -26,6 +26,8 @@ use Rattle.run_starts.specs.Nodes.{GoesOn, IsKeptThrough, HasAllOf, IsUp}
 use Rattle.run_starts.specs.Reasons.{HasMemory, IsDone, IsDown, IsLateAfter}
 use Rattle.run_media.specs.Media.{Media}
 use Rattle.run_rounds.specs.Settled.{AreSettled}
+use Rattle.run_rounds.specs.declared.goals.Course.{Course}
+use Rattle.run_rounds.specs.declared.goals.Course.TheVariants.{Acts, Settling}
 use Rattle.run_rounds.specs.declared.ends.End.{End}
 use Rattle.run_rounds.specs.declared.ends.End.TheVariants.{Ran, Refused, NoMemory}
 
@@ -67,37 +69,65 @@ module _ {M : Type 0} where
   ListEnds tells limits reason.RunOut nodes k = All IsUp nodes × HasNothingOpen (world_at k) × (tick_count k.own ≡ limits.ticks)
   ListEnds tells limits reason.Wanting nodes k = Unit {0}
 
-module _ {M : Type 0} where
   -- each Tick that the conductor has seen stands where some node isn't done
   abbrev pub TicksWereWanted : Sight → List (NodeParts M) → Type 0
   TicksWereWanted k nodes = (front : List Entry) (moment : ℕ) (rest : List Entry) → k.story ≡ front ++ Tick moment ∷ rest → Any (IsLateAfter (base_at k) front) nodes
 
--- How nodes have gone in rounds, by what the conductor has seen, and why no further round follows. `begun` are they as they were opened, in the plan's order.
-pub record HaveCome {M : Type 0} (w : Media M) (limits : Limits) (begun : List (NodeParts M)) (why : Reason) (nodes : List (NodeParts M)) (k : Sight) : Type 0 where
+  -- How rounds for acts have ended. If all brokers are done, what is decided is settled.
+  pub record RoundsEnd (tells : Bool) (limits : Limits) (why : Reason) (nodes : List (NodeParts M)) (k : Sight) : Type 0 where
+    pub ticks : tick_count k.own ≤ limits.ticks
+    pub wanted : IsTrue tells → TicksWereWanted k nodes
+    pub ends : ListEnds tells limits why nodes k
+    pub settled : IsTrue tells → why ≡ reason.Done → AreSettled nodes
+
+  -- Why nodes that only settle end: what is decided is settled; or a node is down; or memory ran out.
+  abbrev pub PauseEnds : Bool → Reason → List (NodeParts M) → Type 0
+  PauseEnds tells reason.RunOut nodes = All IsUp nodes × (IsTrue tells → AreSettled nodes)
+  PauseEnds tells reason.Down nodes = All HasMemory nodes × Any IsDown nodes
+  PauseEnds tells reason.Wanting nodes = Unit {0}
+  PauseEnds tells _ nodes = ⊥
+
+  -- How a run that only settles has ended: it has run out if one Tick was made.
+  pub record SettlingEnds (tells : Bool) (why : Reason) (nodes : List (NodeParts M)) (k : Sight) : Type 0 where
+    pub few : tick_count k.own ≤ 1
+    pub once : why ≡ reason.RunOut → tick_count k.own ≡ 1
+    pub ends : PauseEnds tells why nodes
+
+  -- how nodes have ended, by what the run is for
+  abbrev pub CourseEnds : Bool → Course → Reason → List (NodeParts M) → Sight → Type 0
+  CourseEnds tells (Acts limits) why nodes k = RoundsEnd tells limits why nodes k
+  CourseEnds tells Settling why nodes k = SettlingEnds tells why nodes k
+
+-- How nodes have gone, by what the conductor has seen. `begun` are they as they were opened, in the plan's order.
+pub record HaveGoneOn {M : Type 0} (w : Media M) (begun nodes : List (NodeParts M)) (k : Sight) : Type 0 where
   pub went : AllZip (GoesOn w.tells w.faults w.reads) begun nodes
   pub kept : AllZip (IsKeptThrough w.tells w.stages) begun nodes
   pub all : All (HasAllOf k.story) nodes
   pub owner : k.owner ≡ 0
+
+-- How nodes have gone in rounds for acts, and why no further round follows.
+pub record HaveCome {M : Type 0} (w : Media M) (limits : Limits) (begun : List (NodeParts M)) (why : Reason) (nodes : List (NodeParts M)) (k : Sight) : Type 0 where
+  pub on : HaveGoneOn w begun nodes k
   pub ticks : tick_count k.own ≤ limits.ticks
   pub wanted : IsTrue w.tells → TicksWereWanted k nodes
   pub ends : ListEnds w.tells limits why nodes k
 
--- How nodes ended that went in rounds, by what is handed back. Where all brokers are done, what is decided is settled.
-pub record HaveGone {M : Type 0} (w : Media M) (limits : Limits) (begun : List (NodeParts M)) (why : Reason) (media : List (Option M)) (passes : List Pass) : Type 0 where
+-- How nodes ended, by what is handed back.
+pub record HaveGone {M : Type 0} (w : Media M) (course : Course) (begun : List (NodeParts M)) (why : Reason) (media : List (Option M)) (passes : List Pass) : Type 0 where
   pub nodes : List (NodeParts M)
   pub conductor : Pass
   pub media_are : media ≡ map (λ n. Some n.medium) nodes
   pub passes_are : passes ≡ map (λ n. n.pass) nodes ++ conductor ∷ []
-  pub come : HaveCome w limits begun why nodes (knows conductor)
+  pub on : HaveGoneOn w begun nodes (knows conductor)
   pub rest : All (IsAtRest w) nodes
-  pub settled : IsTrue w.tells → why ≡ reason.Done → AreSettled nodes
+  pub ends : CourseEnds w.tells course why nodes (knows conductor)
 
-module _ {M Q A : Type 0} (w : Media M) (lock : LockTable WireParts (View WireParts Entry) (Founding WireParts) Q A) (limits : Limits) where
+module _ {M Q A : Type 0} (w : Media M) (lock : LockTable WireParts (View WireParts Entry) (Founding WireParts) Q A) (course : Course) where
   -- Nodes went in rounds from these on, and then the run's wire closed: their media stand in their places, and this is the end.
   pub record HasClosed (begun : List (NodeParts M)) (media : List (Option M)) (end : End) (asked : List Asked) (answers : Option (List ℕ)) : Type 0 where
     pub why : Reason
     pub passes : List Pass
-    pub gone : HaveGone w limits begun why media passes
+    pub gone : HaveGone w course begun why media passes
     pub wires : All (IsWirePass lock) passes
     pub closed : IfRan end (λ t. ClosedAs w.tells (base_of lock).origin passes why t asked answers)
     pub untold : IfWanting end (LeavesUntold w.tells (base_of lock).origin passes)

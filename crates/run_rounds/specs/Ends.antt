@@ -18,6 +18,8 @@ use Rattle.world_core.specs.Counts.{tick_count}
 use Rattle.run_starts.specs.Logs.{is_over}
 use Rattle.run_starts.specs.Costs.{costs}
 use Rattle.run_starts.specs.Doubts.{HasDecided, doubts}
+use Rattle.run_rounds.specs.declared.goals.Course.{Course}
+use Rattle.run_rounds.specs.declared.goals.Course.TheVariants.{Acts, Settling}
 
 -- some node is down
 abbrev pub some_down : List Entry → Bool
@@ -56,6 +58,21 @@ pub record HasEnded (most_ticks enough : ℕ) (plan : Plan) (t : Trace) : Type 0
   pub wanted : TicksAreWanted plan t
   pub why : (some_down t.entries ≡ true) ⊎ ((AllDone plan t × AllSettled plan t) ⊎ ((enough ≤ length t.sent) ⊎ HasRunOut most_ticks plan t))
 
+-- A run that only settles makes one Tick at most. It ends if a node is down; or no node that is up has anything to do after the Tick, which each has heard, and what is decided is settled.
+pub record HasSettled (plan : Plan) (t : Trace) : Type 0 where
+  pub few : tick_count t.entries ≤ 1
+  pub why : (some_down t.entries ≡ true) ⊎ (HasRunOut 1 plan t × AllSettled plan t)
+
 -- A node of the plan wasn't opened, so that no round began.
 abbrev pub IsUnopened : Plan → Trace → Type 0
 IsUnopened plan t = (n : NodeId) × (in_plan plan n ≡ true) × WasNotOpened t.entries n
+
+-- ---- by what a run is for
+
+-- a run for acts has ended, one that only settles has settled
+abbrev pub HasDoneSo : Course → Plan → Trace → Type 0
+HasDoneSo (Acts limits) plan t = HasEnded limits.ticks limits.messages plan t
+HasDoneSo Settling plan t = HasSettled plan t
+
+abbrev pub IsOver : Course → Plan → Trace → Type 0
+IsOver course plan t = HasDoneSo course plan t ⊎ IsUnopened plan t

@@ -12,7 +12,8 @@ use Rattle.run_media.specs.declared.openings.Refusal.TheVariants as refusal
 use Rattle.run_media.specs.Media.{Media, AreBack, IsLeftAlone, IsUntouched}
 use Rattle.run_rounds.specs.declared.ends.End.{End}
 use Rattle.run_rounds.specs.declared.ends.End.TheVariants as end
-use Rattle.run_rounds.specs.Runs.{Account, Ran, RanUntold, IsFirstFault}
+use Rattle.run_rounds.specs.Ends.{HasEnded, IsUnopened}
+use Rattle.run_rounds.specs.Runs.{Account, RanTo, RanUntold, IsFirstFault}
 
 -- what the fates were asked for and the clock answered, before and after
 pub record Tellers : Type 0 where
@@ -40,13 +41,17 @@ module _ {M : Type 0} (w : Media M) where
   IsKeptWhole (Some old) (Some new) = IsUntouched w old new ⊎ HasItsLog old new
 
 -- A run told its trace; or a broker's log refused the plan, and nothing happened; or memory ran out, and nothing that stood in a log is lost: either no medium was written to,
--- or there was a run, whose trace isn't told.
-abbrev pub EndsAs : {M : Type 0} → Media M → (most_ticks enough : ℕ) → Plan → Tellers → (media left : List (Option M)) → End → Type 0
-EndsAs w most_ticks enough plan told media left (end.Ran t) = Ran w most_ticks enough plan (account_of t told) media left
-EndsAs w most_ticks enough plan told media left (end.Refused fault) =
+-- or there was a run, whose trace isn't told. A run that tells its trace is over as this says.
+abbrev pub EndsTo : {M : Type 0} → Media M → (Trace → Type 0) → Plan → Tellers → (media left : List (Option M)) → End → Type 0
+EndsTo w over plan told media left (end.Ran t) = RanTo w over plan (account_of t told) media left
+EndsTo w over plan told media left (end.Refused fault) =
     AreBack media left × AllZip (IsLeftAlone w) media left × IsFirstFault w plan media left fault × (told.asked ≡ told.asked_before) × (told.answers ≡ told.answers_before)
-EndsAs w most_ticks enough plan told media left end.NoMemory =
+EndsTo w over plan told media left end.NoMemory =
     AreBack media left × AllZip (IsKeptWhole w) media left × (IsTrue w.tells → AllZip (IsLeftAlone w) media left ⊎ RanUntold w plan told.asked_before media left)
+
+-- a run for acts, with at most so many Ticks, and so many messages at which it ends
+abbrev pub EndsAs : {M : Type 0} → Media M → (most_ticks enough : ℕ) → Plan → Tellers → (media left : List (Option M)) → End → Type 0
+EndsAs w most_ticks enough plan told media left e = EndsTo w (λ t. HasEnded most_ticks enough plan t ⊎ IsUnopened plan t) plan told media left e
 
 -- the end of a run that didn't begin
 abbrev pub IsEndFor : Refusal → End → Type 0

@@ -4,6 +4,7 @@ pub mod Ends
 pub mod Runs
 pub mod Settled
 pub mod Finishes
+pub mod Goals
 pub mod Closings
 pub mod Begins
 pub use Rattle.kill_law.specs.Places

@@ -44,17 +44,21 @@ pub record HasRanges (t : Trace) : Type 0 where
   pub opened : Every IsOpened t.opened
   pub moments : Every (λ moment. moment < 2 ^ 63) (tick_moments t.entries)
 
--- A run of the plan over media of this kind, with at most so many Ticks, and so many messages at which it ends.
-pub record Ran {M : Type 0} (w : Media M) (most_ticks enough : ℕ) (plan : Plan) (told : Account) (media left : List (Option M)) : Type 0 where
+-- A run of the plan over media of this kind, which is over as this says.
+pub record RanTo {M : Type 0} (w : Media M) (IsOver : Trace → Type 0) (plan : Plan) (told : Account) (media left : List (Option M)) : Type 0 where
   pub nodes : JustNodes plan told.trace.opened
   pub ready : AllReady (base_of (reading plan.acts) plan told.trace)
   pub ranges : HasRanges told.trace
   pub is_told : IsTrue w.tells → IsTold plan told
-  pub over : IsTrue w.tells → HasEnded most_ticks enough plan told.trace ⊎ IsUnopened plan told.trace
+  pub over : IsTrue w.tells → IsOver told.trace
   pub logs : RestoresLogs w media left plan told.trace
   pub counts : AreCounted w media left plan told.trace
   pub stops : IsTrue w.tells → HaveCauses w media left plan told.trace
   pub kills : IsTrue w.tells → SurvivesKills w media left plan told.trace
+
+-- A run for its acts, with at most so many Ticks, and so many messages at which it ends.
+abbrev pub Ran : {M : Type 0} → Media M → (most_ticks enough : ℕ) → Plan → Account → (media left : List (Option M)) → Type 0
+Ran w most_ticks enough plan told media left = RanTo w (λ t. HasEnded most_ticks enough plan t ⊎ IsUnopened plan t) plan told media left
 
 -- Memory ran out in a run of the plan over these media, and its trace is told to no one. There is one: legal for the plan, with each node opened with the log that its medium held, and a crash now
 -- leaves of each medium its node's durable log there, with the first of its open effects.

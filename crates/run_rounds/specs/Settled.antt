@@ -50,3 +50,8 @@ module _ {M : Type 0} where
   SettledEnds reason.Done nodes = All IsUp nodes
   SettledEnds reason.Wanting nodes = Unit {0}
   SettledEnds _ nodes = ⊥
+
+-- why a run that only settles ends: that it has settled is told of an idle wire alone
+abbrev pub IsToldIdle : Reason → Reason → Type 0
+IsToldIdle reason.Done told = told ≡ reason.RunOut
+IsToldIdle why told = told ≡ why

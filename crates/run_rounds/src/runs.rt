@@ -8,10 +8,13 @@ ghost use Rattle.run_media.specs.Openings.{HasOpened, IsOpen, medium_in};
 ghost use Rattle.run_starts.specs.Seats.{IsSound};
 ghost use Rattle.run_media.specs.Places.{node_count};
 ghost use Rattle.run_rounds.specs.Begins.{HasBegun, IsRunnable};
-ghost use Rattle.run_rounds.specs.Finishes.{EndsAs, IsEndFor, tellers};
+ghost use Rattle.run_rounds.specs.Ends.{IsOver, IsUnopened};
+ghost use Rattle.run_rounds.specs.Finishes.{EndsAs, EndsTo, IsEndFor, tellers};
+ghost use Rattle.run_rounds.specs.Goals.{HasWorkers};
 
 use crate::courses::rounds;
 use crate::ends::{End, Ended, Finished, closed_run};
+use crate::goals::Course;
 use medium_port::Medium;
 use plan_form::Plan;
 use run_media::{Opening, Refusal, are_open, first_refusal, give_back};
@@ -57,6 +60,17 @@ fn unbegun<F, C, M: Medium>(
     }
 }
 
+// How many threads give the nodes their turns.
+fn workers_of(course: Course) -> usize
+    requires { HasWorkers course }
+    ensures { 1 ≤ result }
+{
+    match course {
+        Course::Acts(limits) => limits.workers,
+        Course::Settling => 1,
+    }
+}
+
 // Opens the nodes, and lets them go on.
 fn with_nodes<
     F: Fates + Drop + Send,
@@ -67,7 +81,7 @@ fn with_nodes<
     rt: &R,
     alloc: Global,
     plan: &Plan,
-    limits: Limits,
+    course: Course,
     begun: Begun<F, C, M>,
     openings: Vec<Opening<M>>,
     media: Vec<Option<M>>,
@@ -78,10 +92,10 @@ fn with_nodes<
     requires pass_room { vec_len begun.passes < vec_capacity begun.passes }
     requires empty { media.items ≡ [] }
     requires room { vec_len openings ≤ vec_capacity media }
-    requires workers { 1 ≤ limits.workers }
+    requires workers { HasWorkers course }
     requires sound { All (IsSound M.Medium) openings.items }
     ensures { (first : List (Option M)) → AllZip (HasOpened M.Medium) first openings.items →
-        EndsAs M.Medium limits.ticks limits.messages plan.now
+        EndsTo M.Medium (IsOver course plan.now) plan.now
         (tellers (base_of begun.wire.lock).origin.asked (F.asked result.fates) (base_of begun.wire.lock).origin.answers
         (C.answers result.clock)) first result.media result.end }
 {
@@ -92,7 +106,7 @@ fn with_nodes<
         start,
     } = begun;
     let count = openings.len();
-    let Ok((nodes, shares)) = empty_shares(alloc, limits.workers, count) else {
+    let Ok((nodes, shares)) = empty_shares(alloc, workers_of(course), count) else {
         return stopped(wire, passes, conductor, give_back(media, openings));
     };
     let Seated {
@@ -107,7 +121,7 @@ fn with_nodes<
         return stopped(wire, passes, conductor, media);
     }
     rounds(
-        rt, alloc, wire, limits, nodes, shares, conductor, media, passes,
+        rt, alloc, wire, course, nodes, shares, conductor, media, passes,
     )
 }
 
@@ -151,9 +165,8 @@ fn without_nodes<F: Fates, C: Clock, M: Medium, R: Wait>(
     requires room { vec_len openings ≤ vec_capacity media }
     requires shut { (place : _) × (opening : _) × (slice_get openings.items place ≡ Some opening) ×
         (IsOpen opening → ⊥) }
-    ensures { (most_ticks enough : ℕ) (first : List (Option M)) →
-        AllZip (HasOpened M.Medium) first openings.items →
-        EndsAs M.Medium most_ticks enough plan.now
+    ensures { (first : List (Option M)) → AllZip (HasOpened M.Medium) first openings.items →
+        EndsTo M.Medium (IsUnopened plan.now) plan.now
         (tellers (base_of begun.wire.lock).origin.asked (F.asked result.fates) (base_of begun.wire.lock).origin.answers
         (C.answers result.clock)) first result.media result.end }
 {
@@ -171,6 +184,48 @@ fn without_nodes<F: Fates, C: Clock, M: Medium, R: Wait>(
         reason,
     };
     closed_run(wire, ended)
+}
+
+// Carries out a run of a plan, for its acts or to settle.
+fn carry_out<
+    F: Fates + Drop + Send,
+    C: Clock + Drop + Send,
+    M: Medium + Drop + Send,
+    R: Threads + Wait + Sync,
+>(
+    rt: &R,
+    alloc: Global,
+    plan: &Plan,
+    course: Course,
+    openings: Vec<Opening<M>>,
+    media: Vec<Option<M>>,
+    fates: F,
+    clock: C,
+) -> Finished<F, C, M>
+    requires plan { CanRun plan.now }
+    requires count { length openings.items ≡ node_count plan.now }
+    requires opened { (first : List (Option M)) × AllZip (HasOpened M.Medium) first openings.items }
+    requires empty { media.items ≡ [] }
+    requires room { vec_len openings ≤ vec_capacity media }
+    requires workers { HasWorkers course }
+    ensures { (first : List (Option M)) → AllZip (HasOpened M.Medium) first openings.items →
+        EndsTo M.Medium (IsOver course plan.now) plan.now
+        (tellers (F.asked fates) (F.asked result.fates) (C.answers clock) (C.answers result.clock)) first
+        result.media result.end }
+{
+    if let Some(refusal) = first_refusal(alloc, plan, openings.as_slice()) {
+        return unbegun(refused(refusal), media, openings, fates, clock);
+    }
+    match wire_for(alloc, plan, openings.as_slice(), fates, clock) {
+        Err((fates, clock, _)) => unbegun(End::NoMemory, media, openings, fates, clock),
+        Ok(begun) => {
+            if are_open(openings.as_slice()) {
+                with_nodes(rt, alloc, plan, course, begun, openings, media)
+            } else {
+                without_nodes(rt, plan, begun, openings, media)
+            }
+        }
+    }
 }
 
 /// Runs a plan over what the media of its nodes were opened as, in the order of the nodes: repositories
@@ -204,17 +259,54 @@ pub fn run<
         (tellers (F.asked fates) (F.asked result.fates) (C.answers clock) (C.answers result.clock)) first
         result.media result.end }
 {
-    if let Some(refusal) = first_refusal(alloc, plan, openings.as_slice()) {
-        return unbegun(refused(refusal), media, openings, fates, clock);
-    }
-    match wire_for(alloc, plan, openings.as_slice(), fates, clock) {
-        Err((fates, clock, _)) => unbegun(End::NoMemory, media, openings, fates, clock),
-        Ok(begun) => {
-            if are_open(openings.as_slice()) {
-                with_nodes(rt, alloc, plan, limits, begun, openings, media)
-            } else {
-                without_nodes(rt, plan, begun, openings, media)
-            }
-        }
-    }
+    carry_out(
+        rt,
+        alloc,
+        plan,
+        Course::Acts(limits),
+        openings,
+        media,
+        fates,
+        clock,
+    )
+}
+
+/// Settles the repositories of a plan without acts, over what their media were opened as. Time passes
+/// once, so that each repository lets expire what is due; then each learns what the homes of its versions
+/// decided. No message is sent. The media are handed back as `run` does it, and so are nodes that can't be
+/// opened.
+pub fn settle<
+    F: Fates + Drop + Send,
+    C: Clock + Drop + Send,
+    M: Medium + Drop + Send,
+    R: Threads + Wait + Sync,
+>(
+    rt: &R,
+    alloc: Global,
+    plan: &Plan,
+    openings: Vec<Opening<M>>,
+    media: Vec<Option<M>>,
+    fates: F,
+    clock: C,
+) -> Finished<F, C, M>
+    requires plan { CanRun plan.now }
+    requires count { length openings.items ≡ node_count plan.now }
+    requires opened { (first : List (Option M)) × AllZip (HasOpened M.Medium) first openings.items }
+    requires empty { media.items ≡ [] }
+    requires room { vec_len openings ≤ vec_capacity media }
+    ensures { (first : List (Option M)) → AllZip (HasOpened M.Medium) first openings.items →
+        EndsTo M.Medium (IsOver Course.Settling plan.now) plan.now
+        (tellers (F.asked fates) (F.asked result.fates) (C.answers clock) (C.answers result.clock)) first
+        result.media result.end }
+{
+    carry_out(
+        rt,
+        alloc,
+        plan,
+        Course::Settling,
+        openings,
+        media,
+        fates,
+        clock,
+    )
 }

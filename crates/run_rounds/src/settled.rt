@@ -82,8 +82,8 @@ fn lists_for<F: Fates, C: Clock, M: Medium>(
     Ok(lists)
 }
 
-// Why nodes that settled end.
-fn reason_of<F: Fates, C: Clock, M: Medium>(nodes: &[RunNode<F, C, M>]) -> Reason
+/// Why nodes that settle end.
+pub fn reason_of<F: Fates, C: Clock, M: Medium>(nodes: &[RunNode<F, C, M>]) -> Reason
     ensures { SettledEnds result nodes.now }
 {
     if is_any_wanting(nodes) {

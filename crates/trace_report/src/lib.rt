@@ -22,6 +22,8 @@ pub use begun::{BegunAct, BegunTry};
 pub use books::begun_in;
 pub use counts::wire_of;
 pub use downs::downs_of;
+pub use node_logs::log_of;
 pub use reports::{Reported, report, report_by};
 pub use summaries::{summary, summary_by};
+pub use trace_logs::logs;
 pub use transcripts::transcript;

@@ -1,6 +1,8 @@
-use Rattle.run_rounds.proofs.Names.{knows, IsWirePass, NodeParts, IsDealt, IsNewNode, Pass, EndsAs, tellers, along-length, ◌≡◌, ◌∙◌, [], length, sym, subst, ap, arith, inl, length-map, All, HaveRoom}
+use Rattle.run_rounds.proofs.Names.{knows, IsWirePass, NodeParts, IsDealt, IsNewNode, Pass, tellers, along-length, ◌≡◌, ◌∙◌, [], length, sym, subst, ap, arith, inl, length-map, All, HaveRoom}
 use Rattle.seat_lock.specs.Words.{base_of}
 use Rattle.run_rounds.specs.declared.ends.End.TheVariants as end
+use Rattle.run_rounds.specs.Ends.{IsOver}
+use Rattle.run_rounds.specs.Finishes.{EndsTo}
 use Rattle.run_rounds.proofs.BackLemmas.{opened-alone, opened-back, opened-kept}
 use Rattle.run_rounds.proofs.CloseLemmas.{new-conductor}
 use Rattle.run_rounds.proofs.KillLemmas.{unseen-nodes}
@@ -34,8 +36,8 @@ returns-in_default g c first opened =
     let plan = c.args.plan.now in
     let r = c.stopped.result in
     let told = tellers wire.origin.asked (g.F.Fates.asked r.fates) wire.origin.answers (g.C.Clock.answers r.clock) in
-    subst (λ e. EndsAs w c.args.limits.ticks c.args.limits.messages plan told first r.media e) (sym c.stopped.ensures.end)
-    (subst (λ left. EndsAs w c.args.limits.ticks c.args.limits.messages plan told first left end.NoMemory) (sym (c.stopped.ensures.media ∙ c.give_back.ensures.back))
+    subst (λ e. EndsTo w (IsOver c.args.course plan) plan told first r.media e) (sym c.stopped.ensures.end)
+    (subst (λ left. EndsTo w (IsOver c.args.course plan) plan told first left end.NoMemory) (sym (c.stopped.ensures.media ∙ c.give_back.ensures.back))
     (opened-back w first os opened, opened-kept w first os opened, λ told. inl (opened-alone w first os opened)))
 
 pub open_nodes-nodes-requires-clause-can : goal.open_nodes-nodes-requires-clause-can
@@ -89,8 +91,8 @@ returns-then-not-is_whole g c first opened =
     let back = c.open_nodes-nodes.ensures.back c.if-not-is_whole.true in
     let r = c.stopped-then-not-is_whole.result in
     let told = tellers wire.origin.asked (g.F.Fates.asked r.fates) wire.origin.answers (g.C.Clock.answers r.clock) in
-    subst (λ e. EndsAs w c.args.limits.ticks c.args.limits.messages plan told first r.media e) (sym c.stopped-then-not-is_whole.ensures.end)
-    (subst (λ left. EndsAs w c.args.limits.ticks c.args.limits.messages plan told first left end.NoMemory) (sym (c.stopped-then-not-is_whole.ensures.media ∙ back.0))
+    subst (λ e. EndsTo w (IsOver c.args.course plan) plan told first r.media e) (sym c.stopped-then-not-is_whole.ensures.end)
+    (subst (λ left. EndsTo w (IsOver c.args.course plan) plan told first left end.NoMemory) (sym (c.stopped-then-not-is_whole.ensures.media ∙ back.0))
     (opened-back w first os opened, opened-kept w first os opened, λ told. inl (opened-alone w first os opened)))
 
 pub rounds-requires-clause-ready : goal.rounds-requires-clause-ready
@@ -133,6 +135,9 @@ rounds-requires-clause-dealt g c κs within =
     let shares = c.in-Ok.shares.items in
     subst (λ n. IsDealt n [] shares) (sym c.in-Ok.ensures.count) c.in-Ok.ensures.dealt
 
+pub rounds-requires-clause-bare : goal.rounds-requires-clause-bare
+rounds-requires-clause-bare g c κs within = c.in-Ok.ensures.empty
+
 pub rounds-requires-clause-share_room : goal.rounds-requires-clause-share_room
 rounds-requires-clause-share_room g c κs within =
     let shares = c.in-Ok.shares.items in
@@ -169,4 +174,4 @@ returns g c first opened =
     let unseen = all-mapped (λ (p : Pass). (knows p).own ≡ []) (λ (n : NodeParts g.row.M.Denot). n.pass) nodes (subst (All (λ (p : Pass). (knows p).own ≡ [])) (sym (o.ensures.passes whole)) own) in
     let fresh = unseen-nodes plan os wire.origin.asked wire.origin.answers wire c.requires.begun.set_up passes.items c.requires.begun.has.unseen nodes (o.ensures.passes whole) in
     let r = c.rounds.result in
-    ends-as w c.args.limits plan c.requires.runnable.of_language lock (g.F.Fates.asked r.fates) (g.C.Clock.answers r.clock) first os opened (open-of w os c.requires.sound) c.requires.runnable.all c.requires.runnable.ready c.requires.begun.set_up nodes (o.ensures.new whole) unseen fresh (g.met.M.Medium g.world.𝓛 g.world.𝓜 g.world.𝓡 ((λ s x. x), (λ x. x), (λ x. x), (λ x. x))).only_now r.media r.end c.rounds.ensures
+    ends-as w c.args.course plan c.requires.runnable.of_language lock (g.F.Fates.asked r.fates) (g.C.Clock.answers r.clock) first os opened (open-of w os c.requires.sound) c.requires.runnable.all c.requires.runnable.ready c.requires.begun.set_up nodes (o.ensures.new whole) unseen fresh (g.met.M.Medium g.world.𝓛 g.world.𝓜 g.world.𝓡 ((λ s x. x), (λ x. x), (λ x. x), (λ x. x))).only_now r.media r.end c.rounds.ensures

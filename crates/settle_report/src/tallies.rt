@@ -1,0 +1,87 @@
+//! What became of the versions of a repository between two of its logs.
+ghost use Rattle.std.specs.Prelude.{◌≡◌, ◌++◌, true, false, Bool, IfOk, OnOk, reverse, is_none, length};
+ghost use Rattle.std.specs.List.{filter};
+ghost use Rattle.forward_copy.specs.Settled.{AreKnown};
+ghost use Rattle.settle_report.specs.Versions as spec;
+
+use crate::versions::{HeldVersion, versions_of};
+use effect_form::Effect;
+use forward_copy::settles_of;
+use object_history::Settles;
+use std::alloc::{AllocError, Global};
+
+/// How many versions of a repository a settle settled as committed and as aborted, and how many are open.
+#[derive(Clone, Copy, Debug, PartialEq, Eq)]
+pub struct Tally {
+    pub committed: u64,
+    pub aborted: u64,
+    pub open: u64,
+}
+
+// Whether an attempt wasn't known before, and is known as this now.
+fn becomes(committed: bool, before: Option<bool>, now: Option<bool>) -> bool
+    ensures { result ≡ spec.becomes committed before now }
+{
+    match before {
+        Some(_) => false,
+        None => match now {
+            Some(decision) => decision == committed,
+            None => false,
+        },
+    }
+}
+
+// How many of these versions were settled so between two logs.
+fn settled_count(committed: bool, was: &Settles, is: &Settles, versions: &[HeldVersion]) -> u64
+    ensures { (before after : _) → AreKnown (reverse before) was.now → AreKnown (reverse after) is.now →
+        result ≡ length (filter (spec.is_settled_as committed before after) versions.now) }
+{
+    let mut count = 0;
+    for version in versions {
+        let stamp = version.start.stamp();
+        if becomes(committed, was.get(stamp), is.get(stamp)) {
+            count += 1;
+        }
+    }
+    count
+}
+
+// Adds those of these versions that a log leaves open.
+fn add_open(
+    is: &Settles,
+    versions: &[HeldVersion],
+    open: &mut Vec<HeldVersion>,
+) -> Result<(), AllocError>
+    ensures { (after : _) → AreKnown (reverse after) is.now →
+        OnOk result (open.new.items ≡ open.old.items ++ filter (λ v. is_none (spec.fate_in after v)) versions.now) }
+{
+    for version in versions {
+        if is.get(version.start.stamp()).is_none() {
+            open.push(*version)?;
+        }
+    }
+    Ok(())
+}
+
+/// What became of the versions of a repository's log, by the one before. The versions that are open are
+/// appended to the list.
+pub fn tally_of(
+    alloc: Global,
+    before: &[Effect],
+    after: &[Effect],
+    open: &mut Vec<HeldVersion>,
+) -> Result<Tally, AllocError>
+    ensures tally { IfOk result (λ t. t ≡ spec.tally_of before.now after.now) }
+    ensures open { OnOk result (open.new.items ≡ open.old.items ++ spec.open_in after.now) }
+{
+    let versions = versions_of(alloc, after)?;
+    let was = settles_of(alloc, before)?;
+    let is = settles_of(alloc, after)?;
+    let listed = open.len();
+    add_open(&is, versions.as_slice(), open)?;
+    Ok(Tally {
+        committed: settled_count(true, &was, &is, versions.as_slice()),
+        aborted: settled_count(false, &was, &is, versions.as_slice()),
+        open: (open.len() - listed) as u64,
+    })
+}
