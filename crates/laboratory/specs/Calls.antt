@@ -11,7 +11,7 @@ use Rattle.swallow_top.specs.Media.{Media}
 use Rattle.swallow_top.specs.Finishes.{account_of, tellers}
 use Rattle.swallow_top.specs.Promise.{Call, Promise}
 use Rattle.run_volumes.specs.Shelves.{ShelfSight}
-use Rattle.swallow_top.specs.Written.{Sinking, GotLine}
+use Rattle.run_command.specs.Written.{Sinking, GotLine}
 use Rattle.laboratory.specs.declared.options.Lab.{Lab}
 use Rattle.laboratory.specs.Fates.{asked_of, divisor_of}
 use Rattle.laboratory.specs.Losses.{IsFated}

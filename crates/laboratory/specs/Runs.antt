@@ -4,7 +4,7 @@ use Rattle.stream_port.specs.Clocks.{FixedParts}
 use Rattle.medium_port.specs.declared.memory_media.MemoryMedium.{MemoryMedium}
 use Rattle.world_core.specs.declared.traces.Trace.{Trace}
 use Rattle.run_volumes.specs.declared.kept.Kept.{Kept}
-use Rattle.swallow_top.specs.Written.{Sinking}
+use Rattle.run_command.specs.Written.{Sinking}
 use Rattle.laboratory.specs.declared.losses.LabFates.{LabFates}
 
 -- all but its words

@@ -1,5 +1,5 @@
 //! What the laboratory writes itself.
-ghost use Rattle.swallow_top.specs.Written.{GotLine, sinking};
+ghost use Rattle.run_command.specs.Written.{GotLine, sinking};
 
 use stream_port::Sink;
 

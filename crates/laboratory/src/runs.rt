@@ -3,7 +3,7 @@ ghost use Rattle.std.specs.Prelude.{◌≡◌, ◌≤◌, [], IfOk};
 ghost use Rattle.std.specs.String.{string_bytes};
 ghost use Rattle.swallow_top.specs.Stories.{no_trace};
 ghost use Rattle.command_words.specs.Words.{said};
-ghost use Rattle.swallow_top.specs.Written.{sinking};
+ghost use Rattle.run_command.specs.Written.{sinking};
 ghost use Rattle.laboratory.specs.Fates.{asked_of};
 ghost use Rattle.laboratory.specs.Runs.{ran};
 ghost use Rattle.laboratory.specs.Shelves.{IsLabShelf};

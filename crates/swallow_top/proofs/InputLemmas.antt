@@ -3,7 +3,7 @@ use Rattle.std.proofs.Common.{ℕ, ◌≤◌, ◌<◌, ◌≡◌, inl, inr, List
 use Rattle.swallow_top.proofs.Names.{Option, Result, Vec, Consumes, IsAtEnd, length-append, IsPlanFault, Plan, IsPlan, Stop, OfInput, IsReadAs, ReadsPlan, AreReadAs, ReadsPolls, IsInputFault, IsInput, PollLine, Global}
 use Rattle.plan_form.specs.declared.plan_faults.PlanKind.{PlanKind}
 use Rattle.plan_form.specs.declared.plan_faults.PlanKind.TheVariants as kind
-use Rattle.swallow_top.specs.declared.stops.Stop.TheVariants as stop
+use Rattle.run_command.specs.declared.stops.Stop.TheVariants as stop
 
 -- all of the input was read
 pub of_whole : (left new : Option (List ℕ)) (bytes : List ℕ) (P : List ℕ → Type 0) → Consumes left new bytes → IsAtEnd new → P bytes → OfInput left P

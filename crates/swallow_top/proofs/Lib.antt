@@ -1,16 +1,7 @@
-pub mod CompleteLemmas
-pub mod DownLemmas
 pub mod HistoryLemmas
 pub mod InputLemmas
 pub mod OutcomeLemmas
-pub mod PageLemmas
 pub mod PromiseLemmas
 pub mod RetirementLemmas
-pub mod RunLemmas
-pub mod ShelfLemmas
-pub mod SmoothLemmas
-pub mod StandingLemmas
-pub mod StreamLemmas
-pub mod TopLemmas
 pub mod VoteLemmas
 pub mod Names

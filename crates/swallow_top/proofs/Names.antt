@@ -1,94 +1,57 @@
 -- The names that the proofs of this crate cite, passed on from one place. Declares nothing.
 pub use Rattle.archive_promise.specs.Answered.{IsLawful, IsOfStamp}
-pub use Rattle.broker_core.proofs.SoundLemmas.{and-left, sound-kept}
-pub use Rattle.broker_core.specs.Book.{Act, Book, Try, tries_of}
-unfoldable pub use Rattle.broker_core.specs.Book.{book}
-pub use Rattle.broker_core.specs.Fits.{plan_fault}
-unfoldable pub use Rattle.broker_core.specs.Fits.{keep, other_plan}
-pub use Rattle.broker_core.specs.Readings.{reading}
 pub use Rattle.command_words.specs.Words.{AreGiven, AreOptions, AreWords, IsWith, said}
 pub use Rattle.command_words.specs.declared.commands.Options.{Options}
 pub use Rattle.command_words.specs.declared.rules.Rule.{Rule}
-pub use Rattle.complete_law.specs.Calm.{AllDone, CalmPlace, CalmRun, HasOutcome, IsOver, IsUnstopped, MayStop, book_at, filled_by, log_at, most_filled, most_pages}
-pub use Rattle.effect_form.specs.declared.effects.Effect.{Effect}
-pub use Rattle.effect_form.specs.declared.outcomes.Outcome.{Outcome}
 pub use Rattle.forward_copy.specs.Currents.{node_log}
-pub use Rattle.message_core.proofs.NodeLemmas.{same_node-refl}
 pub use Rattle.plan_form.specs.PlanFaults.{IsPlanFault}
-pub use Rattle.plan_form.specs.PlanTexts.{EachAct, CanRun}
-pub use Rattle.plan_form.specs.Plans.{InRange, IsPlan}
+pub use Rattle.plan_form.specs.PlanTexts.{CanRun}
+pub use Rattle.plan_form.specs.Plans.{IsPlan}
 pub use Rattle.plan_form.specs.declared.plans.Plan.{Plan}
-pub use Rattle.plan_volumes.proofs.ApartLemmas.{ends-some, working-below, zip-long}
-pub use Rattle.plan_volumes.proofs.BlankImageLemmas.{blank-count, blank-none}
 pub use Rattle.plan_volumes.proofs.ShelfLemmas.{all-kept}
 pub use Rattle.plan_volumes.proofs.StandLemmas.{back-all, given-back, stand-all}
-pub use Rattle.plan_volumes.specs.Asides.{AreApart, IsAside}
-pub use Rattle.plan_volumes.specs.Kept.{AllKept, kept_under, node_of}
+pub use Rattle.plan_volumes.specs.Kept.{AllKept, kept_under}
 pub use Rattle.plan_volumes.specs.KeptMedium.{Kept}
-pub use Rattle.plan_volumes.specs.Media.{AreBack, IsBack, IsLeftAlone, IsUntouched, Media}
+pub use Rattle.plan_volumes.specs.Media.{AreBack, IsBack, Media}
 pub use Rattle.plan_volumes.specs.Opening.{Opening}
-pub use Rattle.plan_volumes.specs.Opening.TheVariants.{Open, Shut, Wanting}
-pub use Rattle.plan_volumes.specs.Openings.{HasOpened, fault_in, medium_in}
-pub use Rattle.plan_volumes.specs.Places.{node_at, node_count, place_of}
-pub use Rattle.plan_volumes.specs.RunVolumes.{AreOpen, AreVolumes, EndRightly, GoOn, follows, goes_on, logs_of}
-pub use Rattle.plan_volumes.specs.Shelves.{IsGiven, IsTaken, ShelfSight, first_names, is_missing, shelf_sight, volume_name}
-pub use Rattle.plan_volumes.specs.Volumes.{HadMemory, HasVolumes, IsNodes, NodeVolumes, all_left, all_taken, names_from, work_taken, working}
-pub use Rattle.pseudo_time.proofs.ListLemmas.{every-has, every-left, every-map, every-right, has-reverse, has-right}
-pub use Rattle.pseudo_time.specs.Lists.{Every, Has}
-pub use Rattle.pseudo_time.specs.Nodes.{broker, repository as named, same_node}
+pub use Rattle.plan_volumes.specs.Openings.{HasOpened, medium_in}
+pub use Rattle.plan_volumes.specs.RunVolumes.{AreOpen, AreVolumes, logs_of}
+pub use Rattle.plan_volumes.specs.Shelves.{ShelfSight, first_names, shelf_sight}
+pub use Rattle.pseudo_time.specs.Lists.{Every}
+pub use Rattle.pseudo_time.specs.Nodes.{repository as named}
 pub use Rattle.pseudo_time.specs.declared.down_causes.DownCause.{DownCause}
 pub use Rattle.pseudo_time.specs.declared.nodes.NodeId.{NodeId}
 pub use Rattle.report_writer.specs.Histories.{history_text}
 pub use Rattle.report_writer.specs.Reports.{down_text}
 pub use Rattle.retire_command.specs.declared.outcomes.Retired.{Retired}
-pub use Rattle.run_rounds.proofs.FlagLemmas.{fell, named-opened, one-down, stays-down, stays-known, told-of, up-named}
-pub use Rattle.run_rounds.specs.Acts.{act_begun, act_shown, act_with, acts_shown, begun_acts, counted_by, shown_end, tasks_of, tries_shown, try_shown}
-pub use Rattle.run_rounds.specs.Ends.{HasEnded, IsUnopened, some_down}
-pub use Rattle.run_rounds.specs.Finishes.{EndsAs, HasItsLog, IsKeptWhole, Tellers, account_of, tellers}
-pub use Rattle.run_rounds.specs.Media.{Became, inner, medium_at}
+pub use Rattle.run_rounds.specs.Ends.{some_down}
 pub use Rattle.run_rounds.specs.Reports.{open_acts}
-pub use Rattle.run_rounds.specs.Runs.{Account, HasRanges, IsFirstFault, Ran, RanUntold}
+pub use Rattle.run_rounds.specs.Runs.{Account}
 pub use Rattle.run_rounds.specs.Stories.{no_trace}
-pub use Rattle.std.proofs.Common.{Bool, Err, IsTrue, List, None, Ok, Some, [], ap, append_assoc, arith, cond, drop, false, if◌then◌else◌, inl, inr, is_some, length, length-drop, map, nat_le, nat_lt, refl, reverse, slice_get, subst, suc, sym, take, true, zero, zero-add, ℕ, ◌&&◌, ◌++◌, ◌+◌, ◌-◌, ◌<◌, ◌==◌, ◌^◌, ◌∙◌, ◌∷◌, ◌≡◌, ◌≤◌, ◌⊎◌}
-pub use Rattle.std.proofs.lemmas.Bool.{cond-true, eq-eqb, eqb-true, false≢true}
-pub use Rattle.std.proofs.lemmas.Bool.Decides.{nat_tests}
-pub use Rattle.std.proofs.lemmas.List.{append-nil, length-append, length-map, length-reverse, map-append, reverse-append, reverse-reverse, take-append-drop}
-pub use Rattle.std.proofs.lemmas.List.Elements.{filter-append}
-pub use Rattle.std.proofs.lemmas.Option.{same_Some, slice_get-get_or, slice_get_within}
+pub use Rattle.std.proofs.Common.{Bool, Err, IsTrue, List, None, Ok, Some, [], ap, arith, false, if◌then◌else◌, inl, inr, length, map, refl, subst, sym, true, ℕ, ◌++◌, ◌==◌, ◌∙◌, ◌∷◌, ◌≡◌, ◌≤◌, ◌⊎◌}
+pub use Rattle.std.proofs.lemmas.List.{length-append, length-map}
 pub use Rattle.std.proofs.lemmas.Slice.Zip.{AllZip-long}
-pub use Rattle.std.specs.Io.KnownBytes.{Appends, Consumes, IsAtEnd, Keeps}
-pub use Rattle.std.specs.List.{AllZip, count_by}
-pub use Rattle.std.specs.Prelude.{IfOk, OnErr, OnOk, Option, Result, Vec, filter}
+pub use Rattle.std.specs.Io.KnownBytes.{Consumes, IsAtEnd}
+pub use Rattle.std.specs.Prelude.{IfOk, Option, Result, Vec}
 pub use Rattle.std.specs.declared.alloc.Global.{Global}
-pub use Rattle.stream_port.specs.Causes.{Rose, RoseBy, rise_of_fewer}
-pub use Rattle.swallow_top.specs.Contract.{CameOf, Completes, HasNoRun, IsNoPlan, IsSmooth, LosesNothing, RanOver, RefusedAs, RunsPlan, WantedMemory}
-pub use Rattle.swallow_top.specs.Finished.{AllBegun}
-pub use Rattle.swallow_top.specs.Histories.{AskedNothing, TellsHistory, TellsText, TellsVolumes, home_of}
+pub use Rattle.stream_port.specs.Causes.{Rose}
+pub use Rattle.run_command.specs.Contract.{CameOf, HasNoRun, RunsPlan}
+pub use Rattle.swallow_top.specs.Refusals.{IsNoPlan, RefusedAs}
+pub use Rattle.swallow_top.specs.Histories.{AskedNothing, TellsHistory, TellsVolumes, home_of}
 pub use Rattle.swallow_top.specs.Inputs.{OfInput}
 pub use Rattle.swallow_top.specs.Outcomes.{TellsAnswer, TellsSnapshot, TellsOutcome, TellsWatch}
 pub use Rattle.swallow_top.specs.Plans.{IsReadAs, ReadsPlan}
 pub use Rattle.swallow_top.specs.Retirements.{TellsRetired, TellsRetirement, mark_at}
-pub use Rattle.swallow_top.specs.Smooth.{IsFinal, IsFinished, IsSmoothRun, WasRefused, WentSmoothly, pages_for, volumes_of_blank}
-pub use Rattle.swallow_top.specs.Tellings.{OfRun, TellsEnd, status_of}
+pub use Rattle.run_command.specs.Tellings.{status_of}
 pub use Rattle.swallow_top.specs.Votes.{AreFew, AreNoPolls, AreReadAs, HavePolled, ReadsPolls, TellsVotes, limits_of, tellers_of, votes_status}
-pub use Rattle.swallow_top.specs.Written.{AppendsFront, Ends, EndsIfAny, GotLine, Sinking, sinking}
-pub use Rattle.swallow_top.specs.declared.reports.Wanted.{Wanted}
-pub use Rattle.swallow_top.specs.declared.stops.Stop.{Stop}
+pub use Rattle.run_command.specs.Written.{Ends, EndsIfAny, GotLine, Sinking, sinking}
+pub use Rattle.run_command.specs.declared.reports.Wanted.{Wanted}
+pub use Rattle.run_command.specs.declared.stops.Stop.{Stop}
 pub use Rattle.value_form.specs.declared.objects.ObjectId.{ObjectId}
-pub use Rattle.version_store.proofs.FillingLemmas.{filling-apart, own-most}
-pub use Rattle.version_store.specs.Filling.{full_pages, own_pages, pages_apart}
-pub use Rattle.version_store.specs.Storage.{storage}
 pub use Rattle.votes_command.specs.Faults.{IsInputFault}
 pub use Rattle.votes_command.specs.Inputs.{IsInput, IsPoll}
 pub use Rattle.votes_command.specs.PollLine.{PollLine}
 pub use Rattle.votes_command.specs.VoteEnd.{VoteEnd}
 pub use Rattle.votes_command.specs.VoteEnd.TheVariants.{Told}
-pub use Rattle.world_core.specs.Counts.{down_cause, tick_count}
-pub use Rattle.world_core.specs.Legal.{JustNodes, base_of, fates_of, in_plan, post_of}
-unfoldable pub use Rattle.world_core.specs.Legal.{Meets}
-pub use Rattle.world_core.specs.Readings.{IsLegal, gated_log, life_after}
-pub use Rattle.world_core.specs.Walks.{Base, Life, World, all_effects, lives_on, names, own, start_world, step, walk}
-unfoldable pub use Rattle.world_core.specs.Walks.{walk_from}
-pub use Rattle.world_core.specs.declared.entries.Entry.{Entry}
-pub use Rattle.world_core.specs.declared.entries.Entry.TheVariants.{Crash, Down, Gate, Go, Hear, Learn, Take, Tick}
+pub use Rattle.world_core.specs.Counts.{tick_count}
 pub use Rattle.world_core.specs.declared.traces.Trace.{Trace}

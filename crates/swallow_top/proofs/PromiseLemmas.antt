@@ -7,8 +7,8 @@ use Rattle.plan_form.proofs.PlanTextLemmas.{plan_can_run}
 use Rattle.command_words.specs.declared.commands.Command.{Command}
 use Rattle.command_words.specs.declared.commands.Command.TheVariants.{Run, Load, History, Retire, Votes, Watch, AsOf, Audit, Snapshot}
 use Rattle.command_words.specs.declared.options.Given.{Given}
-use Rattle.swallow_top.specs.declared.reports.Wanted.TheVariants.{Report, Summary}
-use Rattle.swallow_top.specs.declared.stops.Stop.TheVariants as stop
+use Rattle.run_command.specs.declared.reports.Wanted.TheVariants.{Report, Summary}
+use Rattle.run_command.specs.declared.stops.Stop.TheVariants as stop
 use Rattle.swallow_top.specs.Asked.{TellsAsked}
 use Rattle.swallow_top.specs.Promise.{Call, HasNoWords, TouchedNothing, IsUnread, Promise, WasDone}
 use Rattle.retire_command.specs.declared.outcomes.Retired.TheVariants.{Done, Refused, Fallen, NoMemory}

@@ -9,7 +9,7 @@ use Rattle.archive_promise.specs.Question.TheVariants as question
 use Rattle.swallow_top.specs.Histories.{TellsHistory}
 use Rattle.swallow_top.specs.Outcomes.{TellsAnswer, TellsSnapshot, TellsWatch}
 use Rattle.swallow_top.specs.Retirements.{TellsRetirement, mark_at}
-use Rattle.swallow_top.specs.Written.{Sinking}
+use Rattle.run_command.specs.Written.{Sinking}
 
 -- what this command, which neither runs a plan nor votes, has told by the volumes of repositories
 abbrev pub TellsAsked : {M : Type 0} → Media M → ShelfSight → ShelfSight → Command → List (Kept M) → Sinking → ℕ → Type 0

@@ -1,5 +1,5 @@
 -- How the history of an object is reported, by the volumes of its repository.
-use Rattle.std.specs.Prelude.{◌≡◌, ◌⊎◌, ℕ, List, [], length, map, Option, Result, Ok, Err}
+use Rattle.std.specs.Prelude.{◌≡◌, ◌⊎◌, ℕ, List, [], length, map, Option}
 use Rattle.pseudo_time.specs.Nodes.{repository}
 use Rattle.pseudo_time.specs.declared.nodes.NodeId.{NodeId}
 use Rattle.pseudo_time.specs.declared.down_causes.DownCause.{DownCause}
@@ -16,16 +16,11 @@ use Rattle.plan_volumes.specs.Shelves.{IsLeft, ShelfSight, first_names}
 use Rattle.plan_volumes.specs.Standings.{HasShut, WritesNothing}
 use Rattle.forward_copy.specs.Currents.{node_log}
 use Rattle.plan_volumes.specs.RunVolumes.{AreOpen, AreVolumes, logs_of}
-use Rattle.swallow_top.specs.Written.{Sinking, Ends}
+use Rattle.run_command.specs.Written.{Sinking, Ends}
 
 -- the repository of the object
 abbrev pub home_of : ObjectId → NodeId
 home_of object = repository object.repository
-
--- this status tells that a text was written, if it could be made
-abbrev pub TellsText : {E : Type 0} → Result (List ℕ) E → ℕ → ℕ → Sinking → Type 0
-TellsText (Ok text) written status s = Ends status s written text
-TellsText (Err e) written status s = status ≡ 7
 
 -- ---- by what came of opening its volumes
 

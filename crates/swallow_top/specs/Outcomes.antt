@@ -14,7 +14,7 @@ use Rattle.archive_promise.specs.Repositories.{SnapshotOver, all_logs}
 use Rattle.archive_promise.specs.Snapped.{IsLawfulSnapshot}
 use Rattle.archive_promise.specs.Watched.{CountsOver}
 use Rattle.archive_promise.specs.Watches.{StopsBefore, WatchesOver}
-use Rattle.swallow_top.specs.Written.{Sinking, Ends, GotLine}
+use Rattle.run_command.specs.Written.{Sinking, Ends, GotLine}
 
 -- the status and the text that tell it
 abbrev pub TellsOutcome : Outcome → ℕ → Sinking → Type 0

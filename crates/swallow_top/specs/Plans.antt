@@ -5,8 +5,8 @@ use Rattle.stream_port.specs.Causes.{Rose}
 use Rattle.plan_form.specs.declared.plans.Plan.{Plan}
 use Rattle.plan_form.specs.PlanFaults.{IsPlanFault}
 use Rattle.plan_form.specs.Plans.{IsPlan}
-use Rattle.swallow_top.specs.declared.stops.Stop.{Stop}
-use Rattle.swallow_top.specs.declared.stops.Stop.TheVariants as stop
+use Rattle.run_command.specs.declared.stops.Stop.{Stop}
+use Rattle.run_command.specs.declared.stops.Stop.TheVariants as stop
 use Rattle.swallow_top.specs.Inputs.{OfInput}
 
 -- the plan that the bytes are, or what is wrong with them

@@ -13,17 +13,18 @@ use Rattle.plan_volumes.specs.Media.{Media}
 use Rattle.run_rounds.specs.Runs.{Account}
 use Rattle.plan_volumes.specs.Kept.{AllKept}
 use Rattle.plan_volumes.specs.KeptMedium.{Kept}
-use Rattle.swallow_top.specs.declared.reports.Wanted.TheVariants.{Report, Summary}
-use Rattle.swallow_top.specs.Contract.{HasNoRun, IsNoPlan, RunsPlan}
+use Rattle.run_command.specs.declared.reports.Wanted.TheVariants.{Report, Summary}
+use Rattle.run_command.specs.Contract.{HasNoRun, RunsPlan}
+use Rattle.swallow_top.specs.Refusals.{IsNoPlan}
 use Rattle.swallow_top.specs.Histories.{TellsHistory}
 use Rattle.swallow_top.specs.Inputs.{OfInput}
-use Rattle.swallow_top.specs.Lines.{words_line, source_line}
+use Rattle.run_command.specs.Lines.{words_line, source_line}
 use Rattle.plan_volumes.specs.Shelves.{ShelfSight}
 use Rattle.archive_promise.specs.Question.TheVariants as question
 use Rattle.swallow_top.specs.Outcomes.{TellsAnswer, TellsSnapshot, TellsWatch}
 use Rattle.swallow_top.specs.Retirements.{TellsRetirement, mark_at}
 use Rattle.swallow_top.specs.Votes.{AreNoPolls, HavePolled}
-use Rattle.swallow_top.specs.Written.{Sinking, GotLine}
+use Rattle.run_command.specs.Written.{Sinking, GotLine}
 use Rattle.votes_command.specs.Inputs.{IsInput}
 use Rattle.votes_command.specs.PollLine.{PollLine}
 use Rattle.world_core.specs.declared.traces.Trace.{Trace}

@@ -8,7 +8,7 @@ use Rattle.plan_volumes.specs.Shelves.{ShelfSight}
 use Rattle.retire_command.specs.declared.outcomes.Retired.{Retired}
 use Rattle.retire_command.specs.declared.outcomes.Retired.TheVariants.{Done, Refused, Fallen, NoMemory}
 use Rattle.retire_command.specs.Retires.{RetiresOver}
-use Rattle.swallow_top.specs.Written.{Sinking, Ends, GotLine}
+use Rattle.run_command.specs.Written.{Sinking, Ends, GotLine}
 
 -- the mark at a clock: the first pseudotime of the stamp with it that broker 1 and repository 1 have, so that a stamp's pseudotimes lie all on one side of it
 abbrev pub mark_at : ℕ → TimeParts

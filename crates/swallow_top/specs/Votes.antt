@@ -24,10 +24,10 @@ use Rattle.votes_command.specs.Texts.{fault_line}
 use Rattle.votes_command.specs.PollStanding.{PollStanding}
 use Rattle.votes_command.specs.Limits.{Limits}
 use Rattle.votes_command.specs.Votes.{AreSmooth, VotesOver}
-use Rattle.swallow_top.specs.declared.stops.Stop.{Stop}
-use Rattle.swallow_top.specs.declared.stops.Stop.TheVariants as stop
+use Rattle.run_command.specs.declared.stops.Stop.{Stop}
+use Rattle.run_command.specs.declared.stops.Stop.TheVariants as stop
 use Rattle.swallow_top.specs.Inputs.{OfInput}
-use Rattle.swallow_top.specs.Written.{Sinking, EndsIfAny, GotLine}
+use Rattle.run_command.specs.Written.{Sinking, EndsIfAny, GotLine}
 
 -- ---- the input
 

@@ -1,34 +1,19 @@
 //! The history of an object.
 ghost use Rattle.std.specs.Prelude.{◌⊎◌};
 ghost use Rattle.plan_volumes.specs.Shelves.{shelf_sight};
-ghost use Rattle.swallow_top.specs.Histories.{AskedNothing, TellsHistory, TellsText, TellsVolumes};
-ghost use Rattle.swallow_top.specs.Written.{sinking};
+ghost use Rattle.swallow_top.specs.Histories.{AskedNothing, TellsHistory, TellsVolumes};
+ghost use Rattle.run_command.specs.Written.{sinking};
 
-use crate::streams::write_all;
 use medium_port::{Medium, Shelf};
 use plan_volumes::{
     Kept, Opening, Standing, give_back, keep_volumes, node_log, open_volumes, stand_of,
 };
 use pseudo_time::NodeId;
 use report_writer::{down_line, history};
-use std::alloc::{AllocError, Global};
+use run_command::tell_text;
+use std::alloc::Global;
 use stream_port::Sink;
-use value_form::{Bytes, ObjectId};
-
-/// Writes a text. The answer is the status: `written` where the sink took all of it.
-pub fn tell_text<O: Sink>(text: Result<Bytes, AllocError>, written: u8, sink: &mut O) -> u8
-    ensures { TellsText text written result (sinking (O.taken sink.old) (O.taken sink.new) (O.faults sink.old)
-        (O.faults sink.new)) }
-{
-    let Ok(text) = text else {
-        return 7;
-    };
-    if write_all(sink, text.as_slice()).is_err() {
-        4
-    } else {
-        written
-    }
-}
+use value_form::ObjectId;
 
 // Writes the history of the object by the log of its repository, or why that can't be opened. The answer
 // is the status.

@@ -4,15 +4,14 @@ ghost use Rattle.plan_volumes.specs.Shelves.{shelf_sight};
 ghost use Rattle.swallow_top.specs.Histories.{AskedNothing};
 ghost use Rattle.swallow_top.specs.Outcomes.{TellsAnswer, TellsOutcome, TellsSnapshot, TellsWatch};
 ghost use Rattle.swallow_top.specs.Retirements.{mark_at};
-ghost use Rattle.swallow_top.specs.Written.{sinking};
+ghost use Rattle.run_command.specs.Written.{sinking};
 
-use crate::histories::tell_text;
 use crate::retirements::mark_of;
-use crate::streams::write_all;
 use archive_promise::{Outcome, Question, ask, snapshot, watch};
 use command_words::Rule;
 use medium_port::{Medium, Shelf};
 use plan_volumes::Kept;
+use run_command::{tell_text, write_all};
 use std::alloc::Global;
 use stream_port::Sink;
 use value_form::ObjectId;

@@ -1,9 +1,8 @@
 //! The plan of a run is read.
 ghost use Rattle.swallow_top.specs.Plans.{IsReadAs, ReadsPlan};
 
-use crate::stops::Stop;
-use crate::streams::read_all;
 use plan_form::{Plan, PlanFault, parse};
+use run_command::{Stop, read_all};
 use std::alloc::Global;
 use stream_port::Source;
 

@@ -3,14 +3,13 @@ ghost use Rattle.std.specs.Prelude.{◌≡◌, ◌⊎◌, ◌≤◌, ◌^◌, �
 ghost use Rattle.plan_volumes.specs.Shelves.{shelf_sight};
 ghost use Rattle.swallow_top.specs.Histories.{AskedNothing};
 ghost use Rattle.swallow_top.specs.Retirements.{TellsRetired, TellsRetirement, mark_at};
-ghost use Rattle.swallow_top.specs.Written.{sinking};
+ghost use Rattle.run_command.specs.Written.{sinking};
 
-use crate::histories::tell_text;
-use crate::streams::write_all;
 use medium_port::{Medium, Shelf};
 use plan_volumes::Kept;
 use pseudo_time::{PseudoTime, Stamp};
 use retire_command::{Retired, retire};
+use run_command::{tell_text, write_all};
 use std::alloc::Global;
 use stream_port::Sink;
 

@@ -1,7 +1,7 @@
 use Rattle.laboratory.proofs.Names.{inl, inr, subst, arith, Appends}
 use Rattle.std.proofs.lemmas.List.{take_all}
 use Rattle.stream_port.specs.Causes.{rise_counts}
-use Rattle.swallow_top.proofs.StreamLemmas.{Appends-more, AppendsFront-fault, within_more}
+use Rattle.run_command.proofs.StreamLemmas.{Appends-more, AppendsFront-fault, within_more}
 use Rattle.laboratory.proofs.lines.write_line.Goals as goal
 
 pub returns-in_default : goal.returns-in_default

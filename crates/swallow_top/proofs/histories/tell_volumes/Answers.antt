@@ -1,6 +1,6 @@
 use Rattle.swallow_top.proofs.Names.{IfOk, history_text, down_text, node_log, logs_of, home_of, sinking, ◌≡◌, subst}
 use Rattle.swallow_top.proofs.HistoryLemmas.{open-told, shut-told}
-use Rattle.swallow_top.proofs.TopLemmas.{tells-text}
+use Rattle.run_command.proofs.TextLemmas.{tells-text}
 use Rattle.swallow_top.proofs.histories.tell_volumes.Goals as goal
 
 pub returns-in-Open : goal.returns-in-Open

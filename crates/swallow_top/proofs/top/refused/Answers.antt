@@ -1,5 +1,5 @@
 use Rattle.swallow_top.proofs.Names.{RefusedAs, GotLine, sinking, refl, inr, subst, ◌∙◌, sym}
-use Rattle.swallow_top.proofs.TopLemmas.{written}
+use Rattle.run_command.proofs.TextLemmas.{written}
 use Rattle.swallow_top.proofs.top.refused.Goals as goal
 
 pub returns-in-Ok : goal.returns-in-Ok

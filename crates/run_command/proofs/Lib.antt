@@ -1,0 +1,10 @@
+pub mod CompleteLemmas
+pub mod DownLemmas
+pub mod PageLemmas
+pub mod RunLemmas
+pub mod ShelfLemmas
+pub mod SmoothLemmas
+pub mod StandingLemmas
+pub mod StreamLemmas
+pub mod TextLemmas
+pub mod Names

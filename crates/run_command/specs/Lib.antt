@@ -1,0 +1,10 @@
+pub mod Contract
+pub mod Finished
+pub mod Lines
+pub mod Smooth
+pub mod Takings
+pub mod Tellings
+pub mod Written
+pub use Rattle.plan_volumes.specs.Media
+pub use Rattle.run_rounds.specs.Finishes
+pub use Rattle.run_rounds.specs.Stories
