@@ -1,3 +1,1 @@
 pub mod BatchLemmas
-pub mod InputLemmas
-pub mod SessionLemmas

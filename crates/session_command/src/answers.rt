@@ -3,7 +3,7 @@ ghost use Rattle.std.specs.Prelude.{◌≤◌};
 ghost use Rattle.plan_form.specs.PlanTexts.{CanRun};
 ghost use Rattle.run_command.specs.Written.{EndsIfAny, sinking};
 ghost use Rattle.session_form.specs.Sessions.{line_of};
-ghost use Rattle.session_command.specs.Chains.{Judged, RanAbove};
+ghost use Rattle.session_command.specs.Judged.{Judged, RanAbove};
 ghost use Rattle.session_command.specs.Lines.{fault_line};
 ghost use Rattle.session_command.specs.Standings.{standing};
 
