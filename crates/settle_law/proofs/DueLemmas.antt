@@ -156,15 +156,15 @@ key-stays (y ∷ xs) x s h = go (λ k. key-stays xs x s k) (stamp_cmp x y) h
 begun-has : (l : List Effect) (s : StampParts) (t : ℕ) → first_begin l s ≡ Some t → Has s (begun l)
 unfolding first_begin
 begun-has [] s t h = absurd (none-some h)
-begun-has (f ∷ l) s t h = go (begun_by f) h
+begun-has (f ∷ l) s t h = go (λ k. begun-has l s t k) (begun_by f) h
   where
-    by : (x : StampParts) (d : ℕ) (b : Bool) → same_stamp x s ≡ b → (if b then or_else (first_begin l s) d else first_begin l s) ≡ Some t → Has s (insert_key stamp_cmp (begun l) x)
-    by x d true q h = subst (λ y. Has s (insert_key stamp_cmp (begun l) y)) (sym (same_stamp-is x s q)) (key-has (begun l) s)
-    by x d false q h = key-stays (begun l) x s (begun-has l s t h)
+    by : (first_begin l s ≡ Some t → Has s (begun l)) → (x : StampParts) (d : ℕ) (b : Bool) → same_stamp x s ≡ b → (if b then or_else (first_begin l s) d else first_begin l s) ≡ Some t → Has s (insert_key stamp_cmp (begun l) x)
+    by more x d true q h = subst (λ y. Has s (insert_key stamp_cmp (begun l) y)) (sym (same_stamp-is x s q)) (key-has (begun l) s)
+    by more x d false q h = key-stays (begun l) x s (more h)
 
-    go : (u : Option (StampParts × ℕ)) → first_said u (first_begin l s) s ≡ Some t → Has s (with_begun u (begun l))
-    go None h = begun-has l s t h
-    go (Some e) h = by e.0 e.1 (same_stamp e.0 s) refl h
+    go : (first_begin l s ≡ Some t → Has s (begun l)) → (u : Option (StampParts × ℕ)) → first_said u (first_begin l s) s ≡ Some t → Has s (with_begun u (begun l))
+    go more None h = more h
+    go more (Some e) h = by more e.0 e.1 (same_stamp e.0 s) refl h
 
 unknown-begun : (t : Option ℕ) (x : Option Decision) (d : ℕ) → record_from t x ≡ Some (Unknown d) → t ≡ Some d
 unknown-begun None x d h = absurd (none-some h)

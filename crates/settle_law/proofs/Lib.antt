@@ -1,3 +1,4 @@
 pub mod DueLemmas
+pub mod LegalLemmas
 pub mod SilentLemmas
 pub mod WalkLemmas

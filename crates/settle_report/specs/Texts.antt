@@ -50,7 +50,7 @@ head_line repositories = named (codes "settle repositories ") repositories ++ 10
 
 abbrev pub tally_line : ℕ → Tally → List ℕ
 tally_line number t =
-    named (codes "repository ") number ++ (named (codes " committed ") t.committed ++ (named (codes " aborted ") t.aborted ++ (named (codes " open ") t.open ++ 10 ∷ [])))
+    named (codes "repository ") number ++ (named (codes " committed ") t.committed ++ (named (codes " aborted ") t.aborted ++ (named (codes " open ") t.undecided ++ 10 ∷ [])))
 
 abbrev pub repository_line : (before after : NodeId → List Effect) → NodeId → List ℕ
 repository_line before after n = tally_line n.number (tally_of (before n) (after n))
@@ -73,11 +73,11 @@ all_open plan logs = flat_map (λ n. open_in (logs n)) (repositories_of plan)
 
 -- The text of a settle by these logs: the open versions are listed by object, then start.
 pub record IsSettleText (plan : Plan) (before after : NodeId → List Effect) (t : Trace) (text : List ℕ) : Type 0 where
-  pub open : List HeldVersion
-  pub same : IsPermutation (all_open plan after) open
-  pub sorted : IsSorted held.cmp open
+  pub listed : List HeldVersion
+  pub same : IsPermutation (all_open plan after) listed
+  pub sorted : IsSorted held.cmp listed
   pub is : text ≡ head_line plan.repositories ++ (flat_map (repository_line before after) (repositories_of plan)
-      ++ (flat_map (open_line plan.repositories after) open ++ flat_map down_text (downs_shown plan t)))
+      ++ (flat_map (open_line plan.repositories after) listed ++ flat_map down_text (downs_shown plan t)))
 
 -- by the logs before and at the end of the trace
 abbrev pub IsTextOf : Plan → Trace → List ℕ → Type 0

@@ -37,5 +37,5 @@ abbrev pub tally_of : (before after : List Effect) → Tally
 tally_of before after = record {
   committed = length (filter (is_settled_as true before after) (versions after));
   aborted = length (filter (is_settled_as false before after) (versions after));
-  open = length (open_in after);
+  undecided = length (open_in after);
 }

@@ -20,7 +20,7 @@ use world_core::{Opened, Trace};
 #[derive(Debug, Drop)]
 pub struct SettleReport {
     pub text: Bytes,
-    pub open: u64,
+    pub undecided: u64,
 }
 
 // The report by the logs at the end of the trace.
@@ -31,27 +31,27 @@ fn report_by(
     trace: &Trace,
 ) -> Result<SettleReport, AllocError>
     ensures text { IfOk result (λ r. spec.IsSettleText plan.now (logs_by trace.now.opened) (logs_by logs.now) trace.now r.text) }
-    ensures open { IfOk result (λ r. r.open ≡ length (spec.all_open plan.now (logs_by logs.now))) }
+    ensures undecided { IfOk result (λ r. r.undecided ≡ length (spec.all_open plan.now (logs_by logs.now))) }
 {
     let mut out = Vec::new(alloc);
-    let mut open: Vec<HeldVersion> = Vec::new(alloc);
+    let mut undecided: Vec<HeldVersion> = Vec::new(alloc);
     push_head(alloc, &mut out, plan.repositories)?;
     push_repositories(
         alloc,
         &mut out,
-        &mut open,
+        &mut undecided,
         plan.repositories,
         trace.opened.as_slice(),
         logs,
     )?;
-    open.sort_unstable();
+    undecided.sort_unstable();
     let ledgers = ledgers_of(alloc, plan.repositories, logs)?;
-    push_open(alloc, &mut out, ledgers.as_slice(), open.as_slice())?;
+    push_open(alloc, &mut out, ledgers.as_slice(), undecided.as_slice())?;
     let downs = downs_of(alloc, plan, trace)?;
     push_downs(alloc, &mut out, downs.as_slice())?;
     Ok(SettleReport {
         text: Bytes::of(out),
-        open: open.len() as u64,
+        undecided: undecided.len() as u64,
     })
 }
 
@@ -66,7 +66,7 @@ pub fn settle_report(alloc: Global, plan: &Plan, trace: &Trace) -> Result<Settle
     requires start { trace.now.start ≤ 2 ^ 63 }
     requires moments { Every IsMoment trace.now.entries }
     ensures text { IfOk result (λ r. spec.IsTextOf plan.now trace.now r.text) }
-    ensures open { IfOk result (λ r. r.open ≡ spec.open_count plan.now trace.now) }
+    ensures undecided { IfOk result (λ r. r.undecided ≡ spec.open_count plan.now trace.now) }
 {
     let logs = logs(alloc, plan.run, plan.acts.as_slice(), trace)?;
     report_by(alloc, plan, logs.as_slice(), trace)

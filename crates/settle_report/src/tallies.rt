@@ -15,7 +15,7 @@ use std::alloc::{AllocError, Global};
 pub struct Tally {
     pub committed: u64,
     pub aborted: u64,
-    pub open: u64,
+    pub undecided: u64,
 }
 
 // Whether an attempt wasn't known before, and is known as this now.
@@ -50,14 +50,14 @@ fn settled_count(committed: bool, was: &Settles, is: &Settles, versions: &[HeldV
 fn add_open(
     is: &Settles,
     versions: &[HeldVersion],
-    open: &mut Vec<HeldVersion>,
+    undecided: &mut Vec<HeldVersion>,
 ) -> Result<(), AllocError>
     ensures { (after : _) → AreKnown (reverse after) is.now →
-        OnOk result (open.new.items ≡ open.old.items ++ filter (λ v. is_none (spec.fate_in after v)) versions.now) }
+        OnOk result (undecided.new.items ≡ undecided.old.items ++ filter (λ v. is_none (spec.fate_in after v)) versions.now) }
 {
     for version in versions {
         if is.get(version.start.stamp()).is_none() {
-            open.push(*version)?;
+            undecided.push(*version)?;
         }
     }
     Ok(())
@@ -69,19 +69,19 @@ pub fn tally_of(
     alloc: Global,
     before: &[Effect],
     after: &[Effect],
-    open: &mut Vec<HeldVersion>,
+    undecided: &mut Vec<HeldVersion>,
 ) -> Result<Tally, AllocError>
     ensures tally { IfOk result (λ t. t ≡ spec.tally_of before.now after.now) }
-    ensures open { OnOk result (open.new.items ≡ open.old.items ++ spec.open_in after.now) }
+    ensures undecided { OnOk result (undecided.new.items ≡ undecided.old.items ++ spec.open_in after.now) }
 {
     let versions = versions_of(alloc, after)?;
     let was = settles_of(alloc, before)?;
     let is = settles_of(alloc, after)?;
-    let listed = open.len();
-    add_open(&is, versions.as_slice(), open)?;
+    let listed = undecided.len();
+    add_open(&is, versions.as_slice(), undecided)?;
     Ok(Tally {
         committed: settled_count(true, &was, &is, versions.as_slice()),
         aborted: settled_count(false, &was, &is, versions.as_slice()),
-        open: (open.len() - listed) as u64,
+        undecided: (undecided.len() - listed) as u64,
     })
 }

@@ -29,18 +29,13 @@ pub fn push_head(alloc: Global, out: &mut Vec<u8>, repositories: u8) -> Result<(
 }
 
 // Appends the line of a repository.
-fn push_tally(
-    alloc: Global,
-    out: &mut Vec<u8>,
-    number: u8,
-    tally: Tally,
-) -> Result<(), AllocError>
+fn push_tally(alloc: Global, out: &mut Vec<u8>, number: u8, tally: Tally) -> Result<(), AllocError>
     ensures { OnOk result (out.new.items ≡ out.old.items ++ spec.tally_line number tally) }
 {
     push_named(alloc, out, b"repository ", number as u64)?;
     push_named(alloc, out, b" committed ", tally.committed)?;
     push_named(alloc, out, b" aborted ", tally.aborted)?;
-    push_named(alloc, out, b" open ", tally.open)?;
+    push_named(alloc, out, b" open ", tally.undecided)?;
     out.push(b'\n')?;
     Ok(())
 }
@@ -49,17 +44,17 @@ fn push_tally(
 fn push_repository(
     alloc: Global,
     out: &mut Vec<u8>,
-    open: &mut Vec<HeldVersion>,
+    undecided: &mut Vec<HeldVersion>,
     number: u8,
     before: &[Opened],
     after: &[Opened],
 ) -> Result<(), AllocError>
     ensures out { OnOk result (out.new.items ≡ out.old.items ++
         spec.repository_line (logs_by before.now) (logs_by after.now) (repository number)) }
-    ensures open { OnOk result (open.new.items ≡ open.old.items ++ open_in (logs_by after.now (repository number))) }
+    ensures undecided { OnOk result (undecided.new.items ≡ undecided.old.items ++ open_in (logs_by after.now (repository number))) }
 {
     let node = NodeId::repository(number);
-    let tally = tally_of(alloc, log_of(before, node), log_of(after, node), open)?;
+    let tally = tally_of(alloc, log_of(before, node), log_of(after, node), undecided)?;
     push_tally(alloc, out, number, tally)
 }
 
@@ -68,18 +63,18 @@ fn push_repository(
 pub fn push_repositories(
     alloc: Global,
     out: &mut Vec<u8>,
-    open: &mut Vec<HeldVersion>,
+    undecided: &mut Vec<HeldVersion>,
     repositories: u8,
     before: &[Opened],
     after: &[Opened],
 ) -> Result<(), AllocError>
     ensures out { OnOk result (out.new.items ≡ out.old.items ++
         flat_map (spec.repository_line (logs_by before.now) (logs_by after.now)) (nodes_to repository repositories)) }
-    ensures open { OnOk result (open.new.items ≡ open.old.items ++
+    ensures undecided { OnOk result (undecided.new.items ≡ undecided.old.items ++
         flat_map (λ (n : NodeId). open_in (logs_by after.now n)) (nodes_to repository repositories)) }
 {
     for below in 0..repositories {
-        push_repository(alloc, out, open, below + 1, before, after)?;
+        push_repository(alloc, out, undecided, below + 1, before, after)?;
     }
     Ok(())
 }
@@ -89,11 +84,11 @@ fn push_why(
     alloc: Global,
     out: &mut Vec<u8>,
     home: u8,
-    record: Option<RecordState>,
+    state: Option<RecordState>,
 ) -> Result<(), AllocError>
-    ensures { OnOk result (out.new.items ≡ out.old.items ++ spec.why_text home record) }
+    ensures { OnOk result (out.new.items ≡ out.old.items ++ spec.why_text home state) }
 {
-    match record {
+    match state {
         Some(RecordState::Unknown { deadline }) => push_named(alloc, out, b" deadline ", deadline),
         Some(RecordState::Decided(_)) => push_named(alloc, out, b" home ", home as u64),
         None => push_named(alloc, out, b" home ", home as u64),
@@ -105,15 +100,15 @@ fn push_version(
     alloc: Global,
     out: &mut Vec<u8>,
     version: HeldVersion,
-    record: Option<RecordState>,
+    state: Option<RecordState>,
 ) -> Result<(), AllocError>
-    ensures { OnOk result (out.new.items ≡ out.old.items ++ spec.version_line version record) }
+    ensures { OnOk result (out.new.items ≡ out.old.items ++ spec.version_line version state) }
 {
     out.extend_from_slice(b"open ")?;
     push_object(alloc, out, version.object)?;
     out.push(b' ')?;
     push_time(alloc, out, version.start)?;
-    push_why(alloc, out, version.start.stamp().home(), record)?;
+    push_why(alloc, out, version.start.stamp().home(), state)?;
     out.push(b'\n')?;
     Ok(())
 }
@@ -123,14 +118,14 @@ pub fn push_open(
     alloc: Global,
     out: &mut Vec<u8>,
     ledgers: &[Records],
-    open: &[HeldVersion],
+    undecided: &[HeldVersion],
 ) -> Result<(), AllocError>
     ensures { (repositories : ℕ) (logs : NodeId → List Effect) → AreLedgers repositories logs ledgers.now →
-        OnOk result (out.new.items ≡ out.old.items ++ flat_map (spec.open_line repositories logs) open.now) }
+        OnOk result (out.new.items ≡ out.old.items ++ flat_map (spec.open_line repositories logs) undecided.now) }
 {
-    for version in open {
-        let record = record_at(ledgers, version.start.stamp());
-        push_version(alloc, out, *version, record)?;
+    for version in undecided {
+        let state = record_at(ledgers, version.start.stamp());
+        push_version(alloc, out, *version, state)?;
     }
     Ok(())
 }

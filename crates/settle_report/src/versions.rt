@@ -20,10 +20,13 @@ fn add_version(list: &mut Vec<HeldVersion>, effect: &Effect) -> Result<(), Alloc
     ensures { OnOk result (list.new.items ≡ list.old.items ++ spec.version_in effect.now) }
 {
     match effect {
-        Effect::Put { object, start, .. } => list.push(HeldVersion {
-            object: *object,
-            start: *start,
-        }),
+        Effect::Put { object, start, .. } => {
+            list.push(HeldVersion {
+                object: *object,
+                start: *start,
+            })?;
+            Ok(())
+        }
         _ => Ok(()),
     }
 }

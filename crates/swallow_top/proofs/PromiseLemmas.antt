@@ -5,7 +5,7 @@ use Rattle.std.specs.Option.{unwrap_or}
 use Rattle.plan_form.specs.Making.{made_plan}
 use Rattle.plan_form.proofs.PlanTextLemmas.{plan_can_run}
 use Rattle.command_words.specs.declared.commands.Command.{Command}
-use Rattle.command_words.specs.declared.commands.Command.TheVariants.{Run, Load, History, Retire, Votes, Watch, AsOf, Audit, Snapshot}
+use Rattle.command_words.specs.declared.commands.Command.TheVariants.{Run, Load, History, Retire, Votes, Watch, AsOf, Audit, Snapshot, Settle}
 use Rattle.command_words.specs.declared.options.Given.{Given}
 use Rattle.run_command.specs.declared.reports.Wanted.TheVariants.{Report, Summary}
 use Rattle.run_command.specs.declared.stops.Stop.TheVariants as stop
@@ -13,6 +13,11 @@ use Rattle.swallow_top.specs.Asked.{TellsAsked}
 use Rattle.swallow_top.specs.Promise.{Call, HasNoWords, TouchedNothing, IsUnread, Promise, WasDone}
 use Rattle.retire_command.specs.declared.outcomes.Retired.TheVariants.{Done, Refused, Fallen, NoMemory}
 use Rattle.archive_promise.specs.Question.TheVariants as question
+use Rattle.std.specs.List.{list_any}
+use Rattle.settle_command.specs.Contract.{SettlesAll}
+use Rattle.settle_command.specs.Plans.{settle_plan}
+use Rattle.settle_report.specs.Texts.{open_count, settle_status}
+use Rattle.world_core.specs.Walks.{is_down}
 use Rattle.votes_command.specs.VoteEnd.TheVariants as voted
 use Rattle.votes_command.specs.Statuses.{all_held}
 use Rattle.swallow_top.proofs.VoteLemmas.{votes-kept}
@@ -199,6 +204,22 @@ module _ {M : Type 0} (c : Call M) where
     votes = inl votes;
   }
 
+  settles-most : (repositories : ℕ) → SettlesAll c.media_are c.shelf_before c.shelf c.media repositories c.told c.sink c.status → c.status ≤ 8
+  settles-most repositories (inl h) = let e = h.0 in omega (arith, e)
+  settles-most repositories (inr (over, inl e)) = omega (arith, e)
+  settles-most repositories (inr (over, inr (text, is, ends))) =
+      let plan = settle_plan repositories in
+      ends-most c.status c.sink (settle_status plan c.told.trace) text
+      (if-most (list_any is_down c.told.trace.entries) 6 (if open_count plan c.told.trace == 0 then 0 else 5) 8 (omega arith) (if-most (open_count plan c.told.trace == 0) 0 5 8 (omega arith) (omega arith))) ends
+
+  pub promise-settle : (repositories : ℕ) → IsUnread c → AreWords (Settle repositories) c.words → SettlesAll c.media_are c.shelf_before c.shelf c.media repositories c.told c.sink c.status → AllKept c.shelf_before c.shelf c.media → c.votes ≡ no_trace → Promise c
+  promise-settle repositories unread words settles kept votes = record {
+    done = inr (inr (Settle repositories, words, (unread, settles)));
+    kept = kept;
+    statuses = settles-most repositories settles;
+    votes = inl votes;
+  }
+
   -- a command that asks media alone
   pub promise-asked : (command : Command) → IsUnread c → AreWords command c.words → AskedNothing c.media_are c.shelf_before c.shelf c.media c.status ⊎ TellsAsked c.media_are c.shelf_before c.shelf command c.media c.sink c.status → HasNoRun c.told → c.votes ≡ no_trace → Promise c
   promise-asked (History object) unread words tells none votes = promise-history object unread words tells none votes
@@ -213,6 +234,8 @@ module _ {M : Type 0} (c : Call M) where
   promise-asked (Load seed count o) unread words (inr tells) none votes = absurd tells
   promise-asked (Votes o) unread words (inl nothing) none votes = promise-unasked nothing none votes
   promise-asked (Votes o) unread words (inr tells) none votes = absurd tells
+  promise-asked (Settle repositories) unread words (inl nothing) none votes = promise-unasked nothing none votes
+  promise-asked (Settle repositories) unread words (inr tells) none votes = absurd tells
 
   -- votes that refused what they read, or had no memory
   refused-votes : (o : Options) (s : Stop) → AreWords (Votes o) c.words → ReadsPolls c.input c.left c.faults_before c.faults (Err s) → RefusedAs s c.status c.sink

@@ -1,7 +1,7 @@
 -- What the commands that ask media alone tell.
 use Rattle.std.specs.Prelude.{ℕ, List}
 use Rattle.command_words.specs.declared.commands.Command.{Command}
-use Rattle.command_words.specs.declared.commands.Command.TheVariants.{Run, Load, History, Retire, Votes, Watch, AsOf, Audit, Snapshot}
+use Rattle.command_words.specs.declared.commands.Command.TheVariants.{Run, Load, History, Retire, Votes, Watch, AsOf, Audit, Snapshot, Settle}
 use Rattle.plan_volumes.specs.KeptMedium.{Kept}
 use Rattle.plan_volumes.specs.Media.{Media}
 use Rattle.plan_volumes.specs.Shelves.{ShelfSight}
@@ -22,3 +22,4 @@ TellsAsked w old new (Snapshot clock) kept s status = TellsSnapshot w old new cl
 TellsAsked w old new (Run o) kept s status = ⊥
 TellsAsked w old new (Load seed count o) kept s status = ⊥
 TellsAsked w old new (Votes o) kept s status = ⊥
+TellsAsked w old new (Settle repositories) kept s status = ⊥

@@ -7,7 +7,7 @@ use Rattle.plan_form.specs.Plans.{IsPlan}
 use Rattle.plan_form.specs.Making.{made_plan}
 use Rattle.command_words.specs.declared.commands.Options.{Options}
 use Rattle.command_words.specs.declared.commands.Command.{Command}
-use Rattle.command_words.specs.declared.commands.Command.TheVariants.{Run, Load, History, Retire, Votes, Watch, AsOf, Audit, Snapshot}
+use Rattle.command_words.specs.declared.commands.Command.TheVariants.{Run, Load, History, Retire, Votes, Watch, AsOf, Audit, Snapshot, Settle}
 use Rattle.command_words.specs.Words.{AreWords, AreNone}
 use Rattle.plan_volumes.specs.Media.{Media}
 use Rattle.run_rounds.specs.Runs.{Account}
@@ -25,6 +25,7 @@ use Rattle.swallow_top.specs.Outcomes.{TellsAnswer, TellsSnapshot, TellsWatch}
 use Rattle.swallow_top.specs.Retirements.{TellsRetirement, mark_at}
 use Rattle.swallow_top.specs.Votes.{AreNoPolls, HavePolled}
 use Rattle.run_command.specs.Written.{Sinking, GotLine}
+use Rattle.settle_command.specs.Contract.{SettlesAll}
 use Rattle.votes_command.specs.Inputs.{IsInput}
 use Rattle.votes_command.specs.PollLine.{PollLine}
 use Rattle.world_core.specs.declared.traces.Trace.{Trace}
@@ -95,6 +96,7 @@ module _ {M : Type 0} (c : Call M) where
   WasDone (AsOf repository clock) = IsUnread × TellsAnswer c.media_are c.shelf_before c.shelf (question.AsOf repository (mark_at clock)) c.media c.sink c.status × HasNoRun c.told
   WasDone (Audit object) = IsUnread × TellsAnswer c.media_are c.shelf_before c.shelf (question.Audit object) c.media c.sink c.status × HasNoRun c.told
   WasDone (Snapshot clock) = IsUnread × TellsSnapshot c.media_are c.shelf_before c.shelf clock c.media c.sink c.status × HasNoRun c.told
+  WasDone (Settle repositories) = IsUnread × SettlesAll c.media_are c.shelf_before c.shelf c.media repositories c.told c.sink c.status
 
   -- but for votes nobody votes
   abbrev pub VotesAlone : Type 0

@@ -19,6 +19,7 @@ use medium_port::{Medium, Shelf};
 use plan_form::make;
 use plan_volumes::Kept;
 use run_command::{Finish, Stop, Wanted, fault_line, quiet, run_plan, write_all};
+use settle_command::settle;
 use std::alloc::Global;
 use std::sync::Wait;
 use std::thread::Threads;
@@ -81,7 +82,10 @@ fn tell_asked<O: Sink, S: Shelf>(
         Command::AsOf { repository, clock } => tell_map(alloc, repository, clock, sink, shelf),
         Command::Audit(object) => tell_audit(alloc, object, sink, shelf),
         Command::Snapshot { clock } => tell_snapshot(alloc, clock, sink, shelf),
-        Command::Run(_) | Command::Load { .. } | Command::Votes(_) => (7, Vec::new(alloc)),
+        Command::Run(_) | Command::Load { .. } | Command::Votes(_) | Command::Settle { .. } => (
+            7,
+            Vec::new(alloc),
+        ),
     }
 }
 
@@ -100,7 +104,10 @@ fn tell_asked<O: Sink, S: Shelf>(
 /// - `asof` writes the map of a repository's objects as of a mark, by its complete volumes together;
 /// - `audit` writes all versions of an object that they have, and which volume has each;
 /// - `snapshot` writes the map of all repositories as of a mark, by the complete volumes of all of them: what
-///   one doesn't know of an attempt is what the attempt's home knows.
+///   one doesn't know of an attempt is what the attempt's home knows;
+/// - `settle` opens repositories and no broker, lets expire what is due by the clock, lets each repository
+///   learn what the homes of its versions decided, and writes how many versions that settled, and which are
+///   open.
 ///
 /// The status in the answer is the one with which a program ends:
 ///
@@ -112,8 +119,8 @@ fn tell_asked<O: Sink, S: Shelf>(
 ///   `swallow: old run N` or `swallow: other plan act I` was;
 /// - 3: the source failed, and `swallow: source` was written;
 /// - 4: the sink failed while a report, a summary, a history, totals, a map, an audit, the line of a
-///   retirement or that of a node that is down was written;
-/// - 5: no node is down, and an act has no outcome, or a poll holds no decision;
+///   retirement, what a settle came to or the line of a node that is down was written;
+/// - 5: no node is down, and an act has no outcome, a poll holds no decision, or a settle left a version open;
 /// - 6: a node is down, and the text says why;
 /// - 7: memory runs out;
 /// - 8: the repository may not be retired at the mark, and nothing was written to its media:
@@ -206,6 +213,9 @@ where
                 quiet(alloc, status, Vec::new(alloc), fates, clock)
             }
         },
+        Some(Command::Settle { repositories }) => {
+            settle(rt, alloc, repositories, sink, shelf, fates, clock)
+        }
         Some(command) => {
             let (status, media) = tell_asked(alloc, command, sink, shelf);
             quiet(alloc, status, media, fates, clock)

@@ -1,7 +1,7 @@
 use Rattle.swallow_top.proofs.Names.{Every, CanRun, AreWords, IsPoll, RefusedAs, AskedNothing, shelf_sight, sinking, ◌⊎◌, ◌∙◌, ◌≤◌, ap, length, refl, sym, subst, said}
 use Rattle.plan_form.proofs.MadeLemmas.{made_is_whole}
 use Rattle.command_words.proofs.WordLemmas.{few-ticks}
-use Rattle.swallow_top.proofs.PromiseLemmas.{language-of, polls-of, promise-asked, promise-load, promise-no-polls, promise-refused, promise-run, promise-votes, quiet-call, some-workers}
+use Rattle.swallow_top.proofs.PromiseLemmas.{language-of, polls-of, promise-asked, promise-load, promise-no-polls, promise-refused, promise-run, promise-settle, promise-votes, quiet-call, some-workers}
 use Rattle.swallow_top.specs.Asked.{TellsAsked}
 use Rattle.swallow_top.proofs.top.swallow.Goals as goal
 
@@ -81,3 +81,14 @@ returns-in-Some g c =
       promise = promise-asked _ command (refl, refl) c.in-Some.ensures.words tells
           (record { trace = q.trace; fates = ap g.F.Fates.asked q.told.0; clock = ap g.C.Clock.answers q.told.1 }) q.votes;
     }
+
+pub settle-requires-clause-low : goal.settle-requires-clause-low
+settle-requires-clause-low g c κs within = (subst (λ x. AreWords x (said c.args.words.now)) c.in-Some-Settle.field-0-is c.in-Some-Settle.ensures.words).number_is.low
+
+pub settle-requires-clause-high : goal.settle-requires-clause-high
+settle-requires-clause-high g c κs within = (subst (λ x. AreWords x (said c.args.words.now)) c.in-Some-Settle.field-0-is c.in-Some-Settle.ensures.words).number_is.high
+
+pub returns-in-Some-Settle : goal.returns-in-Some-Settle
+returns-in-Some-Settle g c = record {
+  promise = promise-settle _ c.in-Some-Settle.repositories (refl, refl) (subst (λ x. AreWords x (said c.args.words.now)) c.in-Some-Settle.field-0-is c.in-Some-Settle.ensures.words) c.settle.ensures.settled c.settle.ensures.kept c.settle.ensures.votes;
+}
