@@ -1,5 +1,7 @@
 -- A Tick, and nodes that met the conductor, had turns, and met it again.
-use Rattle.node_rounds.proofs.Names.{◌≡◌, ℕ, [], ◌∷◌, ap, sym, Added, Sight, SeesMore, Tick, tick_count, List, All, AllZip, Media, View, Founding, LockTable, Entry, WireParts, NodeParts, GoesOn, IsKeptThrough, HadTurn, HasMet, HasPass, IsReady, IsUp, sight, ◌∙◌}
+use Rattle.node_rounds.proofs.Names.{◌≡◌, ℕ, Bool, true, false, [], ◌∷◌, ap, sym, Added, Looked, Sight, SeesMore, Tick, tick_count, List, All, AllZip, Media, View, Founding, LockTable, Entry, WireParts, NodeParts, GoesOn, IsKeptThrough, HadTurn, HasMet, HasPass, IsReady, IsUp, sight, ◌∙◌}
+use Rattle.std.specs.Prelude.{MatchBool}
+use Rattle.node_rounds.proofs.TickLemmas.{sees-joins, sees-looked}
 use Rattle.node_rounds.proofs.PairLemmas.{all-both, all-through, zip-through, zip-with}
 use Rattle.node_rounds.proofs.RoundLemmas.{begins-joins, goes-joins, goes-met, goes-same, kept-joins, kept-met, kept-same, mets-join}
 use Rattle.node_rounds.proofs.TurnedLemmas.{went-turned, kept-turned}
@@ -46,3 +48,8 @@ module _ {M Q A : Type 0} (lock : LockTable WireParts (View WireParts Entry) (Fo
   -- two meetings, one after the other
   pub met-twice : (old mid new : List (NodeParts M)) → All (IsReady lock) old → AllZip HasMet old mid → AllZip HasMet mid new → AllZip HasMet old new
   met-twice old mid new ready a b = mets-join lock old mid new (passes-of old ready) a b
+
+-- the conductor looked, made a Tick or none, and looked again
+pub made-through : (made : Bool) (a b c d e : Sight) → Looked a b → MatchBool made (SeesMore 1 b c) (SeesMore 0 b c) → Looked c d → Looked d e → MatchBool made (SeesMore 1 a e) (SeesMore 0 a e)
+made-through true a b c d e p h q r = sees-joins 0 1 a b e (sees-looked a b p) (sees-joins 1 0 b c e h (sees-joins 0 0 c d e (sees-looked c d q) (sees-looked d e r)))
+made-through false a b c d e p h q r = sees-joins 0 0 a b e (sees-looked a b p) (sees-joins 0 0 b c e h (sees-joins 0 0 c d e (sees-looked c d q) (sees-looked d e r)))

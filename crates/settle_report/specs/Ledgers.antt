@@ -1,6 +1,10 @@
 -- The commit records of repositories, in their order.
-use Rattle.std.specs.Prelude.{◌≡◌, ◌<◌, ℕ, suc, List, reverse, length, Option, Some, slice_get}
+use Rattle.std.specs.Prelude.{◌≡◌, ◌<◌, ℕ, suc, List, reverse, length, Option, Some, None, slice_get}
+use Rattle.commit_record.specs.declared.states.RecordState.{RecordState}
+use Rattle.message_core.specs.Tallies.{numbered}
+use Rattle.pseudo_time.specs.StampParts.{StampParts}
 use Rattle.pseudo_time.specs.declared.nodes.NodeId.{NodeId}
+use Rattle.std.specs.FinMap as finite
 use Rattle.pseudo_time.specs.Nodes.{repository}
 use Rattle.effect_form.specs.declared.effects.Effect.{Effect}
 use Rattle.repository_log.specs.Opening.{AreRecords}
@@ -10,3 +14,12 @@ use Rattle.commit_record.specs.States.{States}
 pub record AreLedgers (repositories : ℕ) (logs : NodeId → List Effect) (ledgers : List States) : Type 0 where
   pub count : length ledgers ≡ repositories
   pub each : (i : ℕ) (s : States) → slice_get ledgers i ≡ Some s → AreRecords (reverse (logs (repository (suc i)))) s
+
+-- what one of them says of an attempt
+abbrev pub record_by : Option States → StampParts → Option RecordState
+record_by None s = None
+record_by (Some records) s = finite.get records s
+
+-- and the one of the attempt's home, counted from 1
+abbrev pub record_in : List States → StampParts → Option RecordState
+record_in ledgers s = record_by (numbered ledgers s.home) s

@@ -20,10 +20,11 @@ use Rattle.world_core.specs.Readings.{gated_log}
 use Rattle.world_core.specs.Walks.{is_down, opened_log}
 use Rattle.world_core.specs.declared.traces.Trace.{Trace}
 use Rattle.std.specs.List.{list_any}
-use Rattle.settle_report.specs.Versions.{open_in, tally_of}
+use Rattle.commit_record.specs.States.{States}
+use Rattle.settle_report.specs.Ledgers.{record_in}
+use Rattle.settle_report.specs.Versions.{open_in, tally_of, version_cmp}
 use Rattle.settle_report.specs.declared.tallies.Tally.{Tally}
 use Rattle.settle_report.specs.declared.versions.HeldVersion.{HeldVersion}
-use Rattle.settle_report.specs.contracts.versions.HeldVersion as held
 
 -- ---- logs
 
@@ -62,6 +63,10 @@ version_line v record_there = codes "open " ++ (object_text v.object ++ (32 ∷ 
 abbrev pub open_line : ℕ → (NodeId → List Effect) → HeldVersion → List ℕ
 open_line repositories logs v = version_line v (home_record repositories logs v.start.stamp)
 
+-- by the records of the repositories, in their order
+abbrev pub line_by : List States → HeldVersion → List ℕ
+line_by ledgers v = version_line v (record_in ledgers v.start.stamp)
+
 -- ---- the text
 
 abbrev pub repositories_of : Plan → List NodeId
@@ -75,7 +80,7 @@ all_open plan logs = flat_map (λ n. open_in (logs n)) (repositories_of plan)
 pub record IsSettleText (plan : Plan) (before after : NodeId → List Effect) (t : Trace) (text : List ℕ) : Type 0 where
   pub listed : List HeldVersion
   pub same : IsPermutation (all_open plan after) listed
-  pub sorted : IsSorted held.cmp listed
+  pub sorted : IsSorted version_cmp listed
   pub is : text ≡ head_line plan.repositories ++ (flat_map (repository_line before after) (repositories_of plan)
       ++ (flat_map (open_line plan.repositories after) listed ++ flat_map down_text (downs_shown plan t)))
 

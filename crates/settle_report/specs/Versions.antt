@@ -3,7 +3,13 @@ use Rattle.std.specs.Prelude.{◌≡◌, ℕ, Bool, true, false, ◌&&◌, ◌==
 use Rattle.std.specs.List.{filter, flat_map}
 use Rattle.effect_form.specs.declared.effects.Effect.{Effect}
 use Rattle.effect_form.specs.declared.effects.Effect.TheVariants as effect
+use Rattle.forward_copy.specs.Settled.{Settled}
+use Rattle.pseudo_time.specs.TimeParts.{time_cmp}
 use Rattle.repository_log.specs.Logs.{known}
+use Rattle.std.specs.FinMap as finite
+use Rattle.std.specs.Ordering.{ordering_then}
+use Rattle.std.specs.declared.cmp.Ordering.{Ordering}
+use Rattle.value_form.specs.Objects.{object_cmp}
 use Rattle.settle_report.specs.declared.versions.HeldVersion.{HeldVersion}
 use Rattle.settle_report.specs.declared.tallies.Tally.{Tally}
 
@@ -27,6 +33,18 @@ becomes committed (Some b) now = false
 -- the version was settled so between the logs
 abbrev pub is_settled_as : Bool → (before after : List Effect) → HeldVersion → Bool
 is_settled_as committed before after v = becomes committed (fate_in before v) (fate_in after v)
+
+-- and by how two maps of decisions know them
+abbrev pub is_settled_between : Bool → (was is : Settled) → HeldVersion → Bool
+is_settled_between committed was is v = becomes committed (finite.get was v.start.stamp) (finite.get is v.start.stamp)
+
+-- a map of decisions doesn't know the version's attempt
+abbrev pub is_open_by : Settled → HeldVersion → Bool
+is_open_by is v = is_none (finite.get is v.start.stamp)
+
+-- versions are in the order of their objects, then of their starts
+abbrev pub version_cmp : HeldVersion → HeldVersion → Ordering
+version_cmp a b = ordering_then (object_cmp a.object b.object) (time_cmp a.start b.start)
 
 -- the versions that a log leaves open
 abbrev pub open_in : List Effect → List HeldVersion

@@ -1,10 +1,7 @@
 //! The commit records of repositories.
-ghost use Rattle.std.specs.Prelude.{◌≡◌, ◌<◌, ◌+◌, ◌≤◌, ℕ, List, IfOk, Some, length, reverse, slice_get};
-ghost use Rattle.effect_form.specs.declared.effects.Effect.{Effect};
-ghost use Rattle.pseudo_time.specs.declared.nodes.NodeId.{NodeId};
+ghost use Rattle.std.specs.Prelude.{◌≡◌, IfOk};
 ghost use Rattle.trace_report.specs.Reports.{logs_by};
-ghost use Rattle.settle_report.specs.Ledgers.{AreLedgers};
-ghost use Rattle.settle_report.specs.Texts.{home_record};
+ghost use Rattle.settle_report.specs.Ledgers.{AreLedgers, record_in};
 
 use commit_record::{RecordState, Records};
 use pseudo_time::{NodeId, Stamp};
@@ -32,8 +29,7 @@ pub fn ledgers_of(
 
 /// The record of an attempt at its home. None if the home isn't one of the repositories, or has none.
 pub fn record_at(ledgers: &[Records], stamp: Stamp) -> Option<RecordState>
-    ensures { (repositories : ℕ) (logs : NodeId → List Effect) → AreLedgers repositories logs ledgers.now →
-        result ≡ home_record repositories logs stamp }
+    ensures { result ≡ record_in ledgers.now stamp }
 {
     let place = stamp.home().checked_sub(1)?;
     let records = ledgers.get(place as usize)?;

@@ -1,7 +1,6 @@
 //! What became of the versions of a repository between two of its logs.
-ghost use Rattle.std.specs.Prelude.{◌≡◌, ◌++◌, true, false, Bool, IfOk, OnOk, reverse, is_none, length};
+ghost use Rattle.std.specs.Prelude.{◌≡◌, ◌++◌, IfOk, OnOk, length};
 ghost use Rattle.std.specs.List.{filter};
-ghost use Rattle.forward_copy.specs.Settled.{AreKnown};
 ghost use Rattle.settle_report.specs.Versions as spec;
 
 use crate::versions::{HeldVersion, versions_of};
@@ -33,8 +32,7 @@ fn becomes(committed: bool, before: Option<bool>, now: Option<bool>) -> bool
 
 // How many of these versions were settled so between two logs.
 fn settled_count(committed: bool, was: &Settles, is: &Settles, versions: &[HeldVersion]) -> u64
-    ensures { (before after : _) → AreKnown (reverse before) was.now → AreKnown (reverse after) is.now →
-        result ≡ length (filter (spec.is_settled_as committed before after) versions.now) }
+    ensures { result ≡ length (filter (spec.is_settled_between committed was.now is.now) versions.now) }
 {
     let mut count = 0;
     for version in versions {
@@ -52,8 +50,7 @@ fn add_open(
     versions: &[HeldVersion],
     undecided: &mut Vec<HeldVersion>,
 ) -> Result<(), AllocError>
-    ensures { (after : _) → AreKnown (reverse after) is.now →
-        OnOk result (undecided.new.items ≡ undecided.old.items ++ filter (λ v. is_none (spec.fate_in after v)) versions.now) }
+    ensures { OnOk result (undecided.new.items ≡ undecided.old.items ++ filter (spec.is_open_by is.now) versions.now) }
 {
     for version in versions {
         if is.get(version.start.stamp()).is_none() {

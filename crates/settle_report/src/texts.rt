@@ -1,11 +1,9 @@
 //! The lines of the report.
-ghost use Rattle.std.specs.Prelude.{◌≡◌, ◌++◌, ℕ, List, OnOk};
+ghost use Rattle.std.specs.Prelude.{◌≡◌, ◌++◌, OnOk};
 ghost use Rattle.std.specs.List.{flat_map};
 ghost use Rattle.pseudo_time.specs.Nodes.{repository};
 ghost use Rattle.pseudo_time.specs.declared.nodes.NodeId.{NodeId};
-ghost use Rattle.effect_form.specs.declared.effects.Effect.{Effect};
 ghost use Rattle.trace_report.specs.Reports.{logs_by, nodes_to};
-ghost use Rattle.settle_report.specs.Ledgers.{AreLedgers};
 ghost use Rattle.settle_report.specs.Versions.{open_in};
 ghost use Rattle.settle_report.specs.Texts as spec;
 
@@ -120,8 +118,7 @@ pub fn push_open(
     ledgers: &[Records],
     undecided: &[HeldVersion],
 ) -> Result<(), AllocError>
-    ensures { (repositories : ℕ) (logs : NodeId → List Effect) → AreLedgers repositories logs ledgers.now →
-        OnOk result (out.new.items ≡ out.old.items ++ flat_map (spec.open_line repositories logs) undecided.now) }
+    ensures { OnOk result (out.new.items ≡ out.old.items ++ flat_map (spec.line_by ledgers.now) undecided.now) }
 {
     for version in undecided {
         let state = record_at(ledgers, version.start.stamp());
