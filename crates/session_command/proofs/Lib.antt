@@ -1,1 +1,1 @@
-pub mod InputLemmas
+pub mod BatchLemmas

@@ -13,7 +13,7 @@ use Rattle.plan_volumes.specs.Shelves.{ShelfSight}
 use Rattle.plan_volumes.specs.Volumes.{HasVolumes, NodeVolumes, work_taken}
 use Rattle.run_rounds.specs.Runs.{Account}
 use Rattle.run_command.specs.Contract.{HasNoRun, RunsOver}
-use Rattle.run_command.specs.Written.{Sinking, Ends}
+use Rattle.run_command.specs.Written.{Sinking, EndsIfAny}
 use Rattle.run_command.specs.declared.reports.Wanted.TheVariants.{Report}
 use Rattle.session_command.specs.Lines.{full_line}
 
@@ -27,13 +27,13 @@ module _ {M : Type 0} {w : Media M} where
   reached openings = reached_from (record { run = 0; clock = 0 }) openings
 
 module _ {M : Type 0} (w : Media M) (old new : ShelfSight) (kept : List (Kept M)) (draft : Plan) where
-  -- No run or no clock is left above the logs, and the sink got the line that says so. No run began, and the volumes are handed back as they were.
+  -- No run or no clock is left above the logs, and the sink got the line that says so, unless memory ran out for it. No run began, and the volumes are handed back as they were.
   pub record FindsNoRoom (volumes : List (NodeVolumes w)) (told : Account) (s : Sinking) (status : ℕ) : Type 0 where
     pub left : List (Option M)
     pub has : HasVolumes w old new draft volumes left kept
     pub untouched : AllZip (IsLeftAlone w) (map work_taken volumes) left
     pub no_run : HasNoRun told
-    pub line : Ends status s 2 full_line
+    pub line : EndsIfAny status s 2 full_line
 
   -- The volumes were opened as these. Over them the plan of the batch, with its run and its clocks above their logs, was run, as `run` runs it; unless there is no room above.
   pub record RunsAbove (o : Options) (told : Account) (s : Sinking) (status : ℕ) : Type 0 where

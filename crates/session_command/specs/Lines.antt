@@ -11,9 +11,5 @@ line_with line words = codes "swallow: session line " ++ (decimal line ++ 32 ∷
 abbrev pub fault_line : ℕ → PlanKind → List ℕ
 fault_line line what = line_with line (kind_text what)
 
--- the line at which the input ended in a batch without a `go`
-abbrev pub cut_line : ℕ → List ℕ
-cut_line line = line_with line (codes "go")
-
 abbrev pub full_line : List ℕ
 full_line = codes "swallow: nothing is left above" ++ 10 ∷ []

@@ -3,13 +3,13 @@ ghost use Rattle.std.specs.Prelude.{◌≤◌};
 ghost use Rattle.plan_form.specs.PlanTexts.{CanRun};
 ghost use Rattle.run_command.specs.Written.{EndsIfAny, sinking};
 ghost use Rattle.session_form.specs.Sessions.{line_of};
-ghost use Rattle.session_command.specs.Chains.{Judged, RanAbove};
+ghost use Rattle.session_command.specs.Judged.{Judged, RanAbove};
 ghost use Rattle.session_command.specs.Lines.{fault_line};
 ghost use Rattle.session_command.specs.Standings.{standing};
 
 use crate::batches::run_above;
 use crate::lines::line_with;
-use crate::putting::put_all_back;
+use crate::putting::put_back_after;
 use command_words::Options;
 use held_shelf::HoldingShelf;
 use medium_port::{Medium, Shelf};
@@ -65,11 +65,7 @@ where
         clock,
         votes: _,
     } = run_above(rt, alloc, plan, options, sink, shelf, fates, clock);
-    let status = if put_all_back(shelf, media.into_vec()) {
-        status
-    } else {
-        7
-    };
+    let status = put_back_after(shelf, media.into_vec(), status);
     Answer {
         status,
         fates,

@@ -1,16 +1,12 @@
-//! A session: batches of acts are run one after another over media that are held open.
+//! A batch of a session: its plan is run above all that the logs of its nodes have, over media that are
+//! held open.
 #![tactic(auto)]
 
 mod answers;
 mod batches;
 mod heights;
-mod inputs;
-mod line_readers;
 mod lines;
 mod putting;
-mod sessions;
-mod turns;
-mod words;
 
-pub use answers::Answer;
-pub use sessions::session;
+pub use answers::{Answer, answer};
+pub use batches::run_above;
