@@ -1,11 +1,9 @@
 -- Pieces of a text, and what is listed with them.
-use Rattle.std.proofs.Common.{◌≡◌, ◌<◌, ◌+◌, ◌≤◌, ◌-◌, ℕ, zero, suc, Bool, true, false, ◌&&◌, nat_le, nat_lt, List, [], ◌∷◌, ◌++◌, length, reverse, refl, sym, ap, subst, ◌∙◌, Option, Some, None, slice_get, append_assoc, arith, if◌then◌else◌}
+use Rattle.std.proofs.Common.{◌≡◌, ◌<◌, ◌+◌, ◌≤◌, ℕ, zero, suc, Bool, true, false, ◌&&◌, nat_le, nat_lt, List, [], ◌∷◌, ◌++◌, length, reverse, refl, sym, ap, subst, ◌∙◌, Some, None, slice_get, append_assoc, arith, if◌then◌else◌}
 use Rattle.std.proofs.lemmas.Bool.Decides.{nat_tests}
 use Rattle.std.proofs.lemmas.List.{length-append}
-use Rattle.std.specs.FinMap as finite
-use Rattle.std.specs.List.{AllZip, filter, flat_map}
+use Rattle.std.specs.List.{AllZip, flat_map}
 use Rattle.commit_record.specs.States.{States}
-use Rattle.commit_record.specs.declared.states.RecordState.{RecordState}
 use Rattle.effect_form.specs.declared.effects.Effect.{Effect}
 use Rattle.message_core.specs.Tallies.{numbered}
 use Rattle.pseudo_time.specs.Nodes.{repository}
@@ -16,7 +14,6 @@ use Rattle.repository_log.specs.Opening.{AreRecords}
 use Rattle.settle_report.specs.Ledgers.{AreLedgers, record_by, record_in}
 use Rattle.settle_report.specs.Texts.{home_record}
 use Rattle.trace_report.specs.Reports.{nodes_to}
-use Rattle.world_core.specs.Legal.{is_within}
 
 pub two_pieces : (old one two a b : List ℕ) → one ≡ old ++ a → two ≡ one ++ b → two ≡ old ++ (a ++ b)
 two_pieces old one two a b p q = q ∙ (ap (λ z. z ++ b) p ∙ append_assoc old a b)

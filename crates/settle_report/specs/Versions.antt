@@ -1,5 +1,5 @@
 -- The versions of a repository's log, and what became of each between two logs of it. Logs are lists with the oldest effect first.
-use Rattle.std.specs.Prelude.{◌≡◌, ℕ, Bool, true, false, ◌&&◌, ◌==◌, List, [], ◌∷◌, reverse, length, Option, Some, None, is_none, if◌then◌else◌}
+use Rattle.std.specs.Prelude.{Bool, true, false, List, [], ◌∷◌, reverse, length, Option, Some, None, is_none, if◌then◌else◌}
 use Rattle.std.specs.List.{filter, flat_map}
 use Rattle.effect_form.specs.declared.effects.Effect.{Effect}
 use Rattle.effect_form.specs.declared.effects.Effect.TheVariants as effect

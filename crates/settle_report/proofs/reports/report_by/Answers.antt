@@ -1,11 +1,11 @@
-use Rattle.std.proofs.Common.{◌++◌, ◌∙◌, ap, sym, subst}
+use Rattle.std.proofs.Common.{◌++◌, ◌∙◌, ap, subst}
 use Rattle.std.specs.List.{flat_map}
 use Rattle.std.specs.List.Sorted.{IsPermutation}
 use Rattle.report_writer.proofs.PieceLemmas.{four_pieces}
 use Rattle.report_writer.specs.Reports.{down_text}
 use Rattle.trace_report.specs.Reports.{logs_by}
 use Rattle.settle_report.proofs.PieceLemmas.{from-nothing, record-home}
-use Rattle.settle_report.specs.Texts.{all_open, line_by, open_line, repositories_of, repository_line, version_line}
+use Rattle.settle_report.specs.Texts.{all_open, line_by, repositories_of, repository_line, version_line}
 use Rattle.settle_report.proofs.reports.report_by.Goals as goal
 
 pub returns-clause-text : goal.returns-clause-text
