@@ -1,11 +1,11 @@
 -- How the nodes of shares have gone, told of them in one list.
 use Rattle.run_rounds.proofs.Names.{View, Founding, LockTable, Entry, WireParts, IsWirePass, Sight, base_at, tick_count, NodeParts, Limits, Reason, GoesOn, IsKeptThrough, IsUp, HasMemory, IsDone, IsLateAfter, TicksAreWanted, Media, HaveCome, ListEnds, Pass, IsDealt, ◌≡◌, ◌≤◌, ◌<◌, ℕ, Bool, IsTrue, List, [], ◌∷◌, ◌++◌, length, map, All, ap, sym, subst, ◌∙◌, AllZip, Vec, Global, All-append, All-cons, All-map, All-nil, AllZip-long, EachNode, EachPlace, HasAllOf, HasPass, Shares, EndsFor, IsDown, dealt-along, each-listed, some-listed}
-use Rattle.run_rounds.proofs.Names.{Base, NodeId, Owns, arith, false, is_done_after, refl, story-ticks, tick-before}
+use Rattle.run_rounds.proofs.Names.{Base, NodeId, Owns, arith, false, true, is_done_after, refl, story-ticks, tick-before}
 use Rattle.run_starts.specs.Sights.{Looked}
 use Rattle.run_starts.proofs.PairLemmas.{any-through, zip-through, zip-with}
 use Rattle.run_starts.proofs.RoundLemmas.{goes-joins, kept-joins, looked-own, looked-owner}
 use Rattle.run_rounds.specs.Closings.{TicksWereWanted}
-use Rattle.std.specs.Prelude.{MatchBool, ⊥}
+use Rattle.std.specs.Prelude.{MatchBool}
 use Rattle.run_starts.specs.Reasons.{SeesMore}
 use Rattle.run_rounds.specs.Closings.{HaveGoneOn, PauseEnds}
 use Rattle.run_rounds.specs.Settled.{AreSettled, IsToldIdle, SettledEnds}

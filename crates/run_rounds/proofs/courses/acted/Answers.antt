@@ -50,9 +50,8 @@ returns g c =
     let deal = c.deal-nodes in
     let went = c.conduct-shares in
     let k = knows went.result.1 in
-    let whole = λ xs d l. c.collect-nodes.ensures.whole xs d (omega (arith, l, c.args.nodes.ok, c.len-count.ensures)) in
     let come = have-come w W c.requires.some begun deal.result.1.items went.result.0.items deal.ensures.dealt deal.ensures.count went.ensures.went
-    c.collect-nodes.result.items whole c.args.limits went.result.2 k went.ensures.kept went.ensures.all went.ensures.conductor went.ensures.ticks
+    c.collect-nodes.result.items (λ xs d l. c.collect-nodes.ensures.whole xs d (omega (arith, l, c.args.nodes.ok, c.len-count.ensures))) c.args.limits went.result.2 k went.ensures.kept went.ensures.all went.ensures.conductor went.ensures.ticks
     (λ told. subst (λ (b : Base). TicksAreWanted b k.story went.result.0.items) (ap base_from (pass-origin c.args.wire.now.lock went.result.1 went.ensures.passes.1.of_lock)) (went.ensures.wanted told))
     went.ensures.reason in
     let last = c.settled.ensures.come c.args.limits begun come in
@@ -60,5 +59,5 @@ returns g c =
       passes = c.settled.ensures.passes;
       on = last.on;
       ends = record { ticks = last.ticks; wanted = last.wanted; ends = last.ends; settled = c.settled.ensures.settled };
-      count = c.settled.ensures.count ∙ nodes-count w W c.requires.some begun deal.result.1.items went.result.0.items deal.ensures.dealt deal.ensures.count went.ensures.went c.collect-nodes.result.items whole;
+      count = c.settled.ensures.count ∙ nodes-count w W c.requires.some begun deal.result.1.items went.result.0.items deal.ensures.dealt deal.ensures.count went.ensures.went c.collect-nodes.result.items (λ xs d l. c.collect-nodes.ensures.whole xs d (omega (arith, l, c.args.nodes.ok, c.len-count.ensures)));
     }

@@ -1,4 +1,4 @@
-use Rattle.run_rounds.proofs.Names.{Reason, subst, ap, knows, tick_count, AllZip-long, GoesOn}
+use Rattle.run_rounds.proofs.Names.{Reason, refl, subst, ap, knows, tick_count, AllZip-long, GoesOn}
 use Rattle.run_rounds.specs.Closings.{HaveCome}
 use Rattle.run_rounds.proofs.CourseLemmas.{come-settled, on-settled}
 use Rattle.run_starts.proofs.RoundLemmas.{looked-own}
@@ -27,3 +27,15 @@ returns-clause-ends g c = λ ends. c.settle_nodes-reason.ensures.ends
 
 pub returns-clause-count : goal.returns-clause-count
 returns-clause-count g c = AllZip-long (GoesOn g.M.Medium.tells g.M.Medium.faults g.M.Medium.reads) c.args.gone.nodes.items c.settle_nodes-reason.new.nodes.items c.settle_nodes-reason.ensures.went
+
+pub returns-in_default : goal.returns-in_default
+returns-in_default g c = record {
+  passes = c.requires.passes;
+  come = λ limits begun h. h;
+  on = λ begun h. h;
+  ticks = refl;
+  ends = λ e. e;
+  settled = λ told is. absurd (c.in_default.not-Done is);
+  done = λ is. is;
+  count = refl;
+}
