@@ -86,11 +86,14 @@ module _ {M : Type 0} (w : Media M) (old new : ShelfSight) (plan : Plan) (o : Op
       by-end wanted (end.Ran r) status t s ends none tells =
           subst (λ (z : Trace). Came wanted z s status) (sym tells.0) (inr (inr (ran-over r (had (end.Ran r) (λ e. absurd (cc e)) (λ is. (none is).0)) ends, tells.1)), refl)
       by-end wanted (end.Refused fault) status t s ends none (told_none, inl seven) = (inl (seven, inr (no-memory t told_none (alone-whole {M = M} w media left ends.1) (λ tells. inl ends.1))), refl)
-      by-end wanted (end.Refused fault) status t s ends none (told_none, inr two) = (inr (inl (
-        two.0,
-        record { volumes = volumes; left = left; has = has; memory = had (end.Refused fault) (λ e. absurd (cc e)) (λ is. (none is).0); untouched = ends.1; why = fault; first = ends.2; line = two.1 },
-        record { trace = told_none; fates = ends.3; clock = ends.4 },
-      )), refl)
+      by-end wanted (end.Refused fault) status t s ends none (told_none, inr two) = (
+        inr (inl (
+          two.0,
+          record { volumes = volumes; left = left; has = has; memory = had (end.Refused fault) (λ e. absurd (cc e)) (λ is. (none is).0); untouched = ends.1; why = fault; first = ends.2; line = two.1 },
+          record { trace = told_none; fates = ends.3; clock = ends.4 },
+        )),
+        refl,
+      )
       by-end wanted end.NoMemory status t s ends none tells = (inl (tells.1, inr (no-memory t tells.0 ends.1 (past-of (λ is told_all. (none is).1) ends.2))), refl)
 
       -- where all is smooth

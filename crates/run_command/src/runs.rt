@@ -164,7 +164,5 @@ where
         return quiet(alloc, 7, Vec::new(alloc), fates, clock);
     };
     laws_of_runs();
-    run_taken(
-        rt, alloc, plan, options, wanted, sink, taken, fates, clock,
-    )
+    run_taken(rt, alloc, plan, options, wanted, sink, taken, fates, clock)
 }

@@ -68,13 +68,16 @@ module _ {M : Type 0} (w : Media M) (old new : ShelfSight) (draft : Plan) (o : O
       volumes = volumes;
       openings = t.openings.items;
       opened = given.taken.opened;
-      came = inr (full, record {
-        left = map medium_in t.openings.items;
-        has = has-volumes w old new draft volumes t.openings.items t.asides.items t.wanting (map medium_in t.openings.items) kept given.apart given.taken.count.1 handed;
-        untouched = opened-left w (map work_taken volumes) t.openings.items given.taken.opened;
-        no_run = no_run;
-        line = line;
-      });
+      came = inr (
+        full,
+        record {
+          left = map medium_in t.openings.items;
+          has = has-volumes w old new draft volumes t.openings.items t.asides.items t.wanting (map medium_in t.openings.items) kept given.apart given.taken.count.1 handed;
+          untouched = opened-left w (map work_taken volumes) t.openings.items given.taken.opened;
+          no_run = no_run;
+          line = line;
+        },
+      );
     }
 
     -- the plan was run above
@@ -88,6 +91,9 @@ module _ {M : Type 0} (w : Media M) (old new : ShelfSight) (draft : Plan) (o : O
           volumes = volumes;
           openings = t.openings.items;
           opened = given.taken.opened;
-          came = inl (room, runs-over w old new (raised h draft) volumes Report o t.wanting told trace kept s status (subst CanRun is runs) laws a.memory e
-              (has-volumes w old new (raised h draft) volumes t.openings.items t.asides.items t.wanting e.left kept a given.taken.count.1 e.handed));
+          came = inl (
+            room,
+            runs-over w old new (raised h draft) volumes Report o t.wanting told trace kept s status (subst CanRun is runs) laws a.memory e
+                (has-volumes w old new (raised h draft) volumes t.openings.items t.asides.items t.wanting e.left kept a given.taken.count.1 e.handed),
+          );
         }

@@ -75,13 +75,7 @@ where
 
 // Writes what is wrong with a batch, by the line of its plan, when so many lines were before it. The answer is
 // the status.
-fn tell_fault<O: Sink>(
-    alloc: Global,
-    before: u64,
-    line: u32,
-    kind: PlanKind,
-    sink: &mut O,
-) -> u8
+fn tell_fault<O: Sink>(alloc: Global, before: u64, line: u32, kind: PlanKind, sink: &mut O) -> u8
     ensures { EndsIfAny result (sinking (O.taken sink.old) (O.taken sink.new) (O.faults sink.old) (O.faults sink.new)) 2
         (fault_line (line_of before line) kind) }
 {

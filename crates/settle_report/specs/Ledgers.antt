@@ -1,5 +1,5 @@
 -- The commit records of repositories, in their order.
-use Rattle.std.specs.Prelude.{◌≡◌, ◌<◌, ℕ, suc, List, reverse, length, Option, Some, None, slice_get}
+use Rattle.std.specs.Prelude.{ℕ, List, reverse, Option, Some, None}
 use Rattle.commit_record.specs.declared.states.RecordState.{RecordState}
 use Rattle.message_core.specs.Tallies.{numbered}
 use Rattle.pseudo_time.specs.StampParts.{StampParts}
@@ -7,13 +7,14 @@ use Rattle.pseudo_time.specs.declared.nodes.NodeId.{NodeId}
 use Rattle.std.specs.FinMap as finite
 use Rattle.pseudo_time.specs.Nodes.{repository}
 use Rattle.effect_form.specs.declared.effects.Effect.{Effect}
+use Rattle.std.specs.List.{AllZip}
+use Rattle.trace_report.specs.Reports.{nodes_to}
 use Rattle.repository_log.specs.Opening.{AreRecords}
 use Rattle.commit_record.specs.States.{States}
 
 -- there is one for each repository up to this number, and each is that of its log
-pub record AreLedgers (repositories : ℕ) (logs : NodeId → List Effect) (ledgers : List States) : Type 0 where
-  pub count : length ledgers ≡ repositories
-  pub each : (i : ℕ) (s : States) → slice_get ledgers i ≡ Some s → AreRecords (reverse (logs (repository (suc i)))) s
+abbrev pub AreLedgers : (repositories : ℕ) → (NodeId → List Effect) → List States → Type 0
+AreLedgers repositories logs ledgers = AllZip (λ n s. AreRecords (reverse (logs n)) s) (nodes_to repository repositories) ledgers
 
 -- what one of them says of an attempt
 abbrev pub record_by : Option States → StampParts → Option RecordState

@@ -3,7 +3,7 @@ use Rattle.std.specs.Prelude.{◌≡◌, ℕ, Bool, true, false, ◌&&◌, ◌==
 use Rattle.std.specs.List.{filter, flat_map}
 use Rattle.effect_form.specs.declared.effects.Effect.{Effect}
 use Rattle.effect_form.specs.declared.effects.Effect.TheVariants as effect
-use Rattle.forward_copy.specs.Settled.{Settled}
+use Rattle.pseudo_time.specs.StampParts.{stamp_cmp}
 use Rattle.pseudo_time.specs.TimeParts.{time_cmp}
 use Rattle.repository_log.specs.Logs.{known}
 use Rattle.std.specs.FinMap as finite
@@ -34,12 +34,16 @@ becomes committed (Some b) now = false
 abbrev pub is_settled_as : Bool → (before after : List Effect) → HeldVersion → Bool
 is_settled_as committed before after v = becomes committed (fate_in before v) (fate_in after v)
 
+-- decisions of attempts
+abbrev pub Decisions : Type 0
+Decisions = finite.FinMap stamp_cmp Bool
+
 -- and by how two maps of decisions know them
-abbrev pub is_settled_between : Bool → (was is : Settled) → HeldVersion → Bool
+abbrev pub is_settled_between : Bool → (was is : Decisions) → HeldVersion → Bool
 is_settled_between committed was is v = becomes committed (finite.get was v.start.stamp) (finite.get is v.start.stamp)
 
 -- a map of decisions doesn't know the version's attempt
-abbrev pub is_open_by : Settled → HeldVersion → Bool
+abbrev pub is_open_by : Decisions → HeldVersion → Bool
 is_open_by is v = is_none (finite.get is v.start.stamp)
 
 -- versions are in the order of their objects, then of their starts

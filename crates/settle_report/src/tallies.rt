@@ -44,20 +44,23 @@ fn settled_count(committed: bool, was: &Settles, is: &Settles, versions: &[HeldV
     count
 }
 
-// Adds those of these versions that a log leaves open.
+// Adds those of these versions that a log leaves open. The answer is how many these are.
 fn add_open(
     is: &Settles,
     versions: &[HeldVersion],
     undecided: &mut Vec<HeldVersion>,
-) -> Result<(), AllocError>
-    ensures { OnOk result (undecided.new.items ≡ undecided.old.items ++ filter (spec.is_open_by is.now) versions.now) }
+) -> Result<u64, AllocError>
+    ensures count { IfOk result (λ n. n ≡ length (filter (spec.is_open_by is.now) versions.now)) }
+    ensures added { OnOk result (undecided.new.items ≡ undecided.old.items ++ filter (spec.is_open_by is.now) versions.now) }
 {
+    let mut count = 0;
     for version in versions {
         if is.get(version.start.stamp()).is_none() {
             undecided.push(*version)?;
+            count += 1;
         }
     }
-    Ok(())
+    Ok(count)
 }
 
 /// What became of the versions of a repository's log, by the one before. The versions that are open are
@@ -72,13 +75,12 @@ pub fn tally_of(
     ensures undecided { OnOk result (undecided.new.items ≡ undecided.old.items ++ spec.open_in after.now) }
 {
     let versions = versions_of(alloc, after)?;
-    let was = settles_of(alloc, before)?;
-    let is = settles_of(alloc, after)?;
-    let listed = undecided.len();
-    add_open(&is, versions.as_slice(), undecided)?;
+    let first = settles_of(alloc, before)?;
+    let last = settles_of(alloc, after)?;
+    let count = add_open(&last, versions.as_slice(), undecided)?;
     Ok(Tally {
-        committed: settled_count(true, &was, &is, versions.as_slice()),
-        aborted: settled_count(false, &was, &is, versions.as_slice()),
-        undecided: (undecided.len() - listed) as u64,
+        committed: settled_count(true, &first, &last, versions.as_slice()),
+        aborted: settled_count(false, &first, &last, versions.as_slice()),
+        undecided: count,
     })
 }
