@@ -20,8 +20,8 @@ module _ {S M : Type 0} (g : shelf.Ghosts S M) (w : medium.Ghosts M) where
     pub asked : g.asked new ≡ g.asked old
     pub later : g.faults old ≤ g.faults new
 
-  -- The medium is under its name: reopened, so that its reads give one of the images that a crash could have left of it, and no image is new. Or the name is out, since it couldn't be reopened, and the shelf's count
-  -- rose. All other names have what they had.
+  -- The medium is under its name: reopened, so that its reads give one of the images that a crash could have left of it, and no image is new. Or the name is out, since it couldn't be
+  -- reopened, and the shelf's count rose. All other names have what they had.
   pub record IsPutBack (name : MediumName) (m : M) (old new : S) : Type 0 where
     pub out : g.is_taken new name → Rose (g.faults old) (g.faults new)
     pub one : IsTrue w.tells → (g.is_taken new name → ⊥) → w.may_leave m (g.holds new name)

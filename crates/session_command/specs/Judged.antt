@@ -26,7 +26,8 @@ module _ {H M : Type 0} (g : Ghosts H M) (w : Media M) (o : Options) where
     pub ran : RunsAbove w (shelf_sight g s.shelf) (shelf_sight g middle) kept draft o (account_over trace s t) (sunk s t) came_to
     pub back : ((status ≡ came_to) × ArePutBack g w kept middle t.shelf) ⊎ (status ≡ 7)
 
-  -- What came of a batch's text as a plan, when so many lines of the session were before it: it is a plan and was run; or it is none and the sink got the line that says so; or memory ran out for reading it.
+  -- What came of a batch's text as a plan, when so many lines of the session were before it: it is a plan and was run; or it is none
+  -- and the sink got the line that says so; or memory ran out for reading it.
   abbrev pub Judged : (text : List ℕ) → (before status : ℕ) → Standing H → Standing H → Type 0
   Judged text before status s t =
       ((draft : Plan) × IsPlan text draft × RanAbove draft status s t)

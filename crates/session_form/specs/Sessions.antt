@@ -52,7 +52,8 @@ IsHeadFault text line what =
     ((l : List ℕ) × (has_end : Bool) × (text ≡ l ++ line_end has_end) × (has_end ≡ true → IsTitle l → ⊥) × (line ≡ 1) × (what ≡ kind.Header))
     ⊎ (((title l : List ℕ) × (text ≡ ended (title ∷ []) ++ l) × IsTitle title × IsInLine l × (line ≡ 2) × (what ≡ kind.Repositories))
     ⊎ (((title repositories l : List ℕ) × (text ≡ ended (title ∷ repositories ∷ []) ++ l) × IsTitle title × IsInLine l × (line ≡ 3) × (what ≡ kind.Brokers))
-    ⊎ ((title repositories brokers : List ℕ) × (at : ℕ) × (text ≡ ended (title ∷ repositories ∷ brokers ∷ [])) × IsTitle title × IsPlanFault (batch_text repositories brokers []) at what × (line ≡ at - 1))))
+    ⊎ ((title repositories brokers : List ℕ) × (at : ℕ) × (text ≡ ended (title ∷ repositories ∷ brokers ∷ [])) × IsTitle title
+    × IsPlanFault (batch_text repositories brokers []) at what × (line ≡ at - 1))))
 
 -- ---- batches
 
