@@ -28,7 +28,7 @@ use Rattle.serial_law.proofs.WholeFacts.{kept-or-gone}
 use Rattle.archive_law.specs.Archives.{IsPast, log_after}
 use Rattle.archive_law.proofs.PastReadings.{Facts, facts-of, no_base}
 use Rattle.replay_law.specs.Folders.{ReadsAll, folder_after, whole_after}
-unfoldable use Rattle.replay_law.specs.Folders.{all_tries}
+unfoldable use Rattle.log_replay.specs.Folders.{all_tries}
 use Rattle.replay_law.specs.Replays.{AskedIt, HaveBytes, Replays}
 
 -- ---- tries of all brokers

@@ -1,0 +1,4 @@
+pub mod AttemptLemmas
+pub mod StampLemmas
+pub mod ToldLemmas
+pub mod WorkedFolder
