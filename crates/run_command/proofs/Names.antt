@@ -50,7 +50,7 @@ pub use Rattle.std.specs.Io.KnownBytes.{Appends, Consumes, Keeps}
 pub use Rattle.std.specs.List.{AllZip, count_by}
 pub use Rattle.std.specs.Prelude.{IfOk, OnErr, OnOk, Option, Result, filter}
 pub use Rattle.stream_port.specs.Causes.{Rose, RoseBy, rise_of_fewer}
-pub use Rattle.run_command.specs.Contract.{HoldsOfRuns, IsOver, RunsOver, CameOf, Completes, IsSmooth, LosesNothing, RanOver, RunsPlan, WantedMemory}
+pub use Rattle.run_command.specs.Contract.{HoldsOfRuns, AreVolumesOf, RunsOver, CameOf, Completes, IsSmooth, LosesNothing, RanOver, RunsPlan, WantedMemory}
 pub use Rattle.run_command.specs.Finished.{AllBegun}
 pub use Rattle.run_command.specs.Written.{TellsText}
 pub use Rattle.run_command.specs.Smooth.{IsFinal, IsFinished, IsSmoothRun, WasRefused, WentSmoothly, pages_for, volumes_of_blank}

@@ -1,5 +1,5 @@
 -- From how a run ended to what comes of its plan.
-use Rattle.run_command.proofs.Names.{AllZip, AllZip-long, Plan, CanRun, Trace, IsLegal, no_trace, Options, Media, AreBack, IsBack, IsLeftAlone, Ran, IsKeptWhole, Tellers, account_of, AllKept, ShelfSight, Kept, HasVolumes, NodeVolumes, work_taken, Wanted, CameOf, HoldsOfRuns, IsOver, RunsOver, EndsOver, status_of, Sinking, ◌≡◌, ◌⊎◌, inl, inr, ℕ, Bool, true, false, IsTrue, List, length, map, Option, refl, ap, sym, subst, ◌∙◌, RanUntold, HasRanges, EndsAs, HadMemory, Completes, RanOver, WantedMemory, OfRun, TellsEnd, JustNodes}
+use Rattle.run_command.proofs.Names.{AllZip, AllZip-long, Plan, CanRun, Trace, IsLegal, no_trace, Options, Media, AreBack, IsBack, IsLeftAlone, Ran, IsKeptWhole, Tellers, account_of, AllKept, ShelfSight, Kept, HasVolumes, NodeVolumes, work_taken, Wanted, CameOf, HoldsOfRuns, AreVolumesOf, RunsOver, EndsOver, status_of, Sinking, ◌≡◌, ◌⊎◌, inl, inr, ℕ, Bool, true, false, IsTrue, List, length, map, Option, refl, ap, sym, subst, ◌∙◌, RanUntold, HasRanges, EndsAs, HadMemory, Completes, RanOver, WantedMemory, OfRun, TellsEnd, JustNodes}
 use Rattle.run_rounds.specs.declared.ends.End.{End}
 use Rattle.run_rounds.specs.declared.ends.End.TheVariants as end
 use Rattle.run_command.proofs.CompleteLemmas.{complete-status, run-complete, unrefused}
@@ -36,7 +36,7 @@ module _ {M : Type 0} (w : Media M) (old new : ShelfSight) (plan : Plan) (o : Op
   runs-kept e ends = all-kept w old new plan volumes left kept has (end-back w o.ticks o.messages plan told media left e ends)
 
   module _ (language : CanRun plan) (laws : HoldsOfRuns) where
-    ran-over : (t : Trace) → HadMemory w volumes → Ran w o.ticks o.messages plan (account_of t told) media left → RanOver {M = M} w old new kept plan o (account_of t told)
+    abbrev ran-over : (t : Trace) → HadMemory w volumes → Ran w o.ticks o.messages plan (account_of t told) media left → RanOver {M = M} w old new kept plan o (account_of t told)
     ran-over t memory ran = record {
       volumes = volumes;
       left = left;
@@ -54,7 +54,7 @@ module _ {M : Type 0} (w : Media M) (old new : ShelfSight) (plan : Plan) (o : Op
     }
 
     -- memory ran out in a run that isn't told
-    no-memory : (t : Trace) → t ≡ no_trace → AllZip (IsKeptWhole w) media left → (IsTrue w.tells → AllZip (IsLeftAlone w) media left ⊎ (HadMemory w volumes × RanUntold w plan told.asked_before media left))
+    abbrev no-memory : (t : Trace) → t ≡ no_trace → AllZip (IsKeptWhole w) media left → (IsTrue w.tells → AllZip (IsLeftAlone w) media left ⊎ (HadMemory w volumes × RanUntold w plan told.asked_before media left))
         → WantedMemory {M = M} w old new kept plan (account_of t told)
     no-memory t none whole past = record { trace = none; volumes = volumes; left = left; has = has; safe = none-lost w old new plan volumes left kept has whole; past = past }
 
@@ -79,7 +79,7 @@ module _ {M : Type 0} (w : Media M) (old new : ShelfSight) (plan : Plan) (o : Op
 
       -- what came of it, over these volumes
       abbrev Came : Wanted → Trace → Sinking → ℕ → Type 0
-      Came wanted t s status = (c : CameOf {M = M} w old new kept plan wanted o (account_of t told) s status) × IsOver {M = M} w old new kept plan wanted o (account_of t told) s status volumes c
+      Came wanted t s status = (c : CameOf {M = M} w old new kept plan wanted o (account_of t told) s status) × AreVolumesOf {M = M} w old new kept plan wanted o (account_of t told) s status volumes c
 
       by-end : (wanted : Wanted) (e : End) (status : ℕ) (t : Trace) (s : Sinking) → EndsAs w o.ticks o.messages plan told media left e → (wanting ≡ true → (e ≡ end.NoMemory) × AllZip (IsLeftAlone w) media left)
           → TellsEnd wanted plan e status t s → Came wanted t s status

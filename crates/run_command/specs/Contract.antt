@@ -1,5 +1,6 @@
 -- What comes of a plan that is run.
-use Rattle.std.specs.Prelude.{◌≡◌, ◌⊎◌, ℕ, ◌≤◌, ◌<◌, true, IsTrue, List, [], ◌++◌, length, map, Option, Ok, inl, inr}
+use Rattle.std.specs.Prelude.{◌≡◌, ◌⊎◌, ℕ, ◌≤◌, ◌<◌, true, IsTrue, List, [], ◌++◌, length, map, Option, Ok}
+use Rattle.std.proofs.Common.{inl, inr}
 use Rattle.std.specs.List.{AllZip}
 use Rattle.pseudo_time.specs.Lists.{Every, Has}
 use Rattle.pseudo_time.specs.declared.nodes.NodeId.{NodeId}
@@ -107,11 +108,11 @@ module _ {M : Type 0} (w : Media M) (old new : ShelfSight) (kept : List (Kept M)
         ⊎ (RanOver o told × EndsIfAny status s (status_of plan told.trace) (wanted_text wanted plan told.trace)))
 
     -- these are the volumes of what came of it
-    abbrev pub IsOver : (wanted : Wanted) (o : Options) (told : Account) (s : Sinking) (status : ℕ) → List (NodeVolumes w) → CameOf wanted o told s status → Type 0
-    IsOver wanted o told s status volumes (inl (seven, inl nothing)) = volumes ≡ []
-    IsOver wanted o told s status volumes (inl (seven, inr wanting)) = wanting.volumes ≡ volumes
-    IsOver wanted o told s status volumes (inr (inl (two, refused, no_run))) = refused.volumes ≡ volumes
-    IsOver wanted o told s status volumes (inr (inr (ran, ends))) = ran.volumes ≡ volumes
+    abbrev pub AreVolumesOf : (wanted : Wanted) (o : Options) (told : Account) (s : Sinking) (status : ℕ) → List (NodeVolumes w) → CameOf wanted o told s status → Type 0
+    AreVolumesOf wanted o told s status volumes (inl (seven, inl nothing)) = volumes ≡ []
+    AreVolumesOf wanted o told s status volumes (inl (seven, inr wanting)) = wanting.volumes ≡ volumes
+    AreVolumesOf wanted o told s status volumes (inr (inl (two, refused, no_run))) = refused.volumes ≡ volumes
+    AreVolumesOf wanted o told s status volumes (inr (inr (ran, ends))) = ran.volumes ≡ volumes
 
     -- Scripts of the plan make at most so many requests; no count rose of the shelf, a medium or the sink; the nodes' volumes were blank and had enough pages;
     -- fewer messages are sent than those at which the run ends, each as one copy without a hold.
@@ -136,4 +137,4 @@ module _ {M : Type 0} (w : Media M) (old new : ShelfSight) (kept : List (Kept M)
 
     -- the same over these volumes
     abbrev pub RunsOver : Wanted → Options → Account → Sinking → ℕ → List (NodeVolumes w) → Type 0
-    RunsOver wanted o told s status volumes = (runs : RunsPlan wanted o told s status) × IsOver wanted o told s status volumes runs.came
+    RunsOver wanted o told s status volumes = (runs : RunsPlan wanted o told s status) × AreVolumesOf wanted o told s status volumes runs.came
