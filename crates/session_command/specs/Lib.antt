@@ -1,4 +1,0 @@
-pub mod Above
-pub mod Judged
-pub mod Lines
-pub mod Standings
