@@ -27,11 +27,18 @@ fn is_down(entry: &Entry) -> bool
     }
 }
 
+// Whether a node is down.
+fn some_down(entries: &[Entry]) -> bool
+    ensures { result ≡ list_any walks.is_down entries.now }
+{
+    entries.iter().any(|entry| is_down(entry))
+}
+
 // The status of a settle whose report was written.
 fn status_of(trace: &Trace, undecided: u64) -> u8
     ensures { result ≡ (if list_any walks.is_down trace.now.entries then 6 else (if undecided == 0 then 0 else 5)) }
 {
-    if trace.entries.as_slice().iter().any(|entry| is_down(entry)) {
+    if some_down(trace.entries.as_slice()) {
         6
     } else if undecided == 0 {
         0
