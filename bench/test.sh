@@ -1,6 +1,6 @@
 #!/usr/bin/env bash
 # What `./swallow test` runs, with no toolchain: the sums of release/, all examples and what the pages show (docs.sh), what
-# the starter prints (prompt.sh), the system's mistakes (real.sh), 20 kills (kills.sh) and 200 power cuts (cuts.sh), some of them side by side. What can't be
+# the starter prints (prompt.sh), the system's mistakes (real.sh), 20 kills (kills.sh), 200 power cuts (cuts.sh) and kills and cuts of settles (settles.sh), some of them side by side. What can't be
 # run here is skipped, with the reason. Its last line is `N passed, M failed`, and its status 0 if nothing failed.
 top="$(cd "$(dirname "${BASH_SOURCE[0]}")/.." && pwd)" || exit 1
 . "$top/release/start.sh" || exit 70
@@ -56,6 +56,7 @@ begin pages "$top/bench/docs.sh"
 begin prompt "$top/bench/prompt.sh"
 [ -z "$kills" ] || begin system "$top/bench/real.sh" 1
 [ -z "$cuts" ] || begin cuts "$top/bench/cuts.sh" "$cuts"
+[ -z "$cuts" ] || begin settles "$top/bench/settles.sh" 20
 [ -z "$kills" ] || begin kills "$top/bench/kills.sh" "$kills"
 wait
 count sums 1
@@ -68,5 +69,6 @@ if [ -n "$kills" ]; then
   count kills "$kills"
 fi
 [ -z "$cuts" ] || count cuts $((2 * cuts))
+[ -z "$cuts" ] || count settles 40
 echo "$passed passed, $failed failed"
 [ "$failed" -eq 0 ]
