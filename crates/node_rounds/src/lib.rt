@@ -17,7 +17,7 @@ pub use kinds::AnyNode;
 pub use limits::Limits;
 pub use meetings::meet_share;
 pub use nodes::RunNode;
-pub use pauses::pass_time;
+pub use pauses::{pass_time, turn_again};
 pub use reasons::Reason;
 pub use repository_node::open_repository;
 pub use settlings::settle_all;

@@ -2,7 +2,7 @@
 ghost use Rattle.std.specs.Prelude.{◌≡◌, All, MatchBool};
 ghost use Rattle.std.specs.List.{AllZip};
 ghost use Rattle.seat_lock.specs.Words.{knows};
-ghost use Rattle.broker_node.specs.Sights.{IsWirePass};
+ghost use Rattle.broker_node.specs.Sights.{IsWirePass, Looked};
 ghost use Rattle.node_rounds.specs.Nodes.{GoesOn, HasAllOf, HasPass, IsKeptThrough, IsReady};
 ghost use Rattle.node_rounds.specs.Reasons.{SeesMore};
 
@@ -61,4 +61,23 @@ pub fn pass_time<F: Fates, C: Clock, M: Medium, R: Wait>(
     share_often(rt, wire, TURNS, nodes);
     meet_share(wire, nodes, &mut pass);
     (pass, made)
+}
+
+/// Gives the nodes turns, in which one that was opened again hears the time again: no time passes.
+pub fn turn_again<F: Fates, C: Clock, M: Medium, R: Wait>(
+    rt: &R,
+    wire: &SharedWire<F, C, M>,
+    nodes: &mut Vec<RunNode<F, C, M>>,
+    pass: &mut WirePass<F, C, M>,
+)
+    requires ready { All (IsReady wire.now.lock) nodes.old.items × IsWirePass wire.now.lock pass.old }
+    ensures passes { All (HasPass wire.now.lock) nodes.new.items × IsWirePass wire.now.lock pass.new }
+    ensures went { AllZip (GoesOn M.tells M.faults M.reads) nodes.old.items nodes.new.items }
+    ensures kept { AllZip (IsKeptThrough M.tells M.stages) nodes.old.items nodes.new.items }
+    ensures looked { Looked (knows pass.old) (knows pass.new) }
+    ensures all { All (HasAllOf (knows pass.new).story) nodes.new.items }
+{
+    meet_share(wire, nodes, pass);
+    share_often(rt, wire, TURNS, nodes);
+    meet_share(wire, nodes, pass);
 }

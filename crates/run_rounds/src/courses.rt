@@ -15,7 +15,7 @@ use crate::settled::{reason_of, settle_nodes};
 use medium_port::Medium;
 use run_starts::{
     Limits, Reason, RunNode, SharedWire, WirePass, collect, conduct, deal, let_go, pass_time,
-    take_apart,
+    take_apart, turn_again,
 };
 use std::alloc::Global;
 use std::sync::Wait;
@@ -115,6 +115,47 @@ fn acted<
     )
 }
 
+// The same again, after turns in which a node that was opened again while it learned hears the time again.
+fn settled_again<F: Fates, C: Clock, M: Medium, R: Wait>(
+    rt: &R,
+    alloc: Global,
+    wire: &SharedWire<F, C, M>,
+    gone: Gone<F, C, M>,
+) -> Gone<F, C, M>
+    requires passes { All (HasPass wire.now.lock) gone.nodes.items × IsWirePass wire.now.lock gone.conductor }
+    requires up { gone.reason ≡ Reason.Done → All IsUp gone.nodes.items }
+    ensures passes { All (HasPass wire.now.lock) result.nodes.items × IsWirePass wire.now.lock result.conductor }
+    ensures on { (begun : List (NodeParts M)) →
+        HaveGoneOn M.Medium begun gone.nodes.items (knows gone.conductor) →
+        HaveGoneOn M.Medium begun result.nodes.items (knows result.conductor) }
+    ensures ticks { tick_count (knows result.conductor).own ≡ tick_count (knows gone.conductor).own }
+    ensures ends { SettledEnds gone.reason gone.nodes.items → SettledEnds result.reason result.nodes.items }
+    ensures settled { IsTrue M.tells → result.reason ≡ Reason.Done → AreSettled result.nodes.items }
+    ensures done { result.reason ≡ Reason.Done → gone.reason ≡ Reason.Done }
+    ensures count { length result.nodes.items ≡ length gone.nodes.items }
+{
+    let Gone {
+        mut nodes,
+        mut conductor,
+        reason,
+    } = gone;
+    let Reason::Done = reason else {
+        return Gone {
+            nodes,
+            conductor,
+            reason,
+        };
+    };
+    turn_again(rt, wire, &mut nodes, &mut conductor);
+    let reason = reason_of(nodes.as_slice());
+    let turned = Gone {
+        nodes,
+        conductor,
+        reason,
+    };
+    settled(rt, alloc, wire, turned)
+}
+
 // Only an idle wire tells that a run has settled, so the reason becomes that nothing is left to do.
 fn if_idle(reason: Reason) -> Reason
     ensures { IsToldIdle reason result }
@@ -155,16 +196,17 @@ fn settling<F: Fates, C: Clock, M: Medium, R: Wait>(
     let mut nodes = nodes;
     let (conductor, made) = pass_time(rt, wire, &mut nodes, conductor);
     let reason = reason_after(made, nodes.as_slice());
-    let gone = Gone {
+    let paused = Gone {
         nodes,
         conductor,
         reason,
     };
+    let first = settled(rt, alloc, wire, paused);
     let Gone {
         nodes,
         conductor,
         reason,
-    } = settled(rt, alloc, wire, gone);
+    } = settled_again(rt, alloc, wire, first);
     Gone {
         nodes,
         conductor,
