@@ -1,3 +1,4 @@
+//! What a command over a repository's volumes can come to.
 use value_form::Bytes;
 
 /// What came of a command over the volumes of a repository.

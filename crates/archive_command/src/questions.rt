@@ -1,3 +1,4 @@
+//! The questions that an archive answers: `asof` and `audit`.
 ghost use Rattle.std.specs.Prelude.{◌≡◌};
 ghost use Rattle.archive_command.specs.Answers as spec;
 

@@ -1,3 +1,4 @@
+//! What archives, totals and snapshots say about the committed attempts of all runs.
 // Each law holds over every past: runs of plans that can run and retirements, one after another.
 ghost use Rattle.std.specs.Prelude.{◌≤◌, ℕ, List};
 ghost use Rattle.pseudo_time.specs.Lists.{Every};

@@ -1,3 +1,4 @@
+//! What `asof`, `audit`, `snapshot` and `watch` promise over whatever past.
 ghost use Rattle.std.specs.Prelude.{◌≤◌, ℕ, List, length, Option};
 ghost use Rattle.effect_form.specs.declared.effects.Effect.{Effect};
 ghost use Rattle.snapshot_command.specs.Outcome.{Outcome};

@@ -1,3 +1,4 @@
+//! The archive of a repository: the logs of all its volumes, in order.
 ghost use Rattle.std.specs.Prelude.{◌≡◌, ◌<◌, ◌≤◌, ◌⊎◌, Some, None, length, map, reverse, IfOk, IfErr, OnOk};
 ghost use Rattle.value_form.specs.declared.objects.ObjectId.{ObjectId};
 ghost use Rattle.commit_watch.specs.Lists.{moved_at, AreRising};

@@ -1,3 +1,4 @@
+//! Why an archive has no map as of a pseudotime.
 use pseudo_time::PseudoTime;
 use std::alloc::{AllocError, AllocFailed};
 use value_form::ObjectId;

@@ -1,3 +1,4 @@
+//! Which volume holds a version.
 ghost use Rattle.std.specs.Prelude.{◌≡◌, ◌∷◌, [], List, Bool, ◌≤◌, length, map, not};
 ghost use Rattle.object_history.specs.declared.marks.Mark.{Mark};
 ghost use Rattle.archive_store.specs.Joined.{has_start, holder_of};

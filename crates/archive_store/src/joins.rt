@@ -1,3 +1,4 @@
+//! The marks of several volumes, joined into one list.
 ghost use Rattle.std.specs.Prelude.{◌≡◌, ◌∷◌, ◌++◌, [], List, map, filter, not, reverse, IfOk, OnOk};
 ghost use Rattle.object_history.specs.declared.marks.Mark.{Mark};
 ghost use Rattle.object_history.specs.History.{floor_of};

@@ -1,3 +1,4 @@
+//! The greatest version of each object below a pseudotime.
 ghost use Rattle.std.specs.Prelude.{◌≡◌, true, false, None, IfOk, IfErr, reverse};
 ghost use Rattle.value_form.specs.declared.objects.ObjectId.{ObjectId};
 ghost use Rattle.object_history.specs.History.{floor_of};

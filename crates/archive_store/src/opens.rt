@@ -1,3 +1,4 @@
+//! The first undecided version below a pseudotime.
 ghost use Rattle.std.specs.Prelude.{◌≡◌, ◌∷◌, List, Some, IfOk, reverse};
 ghost use Rattle.std.specs.FinMap as finite;
 ghost use Rattle.object_history.specs.declared.marks.Mark.{Mark};

@@ -1,3 +1,4 @@
+//! The objects and starts of versions that were met already.
 ghost use Rattle.std.specs.Prelude.{◌≡◌, ◌∷◌, [], List, OnOk};
 ghost use Rattle.object_history.specs.declared.marks.Mark.{Mark};
 ghost use Rattle.archive_store.specs.Joined.{has_start};

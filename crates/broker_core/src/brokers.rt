@@ -1,3 +1,4 @@
+//! The broker: what it does when it begins, hears a message, or gets time.
 ghost use Rattle.std.specs.Prelude.{◌≡◌, ◌≤◌, ◌++◌, [], ◌∷◌, ℕ, List, Some, None, reverse, length, IfOk, OnOk, OnErr};
 ghost use Rattle.std.specs.Option.{option_copied};
 ghost use Rattle.broker_ledger.specs.Effect.{Effect};

@@ -1,3 +1,4 @@
+//! Two readings that agree on the texts of acts give one broker.
 // Each law holds for every list of acts.
 ghost use Rattle.std.specs.Prelude.{◌≡◌, ◌≤◌, ℕ, List, Some, slice_get};
 ghost use Rattle.broker_ledger.specs.Lists.{Every, Has};

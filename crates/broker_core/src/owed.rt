@@ -1,3 +1,4 @@
+//! The turns that a broker owes: the next try, and the next act.
 ghost use Rattle.std.specs.Prelude.{◌≡◌, ◌≢◌, ◌≤◌, ◌∷◌, ◌==◌, Some, None, reverse, length, slice_get, IfOk, OnOk, OnErr};
 ghost use Rattle.std.specs.Option.{option_map, option_copied};
 ghost use Rattle.broker_ledger.specs.Notes as notes;

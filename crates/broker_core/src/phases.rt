@@ -1,3 +1,4 @@
+//! The phases of a try.
 ghost use Rattle.std.specs.Prelude.{◌≡◌, ◌≢◌, ◌≤◌, IfOk};
 ghost use Rattle.std.specs.Option.{option_map};
 ghost use Rattle.broker_ledger.specs.RunParts.{stop_of};

@@ -1,3 +1,4 @@
+//! What each message means to a broker in each phase.
 ghost use Rattle.std.specs.Prelude.{◌≡◌, ◌≢◌, ◌≤◌, IfOk};
 ghost use Rattle.broker_core.specs.Stages.{is_finished};
 ghost use Rattle.broker_core.specs.Rows.{when};

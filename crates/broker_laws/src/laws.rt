@@ -1,3 +1,4 @@
+//! Laws of a broker's log.
 // What holds of a broker's log, which stands newest first. `script` reads the texts of scripts.
 ghost use Rattle.std.specs.Prelude.{◌≡◌, ◌++◌, ◌∷◌, ◌↔◌, ℕ, List, Option, Some, None, slice_get};
 ghost use Rattle.pseudo_time.specs.Lists.{Every};

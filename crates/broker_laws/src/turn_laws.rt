@@ -1,3 +1,4 @@
+//! Laws of a broker's turns.
 // What a broker's turns keep. Logs stand newest first. `script` reads the texts of scripts.
 ghost use Rattle.std.specs.Prelude.{◌≡◌, ◌++◌, ℕ, List, [], Option, Some, None, true};
 ghost use Rattle.pseudo_time.specs.Lists.{Every};

@@ -1,3 +1,4 @@
+//! Whether an attempt is over for its broker.
 ghost use Rattle.std.specs.Prelude.{◌≡◌};
 ghost use Rattle.broker_ledger.specs.Heards as spec;
 ghost use Rattle.broker_ledger.specs.Tests as tests;

@@ -1,3 +1,4 @@
+//! The answers that a try got, and the script that goes on with them.
 ghost use Rattle.std.specs.Prelude.{◌≡◌, ◌∷◌, [], ◌++◌, IfOk, OnOk, OnErr};
 ghost use Rattle.value_form.specs.Ranges.{IsScript};
 ghost use Rattle.value_form.specs.Mirror.{block};

@@ -1,3 +1,4 @@
+//! What a broker heard since it was opened.
 ghost use Rattle.std.specs.Prelude.{◌≡◌};
 ghost use Rattle.broker_ledger.specs.Heards.{nothing_heard};
 

@@ -1,3 +1,4 @@
+//! The ledger of a broker: what its log comes to.
 ghost use Rattle.std.specs.Prelude.{◌≡◌, ◌≢◌, ◌≤◌, ◌==◌, [], ◌∷◌, ◌++◌, ◌+◌, Some, None, length, take, slice_get, IfOk, IfSome, OnOk, OnErr, MatchOption};
 ghost use Rattle.std.specs.Option.{option_copied, option_map};
 ghost use Rattle.pseudo_time.specs.Lists.{Every};

@@ -1,3 +1,4 @@
+//! Which effects fit a broker's log.
 ghost use Rattle.std.specs.Prelude.{ℕ, List, ◌≡◌, ◌≢◌, ◌≤◌, true, ◌∷◌, ◌&&◌, [], Some, None, reverse, length, slice_get, IfOk, OnOk, OnErr};
 ghost use Rattle.std.specs.Option.{option_map, option_copied};
 ghost use Rattle.pseudo_time.specs.StampParts.{StampParts};

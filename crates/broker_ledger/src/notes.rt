@@ -1,3 +1,4 @@
+//! The notes of a ledger: the last act and the last try.
 ghost use Rattle.std.specs.Prelude.{◌≡◌, ◌≢◌, ◌≤◌, IfSome};
 ghost use Rattle.broker_ledger.specs.Notes as spec;
 ghost use Rattle.broker_ledger.specs.Fits as fits;

@@ -1,3 +1,4 @@
+//! Why a broker can't resume from a log.
 use std::alloc::AllocError;
 
 /// Why a broker can't resume from a log.

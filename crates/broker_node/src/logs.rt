@@ -1,3 +1,4 @@
+//! A broker's log: in a store, or left on a medium after a fault.
 use medium_port::Medium;
 use version_store::Store;
 

@@ -1,3 +1,4 @@
+//! Why a line of a case wasn't carried out.
 use object_history::HistoryFault;
 use std::alloc::{AllocError, AllocFailed, Global};
 

@@ -1,3 +1,4 @@
+//! The states of a commit record, and what a step on one comes to.
 use pseudo_time::Decision;
 
 /// What a repository knows of an attempt whose commit record it keeps.

@@ -1,3 +1,4 @@
+//! The rule of a watch, and the callback that carries it out.
 ghost use Rattle.std.specs.Prelude.{◌≡◌, Option, IfOk};
 ghost use Rattle.commit_watch.specs.declared.versions.Version.{Version};
 ghost use Rattle.commit_watch.specs.Followed.{Follows};

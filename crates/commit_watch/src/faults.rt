@@ -1,3 +1,4 @@
+//! Why a watch didn't advance.
 use pseudo_time::PseudoTime;
 use std::alloc::{AllocError, AllocFailed};
 use value_form::ObjectId;

@@ -1,3 +1,4 @@
+//! The total of an object, folded over its new versions.
 ghost use Rattle.std.specs.Prelude.{◌≡◌, ◌⊎◌, Some, None, Ok, Err, Result, IfOk, IfErr, IfSome};
 ghost use Rattle.std.specs.Option.{option_copied};
 ghost use Rattle.commit_watch.specs.declared.faults.WatchFault.TheVariants as fault;

@@ -1,3 +1,4 @@
+//! A watch's totals are those of its rule over all stable versions.
 ghost use Rattle.std.specs.Prelude.{◌≡◌, ◌∷◌, List, Option, None, Ok};
 ghost use Rattle.value_form.specs.declared.objects.ObjectId.{ObjectId};
 ghost use Rattle.object_history.specs.declared.marks.Mark.{Mark};

@@ -1,3 +1,4 @@
+//! An object whose versions a watch has folded.
 use pseudo_time::PseudoTime;
 use value_form::ObjectId;
 

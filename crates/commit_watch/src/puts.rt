@@ -1,3 +1,4 @@
+//! A put, as a watch sees it.
 use pseudo_time::PseudoTime;
 use value_form::ObjectId;
 

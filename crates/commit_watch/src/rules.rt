@@ -1,3 +1,4 @@
+//! The rules that come with the program: count, sum and last.
 ghost use Rattle.std.specs.Prelude.{◌≡◌, pos};
 ghost use Rattle.value_form.specs.declared.values.Value.TheVariants as value;
 ghost use Rattle.commit_watch.specs.Rules as spec;

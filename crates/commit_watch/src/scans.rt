@@ -1,3 +1,4 @@
+//! One pass over the marks: decisions, floor and versions.
 ghost use Rattle.std.specs.Prelude.{◌≡◌, ◌∷◌, List, IfOk, OnOk, reverse, if◌then◌else◌};
 ghost use Rattle.std.specs.FinMap as finite;
 ghost use Rattle.pseudo_time.specs.StampParts.{StampParts};

@@ -1,3 +1,4 @@
+//! The new versions of each object, in order of their starts.
 ghost use Rattle.std.specs.Prelude.{◌≡◌, ◌≤◌, ◌+◌, ◌&&◌, ℕ, Some, length, OnOk, true, false, if◌then◌else◌};
 ghost use Rattle.std.specs.List.{AllWithin};
 ghost use Rattle.std.specs.Prelude.{slice_index_or};

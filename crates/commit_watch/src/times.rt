@@ -1,3 +1,4 @@
+//! Comparisons of pseudotimes that may be missing.
 ghost use Rattle.std.specs.Prelude.{◌≡◌};
 ghost use Rattle.object_history.specs.Kept as kept;
 ghost use Rattle.commit_watch.specs.Folds as folds;

@@ -1,3 +1,4 @@
+//! A version, as a watch hands it to its rule.
 use pseudo_time::PseudoTime;
 use value_form::{ObjectId, Value};
 

@@ -1,3 +1,4 @@
+//! A watch: totals that follow the committed versions.
 ghost use Rattle.std.specs.Prelude.{◌≡◌, ◌⊎◌, ◌≤◌, ◌+◌, [], Some, None, Ok, Err, Result, OnOk, OnErr, IfOk, IfErr, length, reverse};
 ghost use Rattle.std.specs.Vec.{vec_len, vec_capacity};
 ghost use Rattle.value_form.specs.declared.objects.ObjectId.{ObjectId};

@@ -1,3 +1,4 @@
+//! Laws of a run that loses nothing: it is never stuck, and what it costs is bounded.
 // A place of a trace is the entries before it. No Tick, Crash or Down stands before a calm place.
 ghost use Rattle.pseudo_time.specs.Lists.{Every};
 ghost use Rattle.std.specs.Prelude.{◌≡◌, ◌*◌, ◌+◌, ◌≤◌, ℕ, List, ◌∷◌, length, true};

@@ -1,3 +1,4 @@
+//! Reads an effect from bytes.
 ghost use Rattle.std.specs.Prelude.{◌≡◌, ◌++◌, ◌≤◌, ◌∷◌, [], Option, Some, None, Ok, List, ℕ, length, take, OnOk, OnErr, IfOk};
 ghost use Rattle.std.specs.Option.{option_map};
 ghost use Rattle.std.specs.Int.{w16, w64, to_be_bytes};

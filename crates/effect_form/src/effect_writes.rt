@@ -1,3 +1,4 @@
+//! Appends the bytes of an effect.
 ghost use Rattle.std.specs.Prelude.{◌≡◌, ◌++◌, ◌≤◌, ◌∷◌, [], None, length, OnOk, OnErr, IfOk};
 ghost use Rattle.std.specs.Int.{w32, w64, to_be_bytes};
 ghost use Rattle.pseudo_time.specs.StampParts.{stamp_bytes};

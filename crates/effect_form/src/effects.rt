@@ -1,3 +1,4 @@
+//! The effects, of which logs are made.
 ghost use Rattle.std.specs.Prelude.{◌≡◌, IfOk};
 
 use crate::outcomes::Outcome;

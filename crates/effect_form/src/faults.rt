@@ -1,3 +1,4 @@
+//! Why no effect was read.
 use std::alloc::AllocError;
 
 /// Why no effect was read.

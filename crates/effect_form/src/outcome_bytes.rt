@@ -1,3 +1,4 @@
+//! Reads and writes the bytes of an outcome.
 ghost use Rattle.std.specs.Prelude.{◌≡◌, ◌++◌, ◌∷◌, OnOk};
 ghost use Rattle.pseudo_time.specs.TimeParts.{time_bytes};
 ghost use Rattle.std.specs.Option.{option_map};

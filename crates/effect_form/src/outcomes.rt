@@ -1,3 +1,4 @@
+//! How an attempt can end.
 use pseudo_time::PseudoTime;
 use value_form::{FailKind, ObjectId};
 

@@ -1,3 +1,4 @@
+//! How many bytes an effect takes.
 ghost use Rattle.std.specs.Prelude.{◌≡◌, ◌≤◌, length};
 ghost use Rattle.value_form.specs.ValueBytes.{IsValue, value_bytes};
 ghost use Rattle.field_form.specs.Decisions.{decision_text};

@@ -1,3 +1,4 @@
+//! What an expression's reader keeps open.
 use crate::operands::Operand;
 use value_form::{Call, Infix, Prefix};
 

@@ -1,3 +1,4 @@
+//! Tokens spell at most one expression.
 ghost use Rattle.std.specs.Prelude.{◌≡◌, List};
 ghost use Rattle.token_form.specs.Tokens.{AreTokens, IsTokens};
 ghost use Rattle.token_form.specs.declared.tokens.Token.{Token};

@@ -1,3 +1,4 @@
+//! Operands with their depths.
 ghost use Rattle.std.specs.Prelude.{◌≡◌, IfOk};
 ghost use Rattle.expression_form.specs.Operands as spec;
 

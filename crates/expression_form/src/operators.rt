@@ -1,3 +1,4 @@
+//! How tightly operators bind.
 ghost use Rattle.std.specs.Prelude.{◌≡◌, ◌≤◌};
 ghost use Rattle.expression_form.specs.Levels.{infix_level, left_level, prefix_level};
 ghost use Rattle.expression_form.specs.Machine as spec;

@@ -1,3 +1,4 @@
+//! Prints expressions.
 ghost use Rattle.std.specs.Prelude.{◌≡◌, ◌+◌, ◌++◌, OnOk, OnErr};
 ghost use Rattle.value_form.specs.Mirror.{term};
 ghost use Rattle.value_form.specs.TextForm.{quoted_text};

@@ -1,3 +1,4 @@
+//! Why tokens are no expression.
 use std::alloc::{AllocError, AllocFailed};
 
 /// Why tokens were not read.

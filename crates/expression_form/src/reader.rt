@@ -1,3 +1,4 @@
+//! Reads an expression from tokens.
 ghost use Rattle.std.specs.Prelude.{◌≡◌, Some, Ok, IfOk};
 ghost use Rattle.value_form.specs.Mirror.{term};
 ghost use Rattle.expression_form.specs.Depth.{depth};

@@ -1,3 +1,4 @@
+//! A stack, which contracts see as a list.
 ghost use Rattle.std.specs.Prelude.{◌≡◌, [], ◌∷◌, OnOk, MatchOption, length};
 ghost use Rattle.std.specs.Option.{option_copied};
 ghost use Rattle.expression_form.specs.Stacks.{first};

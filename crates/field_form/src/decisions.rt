@@ -1,3 +1,4 @@
+//! The bytes of a decision.
 ghost use Rattle.std.specs.Prelude.{◌≡◌, ◌++◌, OnOk};
 ghost use Rattle.std.specs.Option.{option_map};
 ghost use Rattle.pseudo_time.specs.declared.decisions.Decision.TheVariants.{Expired};

@@ -1,3 +1,4 @@
+//! What is read of a field is in range, and its bytes are what was read.
 ghost use Rattle.std.specs.Prelude.{◌<◌, ◌^◌, ◌∷◌, [], FitsSigned};
 ghost use Rattle.std.specs.Int.{w16, w32, w64, to_be_bytes, cast_unsigned};
 ghost use Rattle.pseudo_time.specs.StampParts.{IsStamp, stamp_bytes};

@@ -1,3 +1,4 @@
+//! Numbers of one to eight bytes, the highest byte first.
 ghost use Rattle.std.specs.Prelude.{◌≡◌};
 ghost use Rattle.std.specs.Int.{w16, w32, w64};
 ghost use Rattle.std.specs.Option.{option_map};

@@ -1,3 +1,4 @@
+//! The bytes of stamps and pseudotimes.
 ghost use Rattle.std.specs.Prelude.{◌≡◌, ◌++◌, OnOk};
 ghost use Rattle.std.specs.Option.{option_map};
 ghost use Rattle.pseudo_time.specs.StampParts.{stamp_bytes};

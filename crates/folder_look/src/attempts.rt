@@ -1,3 +1,4 @@
+//! The acts and attempts of a broker, as HTML.
 ghost use Rattle.std.specs.Prelude.{◌≡◌, ◌++◌, OnOk};
 ghost use Rattle.folder_look.specs.Attempts as spec;
 ghost use Rattle.report_writer.specs.Parts.{kind_text};

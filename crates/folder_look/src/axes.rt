@@ -1,3 +1,4 @@
+//! The columns of the page: the pseudotimes at which something starts or ends.
 ghost use Rattle.std.specs.Prelude.{◌≡◌, ◌≤◌, [], OnOk, IfOk};
 ghost use Rattle.folder_look.specs.Axes as spec;
 

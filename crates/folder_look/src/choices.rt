@@ -1,3 +1,4 @@
+//! Which objects and versions a page shows.
 ghost use Rattle.std.specs.Prelude.{◌≡◌};
 ghost use Rattle.folder_look.specs.Choices as spec;
 

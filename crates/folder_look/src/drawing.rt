@@ -1,3 +1,4 @@
+//! Versions as bars, in HTML.
 ghost use Rattle.std.specs.Prelude.{◌≡◌, ◌≤◌, ◌++◌, OnOk};
 ghost use Rattle.std.specs.List.{flat_map};
 ghost use Rattle.folder_look.specs.Drawing as spec;

@@ -1,3 +1,4 @@
+//! What the page promises: its tags are the frame's, and no version is lost or doubled.
 ghost use Rattle.std.specs.Prelude.{◌≡◌, ◌≤◌, ◌+◌, ℕ, List, length, reverse, true};
 ghost use Rattle.pseudo_time.specs.Lists.{Has};
 ghost use Rattle.value_form.specs.declared.objects.ObjectId.{ObjectId};

@@ -1,3 +1,4 @@
+//! What a page knows about a folder.
 use effect_form::Effect;
 use pseudo_time::{NodeKind, PseudoTime};
 use value_form::{Items, ObjectId, Value};

@@ -1,3 +1,4 @@
+//! The media of a folder, as HTML.
 ghost use Rattle.std.specs.Prelude.{◌≡◌, ◌++◌, ◌≤◌, ◌<◌, ◌-◌, ◌*◌, ◌/◌, min, OnOk};
 ghost use Rattle.std.specs.List.{flat_map};
 ghost use Rattle.folder_look.specs.MediaText as spec;

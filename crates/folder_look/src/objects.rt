@@ -1,3 +1,4 @@
+//! The objects that logs name, and those that a page shows.
 ghost use Rattle.std.specs.Prelude.{◌≡◌, [], IfOk, OnOk, length};
 ghost use Rattle.std.specs.List.{filter};
 ghost use Rattle.folder_look.specs.Choices.{has_object};

@@ -1,3 +1,4 @@
+//! The whole page.
 ghost use Rattle.std.specs.Prelude.{◌≡◌, ◌++◌, OnOk, IfOk, length};
 ghost use Rattle.folder_look.specs.Objects.{objects_of, objects_left, rows_of};
 ghost use Rattle.folder_look.specs.Page as spec;

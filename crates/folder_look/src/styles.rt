@@ -1,3 +1,4 @@
+//! The style sheet of the page.
 ghost use Rattle.std.specs.Prelude.{◌≡◌, ◌++◌, OnOk};
 ghost use Rattle.folder_look.specs.Style as spec;
 

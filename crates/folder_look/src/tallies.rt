@@ -1,3 +1,4 @@
+//! The numbers at the top of the page.
 ghost use Rattle.std.specs.Prelude.{◌≡◌};
 ghost use Rattle.folder_look.specs.Tallies as spec;
 

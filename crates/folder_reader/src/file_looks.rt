@@ -1,3 +1,4 @@
+//! Reads the files of a folder without changing them.
 ghost use Rattle.std.specs.Prelude.{◌≡◌, ◌≢◌, ◌≤◌, [], IfOk, IfSome};
 
 use crate::file_names::{name_of, path_of};

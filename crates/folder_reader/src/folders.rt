@@ -1,3 +1,4 @@
+//! Reads a folder, node by node and volume by volume.
 use crate::file_looks::{look_in, shut};
 use crate::lost_files::later_name;
 use folder_look::MediumLook;

@@ -1,3 +1,4 @@
+//! A medium over a file that was opened for reading.
 ghost use Rattle.std.specs.Prelude.{◌≡◌, ◌≤◌, None, false, true};
 ghost use Rattle.stream_port.specs.Causes.{Rose};
 

@@ -1,3 +1,4 @@
+//! Which pages of a medium have a gate, and which are spoiled.
 ghost use Rattle.std.specs.Prelude.{◌≡◌, ◌≢◌, ◌≤◌, ◌<◌, ◌+◌, ◌++◌, [], ◌∷◌, IsTrue, ℕ, Ok, Err, IfOk, IfErr, OnOk, false, if◌then◌else◌};
 ghost use Rattle.version_store.specs.Storage.{storage};
 ghost use Rattle.folder_reader.specs.Strips.{gated_below, is_gated, is_spoiled, spoiled_below};

@@ -1,3 +1,4 @@
+//! Writes what is carried forward into a fresh volume.
 ghost use Rattle.std.specs.Prelude.{◌≡◌, ◌≢◌, [], ◌+◌, ◌<◌, ◌≤◌, ℕ, IsTrue, false, Ok, IfOk, IfErr, length};
 ghost use Rattle.stream_port.specs.Causes.{Rose};
 ghost use Rattle.medium_port.specs.Image.{Image};

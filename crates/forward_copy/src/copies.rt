@@ -1,3 +1,4 @@
+//! What a retirement makes of a log.
 use effect_form::Effect;
 
 /// What a retirement makes of a log: the effects that it carries forward, between its mark and the Whole,

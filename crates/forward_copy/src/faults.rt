@@ -1,3 +1,4 @@
+//! Why a log isn't carried forward.
 use pseudo_time::PseudoTime;
 use std::alloc::{AllocError, AllocFailed};
 use value_form::ObjectId;

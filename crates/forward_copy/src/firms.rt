@@ -1,3 +1,4 @@
+//! The last committed version of each object below the mark.
 ghost use Rattle.std.specs.Prelude.{◌≡◌, ◌∷◌, List, length, IfOk, OnOk, reverse};
 ghost use Rattle.std.specs.FinMap as finite;
 ghost use Rattle.effect_form.specs.declared.effects.Effect.{Effect};

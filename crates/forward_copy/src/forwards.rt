@@ -1,3 +1,4 @@
+//! Retires a log at a mark.
 ghost use Rattle.std.specs.Prelude.{◌≡◌, false, IfOk, IfErr, IfNone, IfSome, reverse};
 ghost use Rattle.object_history.specs.History as history;
 ghost use Rattle.repository_log.specs.Logs.{marks};

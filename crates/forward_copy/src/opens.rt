@@ -1,3 +1,4 @@
+//! The first undecided version below the mark.
 ghost use Rattle.std.specs.Prelude.{◌≡◌, ◌∷◌, List, reverse};
 ghost use Rattle.std.specs.FinMap as finite;
 ghost use Rattle.effect_form.specs.declared.effects.Effect.{Effect};

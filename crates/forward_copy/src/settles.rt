@@ -1,3 +1,4 @@
+//! How a log's attempts were decided.
 ghost use Rattle.std.specs.Prelude.{◌≡◌, ◌∷◌, List, IfOk, OnOk, reverse};
 ghost use Rattle.effect_form.specs.declared.effects.Effect.{Effect};
 ghost use Rattle.forward_copy.specs.Settled.{AreKnown};

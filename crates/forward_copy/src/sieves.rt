@@ -1,3 +1,4 @@
+//! Which effects are carried forward, and which are given up.
 ghost use Rattle.std.specs.Prelude.{◌≡◌, length, not, IfOk, reverse};
 ghost use Rattle.forward_copy.specs.Firms as spec;
 ghost use Rattle.forward_copy.specs.Sifted.{sifted};

@@ -1,3 +1,4 @@
+//! A version, by its object and its start.
 ghost use Rattle.std.specs.Prelude.{◌≡◌};
 ghost use Rattle.forward_copy.specs.Opens as spec;
 

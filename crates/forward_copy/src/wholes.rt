@@ -1,3 +1,4 @@
+//! Whether a volume is complete: its log has a Whole.
 ghost use Rattle.std.specs.Prelude.{◌≡◌};
 ghost use Rattle.forward_copy.specs.Wholes as spec;
 

@@ -1,3 +1,4 @@
+//! Cases of histories in version storage.
 ghost use Rattle.std.specs.Prelude.{◌≡◌, false, IfOk};
 ghost use Rattle.effect_form.specs.Effects.{IsEffect, AreEffects};
 

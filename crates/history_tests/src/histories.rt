@@ -1,3 +1,4 @@
+//! Cases of one object's history: calls, and what they say.
 ghost use Rattle.std.specs.Prelude.{◌≡◌, List, OnErr};
 ghost use Rattle.pseudo_time.specs.TimeParts.{TimeParts};
 ghost use Rattle.value_form.specs.declared.objects.ObjectId.{ObjectId};

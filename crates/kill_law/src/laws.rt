@@ -1,3 +1,4 @@
+//! Each place of a run is a past that a later run may follow.
 ghost use Rattle.std.specs.Prelude.{◌≡◌, ◌++◌, ℕ, true, List};
 ghost use Rattle.pseudo_time.specs.declared.nodes.NodeId.{NodeId};
 ghost use Rattle.effect_form.specs.declared.effects.Effect.{Effect};

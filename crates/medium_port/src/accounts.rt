@@ -1,3 +1,4 @@
+//! What is said about files on standard error.
 use std::alloc::{AllocError, Global};
 use std::fmt::Display;
 use std::io::{Stderr, Write};

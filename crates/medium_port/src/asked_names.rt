@@ -1,3 +1,4 @@
+//! The names that a shelf was asked for, for contracts alone.
 ghost use Rattle.std.specs.Prelude.{◌≡◌, ◌++◌, ◌∷◌, []};
 ghost use Rattle.medium_port.specs.AskedNames.{names_of};
 

@@ -1,3 +1,4 @@
+//! What happened on a medium in memory: writes and syncs.
 ghost use Rattle.std.specs.Prelude.{◌≡◌, IfOk};
 
 use crate::stops::Stop;

@@ -1,3 +1,4 @@
+//! How long a medium's file is, and when it grows.
 ghost use Rattle.std.specs.Prelude.{◌≤◌, IfOk};
 
 use crate::lost_files::refuse_lost;

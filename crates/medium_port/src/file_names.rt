@@ -1,3 +1,4 @@
+//! The path of a medium's file.
 use crate::shelves::MediumName;
 use pseudo_time::NodeKind;
 use std::alloc::{AllocError, Global};

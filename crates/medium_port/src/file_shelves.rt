@@ -1,3 +1,4 @@
+//! A shelf over the files of a folder, under a lock.
 ghost use Rattle.std.specs.Prelude.{◌≡◌, ◌≤◌, IfOk, IfSome};
 ghost use Rattle.medium_port.specs.Files.{IsNewMedium};
 

@@ -1,3 +1,4 @@
+//! How often a medium failed.
 ghost use Rattle.std.specs.Prelude.{◌≡◌, ◌≤◌, true};
 ghost use Rattle.stream_port.specs.Causes.{Rose, next_count};
 

@@ -1,3 +1,4 @@
+//! A volume that is missing below one that is there is refused.
 use crate::file_kinds::is_there;
 use crate::file_names::path_of;
 use crate::refusals::Refusal;

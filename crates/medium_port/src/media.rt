@@ -1,3 +1,4 @@
+//! What a medium is: pages that outlive a crash.
 ghost use Rattle.std.specs.Prelude.{◌≡◌, ◌+◌, ◌<◌, ◌≤◌, List, ℕ, Bool, Option, Some, IsTrue, is_err, false, length, OnOk, OnErr};
 ghost use Rattle.stream_port.specs.Causes.{HasCause};
 ghost use Rattle.medium_port.specs.Image.{Image, IsImage, page_of, Written, Torn, Follows, Only, NoMore};

@@ -1,3 +1,4 @@
+//! A medium in memory that waits for another one at its first write.
 ghost use Rattle.std.specs.Prelude.{◌≡◌};
 
 use crate::media::{Medium, MediumFault};

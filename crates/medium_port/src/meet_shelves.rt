@@ -1,3 +1,4 @@
+//! A shelf of media that wait for one another.
 ghost use Rattle.std.specs.Prelude.{◌≡◌, ◌≤◌, [], None, IfOk};
 ghost use Rattle.medium_port.specs.declared.shelves.MediumName.{MediumName};
 

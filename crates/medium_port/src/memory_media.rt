@@ -1,3 +1,4 @@
+//! A medium in memory, which can stop at any call and tear what was written.
 ghost use Rattle.std.specs.Prelude.{◌≡◌, ◌+◌, ◌<◌, ◌≤◌, [], None, Some, true, false, length, is_err, IsTrue, IfOk, OnOk, OnErr};
 ghost use Rattle.stream_port.specs.Causes.{HasCause, Rose};
 ghost use Rattle.medium_port.specs.Image.{IsImage, IsBlankImage, page_of, Written, Torn, Follows, Only, NoMore};

@@ -1,3 +1,4 @@
+//! A shelf over media in memory.
 ghost use Rattle.std.specs.Prelude.{◌≡◌, ◌≢◌, ◌↔◌, ◌⊎◌, ◌≤◌, ◌++◌, [], ◌∷◌, Some, None, ℕ, length, slice_index, false, true, Contains, IsTrue, IfOk, IfErr, IsErr, OnOk, OnErr, IfSome, IfNone};
 ghost use Rattle.stream_port.specs.Causes.{HasCause, Rose};
 ghost use Rattle.medium_port.specs.declared.shelves.MediumName.{MediumName};

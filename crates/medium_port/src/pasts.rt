@@ -1,3 +1,4 @@
+//! Everything that a crash may leave on a medium in memory.
 ghost use Rattle.std.specs.Prelude.{◌≡◌, ◌+◌, ◌<◌, ◌≤◌, ◌++◌, [], ◌∷◌, ℕ, Option, length, slice_index, true, MatchBool, IfOk, IfSome};
 ghost use Rattle.medium_port.specs.Image.{IsImage, IsBlankImage, page_of, put_bytes, Torn, Follows, Only, NoMore};
 ghost use Rattle.medium_port.specs.Stops.{torn_bytes};

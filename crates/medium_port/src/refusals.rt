@@ -1,3 +1,4 @@
+//! Why a file is refused.
 use crate::file_lengths::MOST_PAGES;
 use crate::lost_files::Lost;
 use std::alloc::AllocError;

@@ -1,3 +1,4 @@
+//! What a shelf is: it hands out the media of nodes, each once.
 ghost use Rattle.std.specs.Prelude.{◌≡◌, ◌≢◌, ◌↔◌, ◌++◌, ◌∷◌, [], ℕ, List, IsTrue, IsErr, IfOk, OnErr, false};
 ghost use Rattle.stream_port.specs.Causes.{HasCause};
 ghost use Rattle.medium_port.specs.Image.{Image};

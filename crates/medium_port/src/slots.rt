@@ -1,3 +1,4 @@
+//! The media of a shelf, by their names.
 ghost use Rattle.std.specs.Prelude.{◌≡◌, Some, None, IfErr, OnOk, MatchOption};
 ghost use Rattle.medium_port.specs.Slots.{is_same_name, slot_of, IsPlace, NowHas};
 

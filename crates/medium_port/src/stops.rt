@@ -1,3 +1,4 @@
+//! Where a medium in memory stops, and what it tears.
 ghost use Rattle.std.specs.Prelude.{◌≡◌, is_some};
 ghost use Rattle.stream_port.specs.Causes.{next_count};
 ghost use Rattle.medium_port.specs.Stops.{is_at, first_met, without_met};

@@ -1,3 +1,4 @@
+//! The file that a call asks for.
 use crate::shelves::MediumName;
 use std::alloc::Global;
 

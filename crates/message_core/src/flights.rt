@@ -1,3 +1,4 @@
+//! The copies of messages on their way.
 ghost use Rattle.std.specs.Prelude.{◌≡◌, ◌↔◌, ◌+◌, ◌++◌, ◌==◌, ◌&&◌, not, ℕ, List, [], Some, replicate, IfOk, IfNone, OnOk, OnErr, IsTrue, if◌then◌else◌};
 ghost use Rattle.std.specs.Option.{option_map};
 ghost use Rattle.stream_port.specs.Fates.{copies_of};

@@ -1,3 +1,4 @@
+//! Copies that are held until a tick.
 ghost use Rattle.std.specs.Prelude.{◌≡◌, ◌==◌, ◌++◌, [], ℕ, OnOk, OnErr, replicate, if◌then◌else◌};
 ghost use Rattle.message_core.specs.Queues.{held_in};
 

@@ -1,3 +1,4 @@
+//! Laws of copies: none appears from nowhere, and none is forgotten.
 ghost use Rattle.std.specs.Prelude.{◌≡◌, ◌<◌, ◌&&◌, not, ℕ, List, [], ◌∷◌, Some, map, slice_get, is_some};
 ghost use Rattle.std.specs.List.{list_any};
 ghost use Rattle.pseudo_time.specs.Nodes.{same_node};

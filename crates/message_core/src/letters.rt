@@ -1,3 +1,4 @@
+//! Messages as texts, and their copies.
 ghost use Rattle.std.specs.Prelude.{◌≡◌, ◌-◌, ◌≤◌, Some, length, take, slice_get, IfOk};
 ghost use Rattle.pseudo_time.specs.declared.nodes.NodeId.{NodeId};
 ghost use Rattle.message_form.specs.Messages.{IsMessage, message_bytes};

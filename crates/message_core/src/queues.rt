@@ -1,3 +1,4 @@
+//! The queues of due copies, one for each node that is up.
 ghost use Rattle.std.specs.Prelude.{◌≡◌, ◌↔◌, ◌+◌, ◌-◌, ◌≤◌, ◌<◌, ◌++◌, ◌∷◌, [], ℕ, List, Option, length, take, drop, slice_get, IsTrue, IfOk, OnOk, OnErr, Some, None, if◌then◌else◌};
 ghost use Rattle.std.specs.Option.{option_map, unwrap_or};
 ghost use Rattle.std.specs.List.{list_any};

@@ -1,3 +1,4 @@
+//! Why no message was read.
 use std::alloc::AllocError;
 
 /// Why no message was read.

@@ -1,3 +1,4 @@
+//! A node's log, for contracts alone.
 ghost use Rattle.std.specs.Prelude.{◌≡◌, ◌++◌, [], map, IfOk, OnOk, OnErr};
 
 use effect_form::Effect;

@@ -1,3 +1,4 @@
+//! Reads a message from its text.
 ghost use Rattle.std.specs.Prelude.{◌≡◌, ◌++◌, List, ℕ, Ok, length, IfOk};
 ghost use Rattle.std.specs.Option.{option_map};
 ghost use Rattle.field_form.specs.Decisions.{decision_at};

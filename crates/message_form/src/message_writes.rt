@@ -1,3 +1,4 @@
+//! Appends the text of a message.
 ghost use Rattle.std.specs.Prelude.{◌≡◌, ◌++◌, ◌∷◌, OnOk, OnErr, IfOk};
 ghost use Rattle.pseudo_time.specs.StampParts.{stamp_bytes};
 ghost use Rattle.pseudo_time.specs.TimeParts.{time_bytes};

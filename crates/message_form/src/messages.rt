@@ -1,3 +1,4 @@
+//! The messages between brokers and repositories.
 ghost use Rattle.std.specs.Prelude.{◌≡◌, IfOk};
 
 use pseudo_time::{Decision, PseudoTime, Stamp};

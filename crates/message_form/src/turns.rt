@@ -1,3 +1,4 @@
+//! What a turn of a node gives: effects, and messages to send.
 ghost use Rattle.std.specs.Prelude.{◌≡◌, [], IfOk};
 
 use crate::Message;

@@ -1,3 +1,4 @@
+//! A turn while it is in hand.
 ghost use Rattle.std.specs.Prelude.{◌≡◌, ◌++◌, OnOk};
 ghost use Rattle.node_inputs.specs.Lives.{no_draft};
 

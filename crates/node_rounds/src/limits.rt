@@ -1,3 +1,4 @@
+//! How far a run may go.
 /// How far a run may go, and on how many threads.
 #[derive(Clone, Copy, Debug, PartialEq, Eq)]
 pub struct Limits {

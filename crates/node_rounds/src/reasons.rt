@@ -1,3 +1,4 @@
+//! Why no further round follows.
 /// Why no further round follows.
 #[derive(Clone, Copy, Debug, PartialEq, Eq)]
 pub enum Reason {

@@ -1,3 +1,4 @@
+//! Cases of nodes: steps of a trace, and what they lead to.
 ghost use Rattle.std.specs.Prelude.{◌≤◌, ◌^◌, IfOk};
 ghost use Rattle.pseudo_time.specs.Lists.{Every};
 ghost use Rattle.value_form.specs.Mirror.{block};

@@ -1,3 +1,4 @@
+//! How a node is between two turns, and what a turn came to.
 use node_inputs::DownCause;
 
 /// How a node stands between two turns.

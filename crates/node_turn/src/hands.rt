@@ -1,3 +1,4 @@
+//! What a node has beside its pass.
 use crate::conditions::Condition;
 
 /// What a node has beside its pass.

@@ -1,3 +1,4 @@
+//! Marks that are added to a header.
 ghost use Rattle.std.specs.Prelude.{◌≡◌, List, OnOk, IfOk, IfSome};
 ghost use Rattle.value_form.specs.ValueBytes.{IsValue};
 ghost use Rattle.object_history.specs.Ranges.{IsMark};

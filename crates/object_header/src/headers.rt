@@ -1,3 +1,4 @@
+//! Histories in version storage: a header for each object, and its chain of versions.
 ghost use Rattle.std.specs.Prelude.{◌≡◌, ◌≢◌, ◌≤◌, ◌<◌, ◌+◌, [], ◌++◌, ℕ, count_by, length, IsTrue, IfOk, IfErr, IfSome, false, reverse};
 ghost use Rattle.stream_port.specs.Causes.{Rose};
 ghost use Rattle.medium_port.specs.Image.{Image, Only};

@@ -1,3 +1,4 @@
+//! The headers of all objects, and how stamps are decided.
 ghost use Rattle.std.specs.Prelude.{◌≡◌, [], ◌∷◌, true, false, Some, None, List, OnOk, OnErr};
 ghost use Rattle.std.specs.FinMap as finite;
 ghost use Rattle.pseudo_time.specs.Order.{lt};

@@ -1,3 +1,4 @@
+//! Marks that are kept for contracts alone.
 ghost use Rattle.std.specs.Prelude.{◌≡◌, ◌++◌, [], ◌∷◌, OnOk, IfOk, reverse};
 ghost use Rattle.effect_form.specs.Effects.{IsEffect, AreEffects};
 ghost use Rattle.object_header.specs.Marks.{added};

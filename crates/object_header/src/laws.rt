@@ -1,3 +1,4 @@
+//! What the marks of new effects add to histories.
 ghost use Rattle.std.specs.Prelude.{◌≡◌, [], ◌++◌, ℕ, List, Option, reverse};
 ghost use Rattle.effect_form.specs.declared.effects.Effect.{Effect};
 ghost use Rattle.repository_log.specs.Logs.{HasMarks, marks};

@@ -1,3 +1,4 @@
+//! What a table of headers knows beside its store.
 ghost use Rattle.std.specs.Prelude.{◌≡◌, [], ◌∷◌, ◌++◌, true, false, OnOk, OnErr, IfOk, IfSome, reverse};
 ghost use Rattle.pseudo_time.specs.Order.{lt};
 ghost use Rattle.value_form.specs.declared.values.Value.{Value};

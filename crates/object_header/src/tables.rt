@@ -1,3 +1,4 @@
+//! A table of headers is a repository's histories.
 ghost use Rattle.version_store.specs.StoreWords.{medium_of, left_in, damage_in};
 ghost use Rattle.object_header.specs.Ledgers.{beneath, content, told_medium};
 

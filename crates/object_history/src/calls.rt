@@ -1,3 +1,4 @@
+//! What histories are asked: to read, to write, to settle.
 ghost use Rattle.std.specs.Prelude.{Bool, IsTrue, ◌≡◌, ℕ, List, ◌∷◌, Option, None, IfOk, OnOk, OnErr, IfErr};
 ghost use Rattle.value_form.specs.ObjectBytes.{IsObject};
 ghost use Rattle.value_form.specs.ValueBytes.{IsValue};

@@ -1,3 +1,4 @@
+//! Laws of an object's history.
 // Each law holds for every list of marks, newest first.
 ghost use Rattle.std.specs.Prelude.{◌≡◌, ◌≢◌, ◌⊎◌, Bool, true, false, List, ◌∷◌, ◌++◌, Option, Some, None};
 ghost use Rattle.pseudo_time.specs.StampParts.{StampParts};

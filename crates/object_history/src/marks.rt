@@ -1,3 +1,4 @@
+//! The marks of which histories are made.
 use pseudo_time::{PseudoTime, Stamp};
 use value_form::{ObjectId, Value};
 

@@ -1,3 +1,4 @@
+//! Histories in memory.
 ghost use Rattle.std.specs.Prelude.{◌≡◌, [], ◌∷◌, Some, None, IfOk, OnOk, OnErr, reverse, unwrap_or, ◌&&◌};
 ghost use Rattle.std.specs.Option.{option_copied, option_map};
 ghost use Rattle.value_form.specs.declared.values.Value.TheVariants as value;

@@ -1,3 +1,4 @@
+//! What a read or a write of an object comes to.
 use pseudo_time::{PseudoTime, Stamp};
 use std::alloc::{AllocError, AllocFailed};
 use value_form::Value;

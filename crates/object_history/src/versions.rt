@@ -1,3 +1,4 @@
+//! The versions of an object, and which of them a read sees.
 ghost use Rattle.std.specs.Prelude.{◌≡◌, OnOk, OnErr, Some, true, reverse};
 ghost use Rattle.std.specs.Option.{option_copied};
 ghost use Rattle.object_history.specs.History.{top};

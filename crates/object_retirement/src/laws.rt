@@ -1,3 +1,4 @@
+//! What a retirement keeps, and what it gives up.
 // Each law holds for lists of marks, or for logs, newest first.
 ghost use Rattle.std.specs.Prelude.{◌≡◌, ◌⊎◌, ◌≤◌, Bool, true, false, List, ◌∷◌, Some};
 ghost use Rattle.pseudo_time.specs.Lists.{Has};

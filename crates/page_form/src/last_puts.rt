@@ -1,3 +1,4 @@
+//! The last put of each object, for back places.
 ghost use Rattle.std.specs.Prelude.{◌≡◌, ◌++◌, [], ◌∷◌, ◌<◌, ℕ, Option, OnOk, IfOk};
 ghost use Rattle.effect_form.specs.Effects.{IsPlace, IsWritten, IsEffect};
 ghost use Rattle.page_form.specs.Entries.{Log, put_object, back_in, same_back};

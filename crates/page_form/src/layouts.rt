@@ -1,3 +1,4 @@
+//! Lays effects out on pages.
 ghost use Rattle.std.specs.Prelude.{◌≡◌, ◌++◌, ◌+◌, ◌-◌, ◌/◌, ◌<◌, ◌≤◌, ℕ, List, get_or, [], ◌∷◌, length, map, All, OnOk, IfOk, None};
 ghost use Rattle.effect_form.specs.Effects.{effect_bytes, IsEffect, size_of, AreEffects};
 ghost use Rattle.page_form.specs.Entries.{Log, back_in};

@@ -1,3 +1,4 @@
+//! Reads the effects of a page.
 ghost use Rattle.std.specs.Prelude.{◌≡◌, ◌+◌, ◌<◌, ◌≤◌, ◌++◌, List, ℕ, length, Some, None, IfOk, IfSome, OnOk, MatchOption, MatchBool};
 ghost use Rattle.std.specs.Option.{option_map};
 ghost use Rattle.field_form.specs.Forms.{IsBytes};

@@ -1,3 +1,4 @@
+//! What a page holds: whole effects, or a piece of a long one.
 /// What the bytes of a page are.
 #[derive(Clone, Copy, Debug, PartialEq, Eq)]
 pub enum Piece {

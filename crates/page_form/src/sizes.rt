@@ -1,3 +1,4 @@
+//! How much a page holds, and how many pages effects fill.
 ghost use Rattle.std.specs.Prelude.{◌≡◌, ◌≤◌, ◌<◌, ◌+◌, ◌^◌, ℕ, List, length, get_or};
 ghost use Rattle.effect_form.specs.Effects.{AreEffects, IsEffect};
 ghost use Rattle.effect_form.specs.declared.effects.Effect.{Effect};

@@ -1,3 +1,4 @@
+//! The gate byte of a page, and what it says.
 ghost use Rattle.std.specs.Prelude.{◌≡◌, ◌+◌, ◌<◌, ◌≤◌, ◌⊎◌, List, ℕ, Some, IsTrue, is_err, false, length, drop, slice_set, IfOk, OnOk, OnErr};
 ghost use Rattle.stream_port.specs.Causes.{HasCause};
 ghost use Rattle.medium_port.specs.Image.{Image, page_of, Written, Torn, Only, NoMore};

@@ -1,3 +1,4 @@
+//! What the text of bytes never has: a tag, or an end of its attribute.
 ghost use Rattle.std.specs.Prelude.{◌≡◌, ℕ, List, true};
 ghost use Rattle.std.specs.List.{list_all};
 ghost use Rattle.page_text.specs.Escapes.{AreBytes, attribute_text, has_references, is_inside, page_text, read_back};

@@ -1,3 +1,4 @@
+//! Appends bytes as text of an element or of an attribute.
 ghost use Rattle.std.specs.Prelude.{◌≡◌, ◌<◌, ◌++◌, OnOk};
 ghost use Rattle.std.specs.List.{flat_map};
 ghost use Rattle.page_text.specs.Escapes.{attribute_byte, attribute_text, hex_digit, other_byte, page_text, text_byte};

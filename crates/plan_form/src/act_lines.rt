@@ -1,3 +1,4 @@
+//! Reads the line of an act.
 ghost use Rattle.std.specs.Prelude.{◌≡◌, ◌≤◌, ◌-◌, ◌^◌, IfSome, MatchOption};
 ghost use Rattle.plan_form.specs.Plans.{IsActLine, InRange};
 ghost use Rattle.plan_form.specs.Reading.{clock_at, terms_at};

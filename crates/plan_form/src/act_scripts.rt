@@ -1,3 +1,4 @@
+//! Reads the script of an act.
 ghost use Rattle.std.specs.Prelude.{◌≡◌, ◌+◌, ◌≤◌, length};
 ghost use Rattle.std.specs.List.{list_all};
 ghost use Rattle.plan_form.specs.Plans as spec;

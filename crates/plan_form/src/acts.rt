@@ -1,3 +1,4 @@
+//! Reads the acts of a plan.
 ghost use Rattle.std.specs.Prelude.{◌≡◌, ◌≤◌, ◌<◌, ◌+◌, length};
 ghost use Rattle.plan_form.specs.Plans.{terms};
 ghost use Rattle.plan_form.specs.Reads.{ReadsAct, ReadsActs};

@@ -1,3 +1,4 @@
+//! Decimal numbers in a line.
 ghost use Rattle.std.specs.Prelude.{◌≡◌, ◌≤◌, ◌<◌, ◌^◌, IfSome};
 ghost use Rattle.std.specs.Option.{option_map, option_copied};
 ghost use Rattle.plan_form.specs.Plans.{InRange};

@@ -1,3 +1,4 @@
+//! Reads the head of a plan.
 ghost use Rattle.std.specs.Prelude.{◌≡◌, ◌<◌, ◌∷◌, length, MatchOption};
 ghost use Rattle.script_form.specs.Lines.{lines};
 ghost use Rattle.plan_form.specs.Plans.{title};

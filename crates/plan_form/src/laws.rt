@@ -1,3 +1,4 @@
+//! Bytes are one plan at most, and what a seed makes is a plan.
 ghost use Rattle.std.specs.Prelude.{◌≡◌, ◌≤◌, ℕ, List, length};
 ghost use Rattle.plan_form.specs.declared.plans.Plan.{Plan};
 ghost use Rattle.plan_form.specs.declared.plan_faults.PlanKind.{PlanKind};

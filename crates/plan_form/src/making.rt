@@ -1,3 +1,4 @@
+//! Makes a plan from a seed.
 ghost use Rattle.std.specs.Prelude.{◌≡◌, ◌≤◌, ◌<◌, ◌^◌, IfOk, OnOk};
 ghost use Rattle.value_form.specs.MirrorLaws.{made_all};
 ghost use Rattle.plan_form.specs.Making as spec;

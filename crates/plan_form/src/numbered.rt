@@ -1,3 +1,4 @@
+//! Lines that are a word and a number.
 ghost use Rattle.std.specs.Prelude.{◌≡◌, ◌<◌, ◌^◌, ◌∷◌, ◌++◌, [], length, MatchOption};
 ghost use Rattle.std.specs.Fmt.{decimal};
 ghost use Rattle.script_form.specs.Lines.{lines};

@@ -1,3 +1,4 @@
+//! Reads a plan.
 ghost use Rattle.plan_form.specs.PlanFaults.{Parses};
 
 use crate::acts::acts_of;

@@ -1,3 +1,4 @@
+//! What can be wrong with a plan.
 ghost use Rattle.std.specs.Prelude.{◌≡◌};
 ghost use Rattle.plan_form.specs.PlanFaults.{kind_text};
 

@@ -1,3 +1,4 @@
+//! A plan: what is run, and on how many nodes.
 use value_form::{ActSpec, Items};
 
 /// What is to be run, and on how many nodes.

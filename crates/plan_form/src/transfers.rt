@@ -1,3 +1,4 @@
+//! Scripts of made plans: transfers between accounts.
 ghost use Rattle.std.specs.Prelude.{◌≡◌, ◌++◌, IfOk};
 ghost use Rattle.value_form.specs.declared.expressions.Expr.TheVariants as e;
 ghost use Rattle.value_form.specs.declared.expressions.Infix.TheVariants as o;

@@ -1,3 +1,4 @@
+//! Room for the volumes of a plan's nodes.
 ghost use Rattle.std.specs.Prelude.{◌≡◌, ◌≤◌, [], length, vec_capacity, All, IfOk};
 ghost use Rattle.plan_form.specs.PlanTexts.{CanRun};
 ghost use Rattle.run_volumes.specs.Places as order;

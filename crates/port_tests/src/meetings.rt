@@ -1,3 +1,4 @@
+//! Cases of media that wait for one another.
 ghost use Rattle.std.specs.Prelude.{◌≡◌, false};
 
 use medium_port::{Medium, MediumFault, MeetShelf, Shelf};

@@ -1,3 +1,4 @@
+//! Cases of shelves over memory and over files.
 ghost use Rattle.std.specs.Prelude.{◌≡◌, false};
 
 use medium_port::{FileShelf, Medium, MediumFault, MemoryMedium, MemoryShelf, Shelf};

@@ -1,3 +1,4 @@
+//! Cases of sources and sinks.
 use std::io::{self, Cursor};
 use std::test::*;
 use std::time::{self, Duration};

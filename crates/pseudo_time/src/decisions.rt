@@ -1,3 +1,4 @@
+//! How a commit record was decided.
 /// How a commit record was decided, once and for good (Reed 1978).
 ///
 /// Every decision but `Committed` is an abort.

@@ -1,3 +1,4 @@
+//! Why a node is down.
 /// Why a node is down.
 #[derive(Clone, Copy, Debug, PartialEq, Eq)]
 pub enum DownCause {

@@ -1,3 +1,4 @@
+//! The names of nodes.
 ghost use Rattle.std.specs.Prelude.{◌≡◌};
 
 /// What a node does in a run.

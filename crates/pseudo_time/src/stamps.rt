@@ -1,3 +1,4 @@
+//! Stamps, the names of attempts.
 ghost use Rattle.std.specs.Prelude.{◌≡◌, ◌+◌, ◌<◌, max, SomeIff};
 
 use std::marker::Model;

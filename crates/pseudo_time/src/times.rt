@@ -1,3 +1,4 @@
+//! Pseudotimes: a stamp, and a step of its attempt.
 ghost use Rattle.std.specs.Prelude.{◌≡◌, ◌≤◌, ℕ, true, false, nat_lt, IfSome, IfNone, SomeIff};
 ghost use Rattle.std.specs.Cmp.Lexicographic.{slice_cmp};
 ghost use Rattle.std.specs.Ordering.{nat_cmp};

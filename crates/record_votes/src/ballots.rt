@@ -1,3 +1,4 @@
+//! What a poll wants, and what it heard.
 /// How a poll wants its stamp decided.
 #[derive(Clone, Copy, Debug, PartialEq, Eq)]
 pub enum Wish {

@@ -1,3 +1,4 @@
+//! A member: a repository that votes.
 ghost use Rattle.std.specs.Prelude.{◌≡◌, ◌+◌, ◌++◌, ◌≤◌, ◌^◌, ◌∷◌, [], OnOk, OnErr, IfOk};
 ghost use Rattle.message_form.specs.Messages.{IsMessage, IsTimeout};
 ghost use Rattle.message_form.specs.Ranges.{IsEffect, AreEffects, AreOuts};

@@ -1,3 +1,4 @@
+//! The effects of a log that votes are made of.
 ghost use Rattle.std.specs.Prelude.{◌≡◌, ◌++◌, ◌∷◌, [], OnOk, IfOk};
 ghost use Rattle.record_votes.specs.Members.{own};
 

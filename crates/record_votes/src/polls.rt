@@ -1,3 +1,4 @@
+//! A poll: it asks the members, and holds what two of them say.
 ghost use Rattle.std.specs.Prelude.{◌≡◌, ◌++◌, [], OnOk, OnErr, IfOk, Some, None, true};
 ghost use Rattle.message_form.specs.Messages.{IsMessage, IsTimeout};
 ghost use Rattle.message_form.specs.Ranges.{AreOuts};

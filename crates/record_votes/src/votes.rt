@@ -1,3 +1,4 @@
+//! The commit records of a member.
 ghost use Rattle.std.specs.Prelude.{◌≡◌, ◌++◌, ◌∷◌, ℕ, [], OnOk, OnErr, IfOk, Some, None, map};
 ghost use Rattle.effect_form.specs.declared.effects.Effect.TheVariants as effect;
 ghost use Rattle.commit_record.specs.declared.states.RecordState.TheVariants as record_state;

@@ -1,3 +1,4 @@
+//! Whatever past runs and retirements left, its attempts replay.
 ghost use Rattle.std.specs.Prelude.{ℕ, List};
 ghost use Rattle.serial_model.specs.Questions.{Tree};
 ghost use Rattle.serial_law.specs.Earlier.{Earlier};

@@ -1,3 +1,4 @@
+//! Cases of reports.
 use pseudo_time::{DownCause, NodeId, NodeKind, PseudoTime, Stamp};
 use report_writer::{ActReport, Down, Final, Report, TryOutcome, TryReport, Wire, write_report};
 use std::alloc::Global;

@@ -1,3 +1,4 @@
+//! The floor of a log, and how far a version was read above it.
 ghost use Rattle.std.specs.Prelude.{◌≡◌, reverse};
 ghost use Rattle.object_history.specs.History as history;
 ghost use Rattle.repository_log.specs.Logs.{marks};

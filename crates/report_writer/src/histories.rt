@@ -1,3 +1,4 @@
+//! The text of `history`.
 ghost use Rattle.std.specs.Prelude.{◌≡◌, IfOk};
 ghost use Rattle.report_writer.specs.Histories.{history_text};
 

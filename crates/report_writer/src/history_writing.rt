@@ -1,3 +1,4 @@
+//! Appends the lines of a history.
 ghost use Rattle.std.specs.Prelude.{◌≡◌, ◌++◌, OnOk};
 ghost use Rattle.std.specs.List.{flat_map};
 ghost use Rattle.report_writer.specs.Histories.{state_text, end_text, head_text};

@@ -1,3 +1,4 @@
+//! Appends the parts of which lines are made.
 ghost use Rattle.std.specs.Prelude.{◌≡◌, ◌∷◌, [], ◌++◌, OnOk, codes};
 ghost use Rattle.value_form.specs.ValueText.{value_text};
 ghost use Rattle.report_writer.specs.Parts.{object_text, stamp_text, time_text, access_text, line_text, kind_text};

@@ -1,3 +1,4 @@
+//! What a report says, before it is text.
 use pseudo_time::{DownCause, NodeId, PseudoTime, Stamp};
 use value_form::{FailKind, Items, Line, ObjectId, Value};
 

@@ -1,3 +1,4 @@
+//! What a log says about one object.
 ghost use Rattle.std.specs.Prelude.{◌≡◌, [], ◌∷◌, List, IfOk, OnOk, reverse};
 ghost use Rattle.effect_form.specs.declared.effects.Effect.{Effect};
 ghost use Rattle.object_history.specs.declared.marks.Mark.{Mark};

@@ -1,3 +1,4 @@
+//! How many acts ended in each way.
 ghost use Rattle.std.specs.Prelude.{◌≡◌, length};
 ghost use Rattle.report_writer.specs.Standings as spec;
 

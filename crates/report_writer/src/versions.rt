@@ -1,3 +1,4 @@
+//! The versions of an object, as a history shows them.
 ghost use Rattle.std.specs.Prelude.{◌≡◌, ◌≤◌, length, IfSome, ◌<◌};
 ghost use Rattle.report_writer.specs.Tellings as spec;
 

@@ -1,3 +1,4 @@
+//! Appends the lines of a report.
 ghost use Rattle.std.specs.Prelude.{◌≡◌, ◌∷◌, [], ◌++◌, OnOk, IfOk, ℕ, List};
 ghost use Rattle.std.specs.List.{flat_map};
 ghost use Rattle.report_writer.specs.Parts.{line_text};

@@ -1,3 +1,4 @@
+//! What a repository looks up: histories and commit records.
 ghost use Rattle.std.specs.Prelude.{◌≡◌, ℕ, ◌∷◌, List, Some, None, IsTrue, IfOk, OnOk, IfErr};
 ghost use Rattle.pseudo_time.specs.StampParts.{StampParts};
 ghost use Rattle.pseudo_time.specs.declared.decisions.Decision.{Decision};

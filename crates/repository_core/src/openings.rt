@@ -1,3 +1,4 @@
+//! What a core that opens over a log looks up.
 ghost use Rattle.std.specs.Prelude.{◌≡◌, ◌≤◌, ◌^◌, [], IfOk, reverse};
 ghost use Rattle.repository_log.specs.Logs.{marks};
 ghost use Rattle.repository_log.specs.Lookups.{BooksShow};

@@ -1,3 +1,4 @@
+//! The core of a repository: its rules.
 ghost use Rattle.std.specs.Prelude.{◌≡◌, ◌≤◌, ◌^◌, false, IsTrue, IfOk, IfErr, reverse};
 ghost use Rattle.repository_draft.specs.Messages.{IsMessage};
 ghost use Rattle.repository_core.specs.Cores.{HasMarks, IsByRules, IsCalled};

@@ -1,3 +1,4 @@
+//! A repository at work in one call.
 ghost use Rattle.std.specs.Prelude.{◌≡◌, ◌≤◌, ◌^◌, Some, None, IsTrue, OnOk, List, ◌∷◌, true, false};
 ghost use Rattle.pseudo_time.specs.StampParts.{StampParts};
 ghost use Rattle.pseudo_time.specs.declared.decisions.Decision.{Decision};

@@ -1,3 +1,4 @@
+//! A repository's turn while it is in hand.
 ghost use Rattle.std.specs.Prelude.{◌≡◌, ◌+◌, ◌≤◌, ◌^◌, not, [], ◌++◌, reverse, IfOk, OnOk};
 ghost use Rattle.std.specs.List.{filter};
 ghost use Rattle.std.specs.BTreeSet.{insert_key};

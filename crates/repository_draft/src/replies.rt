@@ -1,3 +1,4 @@
+//! How a repository answers reads and writes.
 ghost use Rattle.std.specs.Prelude.{◌≡◌, Bool, List, OnOk, true, false};
 ghost use Rattle.std.specs.BTreeSet.{insert_key};
 ghost use Rattle.pseudo_time.specs.TimeParts.{TimeParts};

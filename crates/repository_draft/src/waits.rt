@@ -1,3 +1,4 @@
+//! Reads and repositories that wait for a decision.
 use pseudo_time::{NodeId, Stamp};
 use value_form::ObjectId;
 

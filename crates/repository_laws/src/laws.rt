@@ -1,3 +1,4 @@
+//! Laws of a repository's log and of its turns.
 // Logs stand newest first.
 ghost use Rattle.std.specs.Prelude.{◌≡◌, ℕ, Bool, true, List, [], ◌∷◌, ◌++◌, None};
 ghost use Rattle.pseudo_time.specs.Lists.{Every, Has};

@@ -1,3 +1,4 @@
+//! Laws of what waits for a decision: it is answered or told.
 // Logs stand newest first.
 ghost use Rattle.std.specs.Prelude.{◌≡◌, ◌⊎◌, ℕ, Bool, Some, None};
 ghost use Rattle.pseudo_time.specs.Lists.{Every, Has};

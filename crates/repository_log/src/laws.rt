@@ -1,3 +1,4 @@
+//! The marks of two logs, one after the other, are those of the one log.
 ghost use Rattle.std.specs.Prelude.{◌≡◌, ◌++◌, List, reverse, is_some};
 ghost use Rattle.pseudo_time.specs.StampParts.{StampParts};
 ghost use Rattle.effect_form.specs.declared.effects.Effect.{Effect};

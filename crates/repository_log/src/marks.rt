@@ -1,3 +1,4 @@
+//! What effects add to histories.
 ghost use Rattle.std.specs.Prelude.{◌≡◌, List, [], ◌∷◌, ◌++◌, IfOk, IfSome, OnOk};
 ghost use Rattle.std.specs.Option.{option_to_list};
 ghost use Rattle.effect_form.specs.declared.effects.Effect.{Effect};

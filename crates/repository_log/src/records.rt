@@ -1,3 +1,4 @@
+//! The commit records that a log has.
 ghost use Rattle.std.specs.Prelude.{◌≡◌, [], ◌∷◌, None, IfOk, OnOk, List, reverse};
 ghost use Rattle.std.specs.FinMap as finite;
 ghost use Rattle.pseudo_time.specs.StampParts.{StampParts};

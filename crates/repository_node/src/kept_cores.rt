@@ -1,3 +1,4 @@
+//! A repository's core, or the medium that a fault left of it.
 use medium_port::Medium;
 use object_header::HeaderTable;
 use repository_core::Repository;

@@ -1,3 +1,4 @@
+//! What retiring a repository can come to.
 use value_form::Bytes;
 
 /// What came of retiring a repository.

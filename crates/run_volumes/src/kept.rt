@@ -1,3 +1,4 @@
+//! The media that a call hands back, under their names.
 ghost use Rattle.std.specs.Prelude.{◌≡◌, ◌≤◌, ◌+◌, ◌++◌, length, vec_len, vec_capacity};
 ghost use Rattle.run_volumes.specs.Kept.{kept_as, kept_under};
 ghost use Rattle.run_volumes.specs.Shelves.{first_names, volume_name};

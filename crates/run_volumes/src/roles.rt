@@ -1,3 +1,4 @@
+//! Which of a node's volumes is current, and which is fresh.
 ghost use Rattle.std.specs.Prelude.{◌≡◌};
 ghost use Rattle.run_media.specs.Openings.{log_in};
 ghost use Rattle.forward_copy.specs.Currents as currents;

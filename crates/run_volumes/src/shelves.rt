@@ -1,3 +1,4 @@
+//! Takes one volume of a node.
 ghost use Rattle.run_volumes.specs.Shelves.{TakesOne, shelf_sight, volume_name};
 
 use medium_port::{Medium, Shelf};

@@ -1,3 +1,4 @@
+//! Whether a node's volumes are open, and why not.
 ghost use Rattle.run_volumes.specs.Standings.{StandsAs};
 
 use medium_port::Medium;

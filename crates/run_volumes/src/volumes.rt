@@ -1,3 +1,4 @@
+//! Takes and opens a node's volumes.
 ghost use Rattle.std.specs.Prelude.{◌≡◌, ◌≤◌, [], vec_len, vec_capacity, Option, List};
 ghost use Rattle.run_volumes.specs.Shelves.{shelf_sight};
 ghost use Rattle.run_volumes.specs.Volumes as spec;

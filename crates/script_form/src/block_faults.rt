@@ -1,3 +1,4 @@
+//! Why a row doesn't go on a script.
 use std::alloc::AllocError;
 
 /// Why a row doesn't go on a script.

@@ -1,3 +1,4 @@
+//! Builds a script from its rows.
 ghost use Rattle.std.specs.Prelude.{◌≡◌, ◌≤◌, [], IfSome, IfNone};
 ghost use Rattle.value_form.specs.Mirror.{Block, block};
 ghost use Rattle.script_form.specs.Building.{rows_so_far};

@@ -1,3 +1,4 @@
+//! The blocks that are open while a script is built.
 ghost use Rattle.std.specs.Prelude.{◌≡◌, [], ◌∷◌, ◌++◌, Some, IfOk};
 ghost use Rattle.script_form.specs.Building as spec;
 ghost use Rattle.script_form.specs.Building.{Feeds, Opens};

@@ -1,3 +1,4 @@
+//! What one line of a script holds.
 use value_form::{Bytes, Expr, Target};
 
 /// What stands on a line of a script: a statement, or a part of one.

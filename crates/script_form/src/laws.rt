@@ -1,3 +1,4 @@
+//! Lines are one script at most, and a printed script is read again as itself.
 ghost use Rattle.std.specs.Prelude.{◌≡◌, ◌<◌, ◌++◌, ℕ, List, Ok, Result, take};
 ghost use Rattle.value_form.specs.declared.scripts.Script.{Script};
 ghost use Rattle.value_form.specs.Mirror.{Block, block};

@@ -1,3 +1,4 @@
+//! A block that is open.
 use value_form::{Expr, Items, Stmt};
 
 /// How a block was opened, with its line.

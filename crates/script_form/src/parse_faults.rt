@@ -1,3 +1,4 @@
+//! Why a text is no script.
 use std::alloc::AllocError;
 
 /// What is wrong with a line of a script.

@@ -1,3 +1,4 @@
+//! Reads a script.
 ghost use Rattle.std.specs.Prelude.{◌≡◌};
 ghost use Rattle.script_form.specs.Lines.{lines};
 ghost use Rattle.script_form.specs.Parses.{Parses};

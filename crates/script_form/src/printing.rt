@@ -1,3 +1,4 @@
+//! Prints a script.
 ghost use Rattle.std.specs.Prelude.{◌≡◌, IfOk};
 ghost use Rattle.value_form.specs.Mirror.{block};
 ghost use Rattle.script_form.specs.RowTexts.{script_text};

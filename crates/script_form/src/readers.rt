@@ -1,3 +1,4 @@
+//! Reads a script line by line.
 ghost use Rattle.script_form.specs.LineReads.{fault_of};
 ghost use Rattle.std.specs.Prelude.{◌≡◌, ◌+◌, ◌≤◌, ℕ, List, SomeIff, []};
 

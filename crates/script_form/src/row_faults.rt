@@ -1,3 +1,4 @@
+//! Why a line is no row.
 use crate::parse_faults::ParseKind;
 
 // Why a line is no row.

@@ -1,3 +1,4 @@
+//! Tokens spell at most one row.
 ghost use Rattle.std.specs.Prelude.{◌≡◌, ◌≤◌, ℕ, List, true};
 ghost use Rattle.token_form.specs.declared.tokens.Token.{Token};
 ghost use Rattle.token_form.specs.Tokens.{AreTokens, IsTokens, in_range, objects_fit};

@@ -1,3 +1,4 @@
+//! Prints a row.
 ghost use Rattle.std.specs.Prelude.{◌≡◌, ◌∷◌, ◌++◌, OnOk, OnErr};
 ghost use Rattle.value_form.specs.Mirror.{spot, term};
 ghost use Rattle.expression_form.specs.Texts.{text};

@@ -1,3 +1,4 @@
+//! Reads a row from tokens.
 ghost use Rattle.std.specs.Prelude.{◌≡◌, [], IfOk, OnErr, IsErrOf};
 ghost use Rattle.token_form.specs.declared.tokens.Word.TheVariants as w;
 ghost use Rattle.value_form.specs.Mirror.{spot};

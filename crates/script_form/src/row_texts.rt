@@ -1,3 +1,4 @@
+//! How many bytes a row takes.
 ghost use Rattle.std.specs.Prelude.{◌≡◌, IfOk, length};
 ghost use Rattle.script_form.specs.Flats.{row_of};
 ghost use Rattle.script_form.specs.RowTexts.{row_text};

@@ -1,3 +1,4 @@
+//! The row on a line.
 ghost use Rattle.std.specs.Prelude.{◌≡◌, false};
 ghost use Rattle.script_form.specs.Lines.{is_blank};
 ghost use Rattle.script_form.specs.LineReads.{ReadsLine, ReadsTokens, ReadsRow};

@@ -1,3 +1,4 @@
+//! Prints the rows of a script.
 ghost use Rattle.std.specs.Prelude.{◌≡◌, ◌+◌, ◌-◌, [], ◌∷◌, ◌++◌, replicate, IfOk, OnOk, OnErr};
 ghost use Rattle.value_form.specs.Mirror.{block, plain};
 ghost use Rattle.script_form.specs.RowTexts.{Prints, line_text, script_text};

@@ -1,3 +1,4 @@
+//! Reads the object that a row names.
 ghost use Rattle.std.specs.Prelude.{◌≡◌, ◌≤◌, ◌∷◌, ℕ, List, length, MatchOption};
 ghost use Rattle.std.specs.Option.{option_map};
 ghost use Rattle.token_form.specs.declared.tokens.Token.{Token};

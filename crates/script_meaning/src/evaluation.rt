@@ -1,3 +1,4 @@
+//! What an expression gives, and which object a statement means.
 ghost use Rattle.std.specs.Prelude.{◌≡◌, IfOk};
 ghost use Rattle.script_meaning.specs.Meaning as meaning;
 ghost use Rattle.value_form.specs.Mirror.{term, spot};

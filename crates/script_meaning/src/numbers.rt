@@ -1,3 +1,4 @@
+//! Arithmetic on numbers of 64 bits, with its failures.
 ghost use Rattle.std.specs.Prelude.{◌≡◌};
 ghost use Rattle.script_meaning.specs.Operations as spec;
 

@@ -1,3 +1,4 @@
+//! What each operator and each function gives.
 ghost use Rattle.std.specs.Prelude.{◌≡◌, IfOk};
 ghost use Rattle.script_meaning.specs.Operations as spec;
 

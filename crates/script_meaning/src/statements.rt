@@ -1,3 +1,4 @@
+//! The line, the condition and the count of a statement.
 ghost use Rattle.std.specs.Prelude.{◌≡◌, IfOk};
 ghost use Rattle.script_meaning.specs.Meaning as meaning;
 ghost use Rattle.value_form.specs.Mirror.{plain, term};

@@ -1,3 +1,4 @@
+//! A part of a script that was entered.
 /// Which part of a statement is carried out.
 #[derive(Clone, Copy, Debug, PartialEq, Eq)]
 pub enum Part {

@@ -1,3 +1,4 @@
+//! Why a run of a script stops.
 use value_form::{Bytes, Ending, ObjectId, Value};
 
 /// Why a run stops: at a request, or at an ending.

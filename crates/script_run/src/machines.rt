@@ -1,3 +1,4 @@
+//! A script at work: its place, its names, and what it may still do.
 ghost use Rattle.std.specs.Prelude.{◌≡◌, ◌<◌, ◌+◌, ◌-◌, ◌∷◌, ◌^◌, OnOk, OnErr};
 
 use crate::frames::{Frame, Part};

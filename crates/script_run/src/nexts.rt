@@ -1,3 +1,4 @@
+//! What a run asks for, or how it ended.
 use value_form::{FailKind, ObjectId, Value};
 
 /// What a run requests, or how the script ended. A line is that of the statement.

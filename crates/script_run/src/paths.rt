@@ -1,3 +1,4 @@
+//! The parts that were entered, innermost first.
 ghost use Rattle.std.specs.Prelude.{◌≡◌, [], ◌∷◌, ◌-◌, Some, None, OnOk, OnErr, MatchOption, slice_get};
 ghost use Rattle.script_run.specs.Standings as spec;
 ghost use Rattle.script_run.specs.Steps.{left_from};

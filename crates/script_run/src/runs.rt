@@ -1,3 +1,4 @@
+//! Carries a script out, request by request.
 ghost use Rattle.std.specs.Prelude.{◌≡◌, ◌≢◌, Some, None, IfOk, OnOk, OnErr};
 ghost use Rattle.value_form.specs.declared.objects.ObjectId.{ObjectId};
 ghost use Rattle.value_form.specs.declared.values.Value.{Value};

@@ -1,3 +1,4 @@
+//! Carries out one statement.
 ghost use Rattle.std.specs.Prelude.{◌≡◌, ◌<◌, ◌+◌, ◌^◌, IfOk, IfSome, None, option_copied, slice_get};
 ghost use Rattle.value_form.specs.declared.scripts.Stmt.{out-Stmt};
 ghost use Rattle.value_form.specs.declared.scripts.Stmt.TheOpen.{Stmt-F};

@@ -1,3 +1,4 @@
+//! The value that a visit lends.
 // `value` has a file of its own: its clause names the row of `Visit`, which the file that declares
 // `Visit` cannot import.
 ghost use Rattle.std.specs.Prelude.{◌≡◌, []};

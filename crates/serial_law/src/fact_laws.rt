@@ -1,3 +1,4 @@
+//! What is known of every run: decisions agree, and answers were sent.
 // What holds of all logs and messages at each place of a legal trace, and keeps its run serial.
 ghost use Rattle.std.specs.Prelude.{◌≡◌, ℕ, Bool, false};
 ghost use Rattle.pseudo_time.specs.Lists.{Every, Has};

@@ -1,3 +1,4 @@
+//! The law of serial order.
 // A place of a trace is the entries before it, so each law holds at the trace's end and after each entry.
 ghost use Rattle.pseudo_time.specs.Lists.{Every, Has};
 ghost use Rattle.std.specs.Prelude.{◌≡◌, ◌≤◌, ℕ, List, ◌∷◌, ◌++◌};

@@ -1,3 +1,4 @@
+//! What a script does alone, and what it does with answers.
 ghost use Rattle.std.specs.Prelude.{◌≡◌, ◌≤◌, [], ◌∷◌, ◌++◌, List, Some, length};
 ghost use Rattle.std.specs.FinMap as finite;
 ghost use Rattle.value_form.specs.declared.endings.Ending.{Ending};

@@ -1,3 +1,4 @@
+//! Carries a script out alone, over a map.
 ghost use Rattle.std.specs.Prelude.{◌≡◌, IfOk};
 ghost use Rattle.script_meaning.specs.Meaning as meaning;
 ghost use Rattle.value_form.specs.Mirror.{term, spot, plain, block, Let, Read, Write, Print, If, IfElse, Repeat};

@@ -1,3 +1,4 @@
+//! Scripts of the language stay in range.
 ghost use Rattle.std.specs.Prelude.{ℕ};
 ghost use Rattle.field_form.specs.Forms.{IsBytes};
 ghost use Rattle.value_form.specs.Mirror.{Block};

@@ -1,3 +1,4 @@
+//! A script at work alone, and what it did.
 use crate::object_maps::ObjectMap;
 use script_meaning::Names;
 use value_form::{Ending, Items, Line};

@@ -1,3 +1,4 @@
+//! Cases of stores: appends, stops and openings.
 ghost use Rattle.std.specs.Prelude.{◌≡◌, ◌<◌, ◌≤◌, false, IfOk, IfSome};
 ghost use Rattle.medium_port.specs.MemoryMedia.{failed_in, pages_of};
 ghost use Rattle.effect_form.specs.Effects.{IsEffect, AreEffects};

@@ -1,3 +1,4 @@
+//! Sources and sinks over std's readers and writers.
 ghost use Rattle.std.specs.Prelude.{None, ◌≤◌, length, IfOk};
 ghost use Rattle.std.specs.Io.{ReadsAtMost};
 

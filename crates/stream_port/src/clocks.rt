@@ -1,3 +1,4 @@
+//! What a clock is.
 ghost use Rattle.std.specs.Prelude.{List, ℕ, Option, ◌∷◌, []};
 ghost use Rattle.stream_port.specs.Clocks.{Adds};
 

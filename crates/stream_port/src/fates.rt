@@ -1,3 +1,4 @@
+//! The fates of messages.
 ghost use Rattle.std.specs.Prelude.{◌≡◌, ◌++◌, ◌∷◌, [], List, IfOk, OnErr};
 ghost use Rattle.stream_port.specs.declared.fates.Asked.{Asked};
 

@@ -1,3 +1,4 @@
+//! A clock that always says the same moment.
 ghost use Rattle.std.specs.Prelude.{◌≡◌, ◌∷◌, [], Some, replicate};
 ghost use Rattle.stream_port.specs.Causes.{next_count};
 ghost use Rattle.stream_port.specs.Clocks.{Adds};

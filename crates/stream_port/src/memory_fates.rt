@@ -1,3 +1,4 @@
+//! Fates by a list of rules.
 ghost use Rattle.std.specs.Prelude.{◌≡◌, ◌+◌, ◌++◌, ◌∷◌, [], IfOk, OnOk, OnErr};
 ghost use Rattle.stream_port.specs.Counts.{AreCounts};
 ghost use Rattle.stream_port.specs.Fates.{count_of, ruled, next_fate};

@@ -1,3 +1,4 @@
+//! A sink over memory.
 ghost use Rattle.std.specs.Prelude.{◌≡◌, ◌≤◌, ◌<◌, ◌⊎◌, [], Some, IsErr, IfOk, Contains};
 ghost use Rattle.std.specs.Io.KnownBytes.{WriteAppends};
 ghost use Rattle.stream_port.specs.Causes.{HasCause, Rose, next_count};

@@ -1,3 +1,4 @@
+//! A clock that counts the system's seconds.
 ghost use Rattle.std.specs.Prelude.{None};
 
 use crate::clocks::Clock;

@@ -1,3 +1,4 @@
+//! Runs of letters, digits and spaces.
 ghost use Rattle.std.specs.Prelude.{◌≡◌, ◌+◌, length};
 ghost use Rattle.token_form.specs.Tokens as tokens;
 ghost use Rattle.token_form.specs.Reading.{passes, front_of, rest_of};

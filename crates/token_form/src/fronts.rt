@@ -1,3 +1,4 @@
+//! The token at the front of a line.
 ghost use Rattle.std.specs.Prelude.{◌≡◌, ◌<◌, ◌≤◌, IfOk, IfSome, MatchOption, None, Some, length};
 ghost use Rattle.std.specs.Char.{is_ascii_digit};
 ghost use Rattle.token_form.specs.Tokens.{AllPass, is_name_byte, number_from};

@@ -1,3 +1,4 @@
+//! Why a line has no tokens.
 use std::alloc::{AllocError, AllocFailed};
 
 /// Why a line has no tokens to give.

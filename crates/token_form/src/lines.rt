@@ -1,3 +1,4 @@
+//! The tokens of a line.
 ghost use Rattle.std.specs.Prelude.{◌≡◌, IfOk, IsErrOf, List, ℕ, true, false};
 ghost use Rattle.token_form.specs.Tokens.{IsToken, IsTokens, Spells, in_range, spelling};
 

@@ -1,3 +1,4 @@
+//! The number that digits write.
 ghost use Rattle.std.specs.Prelude.{◌≡◌, ◌<◌, ◌^◌, SomeIff};
 ghost use Rattle.std.specs.Char.{is_ascii_digit};
 ghost use Rattle.token_form.specs.Tokens.{AllPass, number_from};

@@ -1,3 +1,4 @@
+//! Whether the objects of a line name repositories that there are.
 ghost use Rattle.std.specs.Prelude.{◌≡◌};
 ghost use Rattle.token_form.specs.Tokens as spec;
 

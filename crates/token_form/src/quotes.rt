@@ -1,3 +1,4 @@
+//! Quoted texts and their escapes.
 ghost use Rattle.std.specs.Prelude.{◌≡◌, ◌<◌, ◌≤◌, IfOk, MatchOption, None, Some, length, IfSome, [], true};
 ghost use Rattle.token_form.specs.Reading as reading;
 

@@ -1,3 +1,4 @@
+//! The signs of the language.
 ghost use Rattle.std.specs.Prelude.{◌≡◌, MatchOption, None, Some};
 ghost use Rattle.token_form.specs.Tokens.{sign_spelling};
 ghost use Rattle.token_form.specs.Reading as reading;

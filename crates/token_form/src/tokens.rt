@@ -1,3 +1,4 @@
+//! The tokens of the language.
 ghost use Rattle.std.specs.Prelude.{◌≡◌, ◌++◌, OnErr, OnOk, IfOk};
 
 use std::alloc::{AllocError, Global};

@@ -1,3 +1,4 @@
+//! The reserved words of the language.
 ghost use Rattle.std.specs.Prelude.{◌≡◌};
 ghost use Rattle.token_form.specs.Tokens.{word_spelling};
 ghost use Rattle.token_form.specs.Reading.{words, word_in};

@@ -1,3 +1,4 @@
+//! The core of a node, whichever kind it is.
 ghost use Rattle.std.specs.Prelude.{◌≡◌, ◌≤◌, ◌^◌, ◌∷◌, [], List, IfOk, IfErr, Ok};
 ghost use Rattle.message_form.specs.Messages.{IsMessage};
 ghost use Rattle.pseudo_time.specs.declared.nodes.NodeId.{NodeId};

@@ -1,3 +1,4 @@
+//! The messages of a trace, by their numbers.
 ghost use Rattle.std.specs.Prelude.{◌≡◌};
 ghost use Rattle.std.specs.Option.{option_copied};
 ghost use Rattle.world_core.specs.Walks.{numbered};

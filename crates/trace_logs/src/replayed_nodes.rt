@@ -1,3 +1,4 @@
+//! A node at a place of a trace.
 ghost use Rattle.std.specs.Prelude.{◌≡◌, ◌≤◌, ◌^◌, ◌++◌, ◌∷◌, [], IfOk, OnOk};
 ghost use Rattle.std.specs.List.{filter};
 ghost use Rattle.effect_form.specs.declared.effects.Effect.{Effect};

@@ -1,3 +1,4 @@
+//! Carries a trace out again, entry by entry.
 ghost use Rattle.std.specs.Prelude.{◌≡◌, ◌≤◌, ◌<◌, ◌^◌, ℕ, List, true, length, slice_index_or, Some, None, IfOk, OnOk, MatchOption};
 ghost use Rattle.pseudo_time.specs.Lists.{Every};
 ghost use Rattle.pseudo_time.specs.declared.nodes.NodeId.{NodeId};

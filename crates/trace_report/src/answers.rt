@@ -1,3 +1,4 @@
+//! An answer that an attempt got.
 use value_form::Value;
 
 /// An answer that an attempt got.

@@ -1,3 +1,4 @@
+//! The acts and attempts that a broker's log tells.
 ghost use Rattle.std.specs.Prelude.{◌≡◌, ◌∷◌, [], None, OnOk};
 ghost use Rattle.trace_report.specs.Begun as spec;
 ghost use Rattle.trace_report.specs.Begun.{kept};

@@ -1,3 +1,4 @@
+//! The acts that each broker has begun.
 ghost use Rattle.std.specs.Prelude.{◌≡◌, ◌≤◌, length, map, reverse, IfOk, OnOk};
 ghost use Rattle.plan_form.specs.PlanTexts.{CanRun};
 ghost use Rattle.world_core.specs.Nodes as nodes;

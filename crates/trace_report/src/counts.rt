@@ -1,3 +1,4 @@
+//! The ticks, crashes and copies of a trace.
 ghost use Rattle.std.specs.Prelude.{◌≡◌};
 ghost use Rattle.world_core.specs.Counts as spec;
 ghost use Rattle.trace_report.specs.Reports.{wire_shown};

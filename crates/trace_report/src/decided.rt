@@ -1,3 +1,4 @@
+//! Which attempts the logs of repositories say are committed.
 ghost use Rattle.std.specs.Prelude.{◌≡◌, reverse, IfOk};
 ghost use Rattle.std.specs.Option.{option_copied};
 ghost use Rattle.pseudo_time.specs.declared.nodes.NodeId.{NodeId};

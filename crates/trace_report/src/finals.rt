@@ -1,3 +1,4 @@
+//! What the objects hold at the end of a run.
 ghost use Rattle.std.specs.Prelude.{◌≡◌, IfOk};
 ghost use Rattle.trace_report.specs.Reports.{finals_shown, logs_by};
 

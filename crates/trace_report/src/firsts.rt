@@ -1,3 +1,4 @@
+//! What logs say first of an attempt's decision.
 ghost use Rattle.std.specs.Prelude.{◌≡◌, ◌∷◌, List, Some, reverse, IfOk, OnOk};
 ghost use Rattle.effect_form.specs.declared.effects.Effect.{Effect};
 ghost use Rattle.std.specs.FinMap as finite;

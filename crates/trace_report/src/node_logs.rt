@@ -1,3 +1,4 @@
+//! The log of a node among those of a run.
 ghost use Rattle.std.specs.Prelude.{◌≡◌};
 ghost use Rattle.trace_report.specs.Reports.{logs_by};
 

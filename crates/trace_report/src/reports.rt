@@ -1,3 +1,4 @@
+//! The report of a run.
 ghost use Rattle.std.specs.Prelude.{◌≡◌, ◌≤◌, ◌^◌, Some, IfOk};
 ghost use Rattle.pseudo_time.specs.Lists.{Every};
 ghost use Rattle.plan_form.specs.PlanTexts.{CanRun};

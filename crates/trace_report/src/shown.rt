@@ -1,3 +1,4 @@
+//! Acts and attempts, as a report shows them.
 ghost use Rattle.std.specs.Prelude.{◌≡◌, List, Some, map, IfOk};
 ghost use Rattle.effect_form.specs.declared.effects.Effect.{Effect};
 ghost use Rattle.pseudo_time.specs.declared.nodes.NodeId.{NodeId};

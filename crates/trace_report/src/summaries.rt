@@ -1,3 +1,4 @@
+//! The summary of a run.
 ghost use Rattle.std.specs.Prelude.{◌≡◌, ◌≤◌, ◌^◌, ◌++◌, None, IfOk, OnOk};
 ghost use Rattle.pseudo_time.specs.Lists.{Every};
 ghost use Rattle.plan_form.specs.PlanTexts.{CanRun};

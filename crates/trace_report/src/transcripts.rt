@@ -1,3 +1,4 @@
+//! The transcript of an attempt.
 ghost use Rattle.std.specs.Prelude.{◌≡◌, ◌++◌, IfOk, OnOk};
 ghost use Rattle.value_form.specs.Mirror.{block};
 ghost use Rattle.value_form.specs.Ranges.{IsScript};

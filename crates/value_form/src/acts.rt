@@ -1,3 +1,4 @@
+//! An act of a plan.
 ghost use Rattle.std.specs.Prelude.{◌≡◌, IfOk};
 
 use crate::scripts::Script;

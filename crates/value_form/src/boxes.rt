@@ -1,3 +1,4 @@
+//! A part of a tree that has the tree's own type.
 ghost use Rattle.std.specs.Prelude.{◌≡◌, IfOk};
 
 use std::alloc::{AllocError, Global};

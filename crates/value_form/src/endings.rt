@@ -1,3 +1,4 @@
+//! How a script can end.
 use crate::fail_kinds::FailKind;
 
 /// How a script ends. A line is that of the statement.

@@ -1,3 +1,4 @@
+//! Expressions and their operators.
 ghost use Rattle.std.specs.Prelude.{◌≡◌, IfOk};
 
 use crate::boxes::Boxed;

@@ -1,3 +1,4 @@
+//! Why an attempt can fail.
 /// Why an attempt fails. The numbers of the kinds, 1 to 7, are in this order.
 #[derive(Clone, Copy, Debug, PartialEq, Eq)]
 pub enum FailKind {

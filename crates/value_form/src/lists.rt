@@ -1,3 +1,4 @@
+//! A list in a field of another type.
 ghost use Rattle.std.specs.Prelude.{◌≡◌};
 
 use std::marker::Model;

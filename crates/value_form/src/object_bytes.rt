@@ -1,3 +1,4 @@
+//! The bytes of an object's name.
 ghost use Rattle.std.specs.Prelude.{◌≡◌, ◌++◌, OnOk};
 ghost use Rattle.std.specs.Option.{option_map};
 ghost use Rattle.value_form.specs.ObjectBytes.{object_bytes, object_bytes_at};

@@ -1,3 +1,4 @@
+//! Scripts as trees of statements.
 ghost use Rattle.std.specs.Prelude.{◌≡◌, IfOk};
 
 use crate::expressions::Expr;

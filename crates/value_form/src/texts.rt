@@ -1,3 +1,4 @@
+//! Texts: lists of bytes.
 ghost use Rattle.std.specs.Prelude.{◌≡◌, IfOk};
 
 use std::alloc::{AllocError, Global};

@@ -1,3 +1,4 @@
+//! The lines of an attempt's transcript.
 ghost use Rattle.std.specs.Prelude.{◌≡◌, IfOk};
 
 use crate::objects::ObjectId;

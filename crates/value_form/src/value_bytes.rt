@@ -1,3 +1,4 @@
+//! The bytes of a value.
 ghost use Rattle.std.specs.Prelude.{◌≡◌, ◌++◌, ◌≤◌, Ok, List, ℕ, length, drop, take, OnOk, OnErr, IfOk};
 ghost use Rattle.field_form.specs.Forms.{IsBytes};
 ghost use Rattle.value_form.specs.ValueBytes.{IsValue, most_text, value_bytes, value_at, number_value_at, text_at, short_text_at, long_text_at};

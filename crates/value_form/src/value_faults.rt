@@ -1,3 +1,4 @@
+//! Why no value was read.
 use std::alloc::AllocError;
 
 /// Why no value was read.

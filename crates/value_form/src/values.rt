@@ -1,3 +1,4 @@
+//! Values: nothing, a number or a text.
 ghost use Rattle.std.specs.Prelude.{◌≡◌, ◌<◌, ◌++◌, OnOk, OnErr, IfOk};
 ghost use Rattle.value_form.specs.TextForm.{hex_digit_of, byte_text, quoted_text};
 

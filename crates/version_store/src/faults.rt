@@ -1,3 +1,4 @@
+//! Why a store wasn't opened, or didn't take effects.
 ghost use Rattle.std.specs.Prelude.{◌≡◌};
 
 use pseudo_time::DownCause;

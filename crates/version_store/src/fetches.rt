@@ -1,3 +1,4 @@
+//! Finds the effect at a place.
 ghost use Rattle.std.specs.Prelude.{◌≡◌, ◌≢◌, ◌<◌, ◌≤◌, ℕ, List, length, IsTrue, IfOk, IfErr, IfSome, false};
 ghost use Rattle.stream_port.specs.Causes.{Rose};
 ghost use Rattle.page_form.specs.Forms.{IsBytes};

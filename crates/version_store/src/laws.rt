@@ -1,3 +1,4 @@
+//! What a crash leaves of a log, and what its pages hold.
 ghost use Rattle.std.specs.Prelude.{◌≡◌, ◌+◌, ◌*◌, ◌++◌, [], ◌∷◌, ℕ, ◌<◌, ◌≤◌, List, IfSome, Ok, Some, length, take};
 ghost use Rattle.medium_port.specs.Image.{Image, IsImage};
 ghost use Rattle.page_form.specs.ObjectId.{ObjectId};

@@ -1,3 +1,4 @@
+//! Reads the pages of a medium that is opened.
 ghost use Rattle.std.specs.Prelude.{◌≡◌, ◌≢◌, ◌+◌, ◌<◌, ◌≤◌, List, ℕ, IsTrue, true, false, length, Some, Err, IfOk, IfErr, OnOk, MatchBool, if◌then◌else◌};
 ghost use Rattle.stream_port.specs.Causes.{Rose};
 ghost use Rattle.medium_port.specs.Image.{Image, NoMore};

@@ -1,3 +1,4 @@
+//! A log of effects on a medium.
 ghost use Rattle.std.specs.Prelude.{◌≡◌, ◌≢◌, [], ◌+◌, ℕ, ◌<◌, ◌≤◌, ◌++◌, IsTrue, List, Ok, Err, Some, None, count_by, length, false, IfOk, IfErr, IfSome, OnOk, OnErr};
 ghost use Rattle.stream_port.specs.Causes.{Rose, next_count};
 ghost use Rattle.medium_port.specs.Image.{Image, Only, NoMore};

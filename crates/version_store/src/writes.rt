@@ -1,3 +1,4 @@
+//! Writes the bodies of pages.
 ghost use Rattle.std.specs.Prelude.{◌≡◌, ◌+◌, ◌≤◌, ◌<◌, ◌^◌, ◌++◌, List, IsTrue, is_err, false, true, length, map, drop, take, OnOk, All};
 ghost use Rattle.std.specs.List.{list_all};
 ghost use Rattle.stream_port.specs.Causes.{HasCause};

@@ -1,3 +1,4 @@
+//! The media of the three members.
 use medium_port::Medium;
 
 /// The media of the three members. None where one is missing.

@@ -1,3 +1,4 @@
+//! What a courier does is legal.
 ghost use Rattle.std.specs.Prelude.{◌≡◌, ◌++◌, ◌∷◌, [], ℕ, Bool, true, false, List, Some, length};
 ghost use Rattle.stream_port.specs.declared.fates.Asked.{Asked};
 ghost use Rattle.pseudo_time.specs.declared.down_causes.DownCause.{DownCause};

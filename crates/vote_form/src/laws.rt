@@ -1,3 +1,4 @@
+//! Bytes are one list of polls at most.
 ghost use Rattle.std.specs.Prelude.{◌≡◌, ℕ, List};
 ghost use Rattle.vote_form.specs.declared.poll_lines.PollLine.{PollLine};
 ghost use Rattle.vote_form.specs.Faults.{IsInputFault};

@@ -1,3 +1,4 @@
+//! Reads the polls that are to be held.
 ghost use Rattle.std.specs.Prelude.{◌≡◌, ◌∷◌, MatchOption};
 ghost use Rattle.script_form.specs.Lines.{lines};
 ghost use Rattle.plan_form.specs.PlanFaults.{Lacks};

@@ -1,3 +1,4 @@
+//! A poll, as a line asks for it.
 use pseudo_time::Stamp;
 use record_votes::Wish;
 

@@ -1,3 +1,4 @@
+//! Why bytes are no list of polls.
 use std::alloc::{AllocError, AllocFailed};
 
 /// Why bytes are no input of votes.

@@ -1,3 +1,4 @@
+//! Votes of which nothing is lost come to an end.
 ghost use Rattle.std.specs.Prelude.{◌≡◌, ◌*◌, ◌≤◌, false, [], List, length};
 ghost use Rattle.pseudo_time.specs.Lists.{Every};
 ghost use Rattle.stream_port.specs.declared.fates.Asked.{Asked};

@@ -1,3 +1,4 @@
+//! What a poll holds is on the media of two members.
 ghost use Rattle.std.specs.Prelude.{◌≡◌, ◌⊎◌, ◌≤◌, ℕ, List, Option, Some, None, length, IsTrue};
 ghost use Rattle.stream_port.specs.declared.fates.Asked.{Asked};
 ghost use Rattle.message_core.specs.Tallies.{numbered};

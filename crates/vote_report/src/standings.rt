@@ -1,3 +1,4 @@
+//! How a poll ended.
 use pseudo_time::Stamp;
 
 /// How a poll stands: its stamp, and the decision that it holds, true where it commits.

@@ -1,3 +1,4 @@
+//! The status of a call of votes.
 ghost use Rattle.std.specs.Prelude.{◌≡◌};
 ghost use Rattle.vote_report.specs.Statuses as spec;
 

@@ -1,3 +1,4 @@
+//! The text of a call of votes.
 ghost use Rattle.std.specs.Prelude.{◌≡◌, ◌++◌, ◌+◌, ◌<◌, ◌^◌, length, IfOk, OnOk};
 ghost use Rattle.vote_report.specs.Texts as spec;
 

@@ -1,3 +1,4 @@
+//! The members and polls of a run are those of its trace.
 ghost use Rattle.std.specs.Prelude.{ℕ, List};
 ghost use Rattle.effect_form.specs.declared.effects.Effect.{Effect};
 ghost use Rattle.vote_courier.specs.Legal.{JustVoters};

@@ -1,3 +1,4 @@
+//! How long a run of votes goes on.
 /// How long a run goes on: at most so many ticks, and until so many messages were sent.
 #[derive(Clone, Copy, Debug, PartialEq, Eq)]
 pub struct Limits {

@@ -1,3 +1,4 @@
+//! A member between its turns.
 use medium_port::Medium;
 use record_votes::Member;
 use version_store::Store;

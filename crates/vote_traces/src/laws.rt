@@ -1,3 +1,4 @@
+//! Laws of legal vote traces.
 ghost use Rattle.std.specs.Prelude.{◌≡◌, ◌+◌, ◌++◌, ◌∷◌, [], ℕ, Bool, true, List, Some, length, map};
 ghost use Rattle.effect_form.specs.declared.effects.Effect.{Effect};
 ghost use Rattle.record_votes.specs.declared.member_numbers.MemberNumber.{MemberNumber};

@@ -1,3 +1,4 @@
+//! Laws of the wire between polls and members.
 ghost use Rattle.std.specs.Prelude.{◌≡◌, ◌++◌, ◌∷◌, [], ℕ, true, false, List, map, is_some};
 ghost use Rattle.pseudo_time.specs.declared.down_causes.DownCause.{DownCause};
 ghost use Rattle.pseudo_time.specs.declared.nodes.NodeId.{NodeId};

@@ -1,3 +1,4 @@
+//! How a node is doing: up, heard, closed or gone.
 ghost use Rattle.std.specs.Prelude.{◌≡◌};
 ghost use Rattle.wire_core.specs.Flagged.{new_flags, after_own, standing, is_late, is_idle};
 

@@ -1,3 +1,4 @@
+//! Sends messages and asks for their fates.
 ghost use Rattle.std.specs.Prelude.{◌≡◌, ◌++◌, ◌∷◌, [], ◌+◌, List, map, IfOk, IfSome};
 ghost use Rattle.message_form.specs.Messages.{IsMessage};
 ghost use Rattle.message_form.specs.Posts.{posts};

@@ -1,3 +1,4 @@
+//! The wire as a value that stands for its entries.
 use crate::wires::Wire;
 use medium_port::Medium;
 use seat_lock::Storied;

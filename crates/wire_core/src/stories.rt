@@ -1,3 +1,4 @@
+//! The entries so far, and the flags of each node after them.
 ghost use Rattle.std.specs.Prelude.{◌≡◌, ◌↔◌, [], ℕ, true, false, IsTrue, IfOk, OnOk, OnErr, MatchOption, Some, None, map, if◌then◌else◌};
 ghost use Rattle.std.specs.List.{list_any};
 ghost use Rattle.pseudo_time.specs.declared.nodes.NodeId.{NodeId};

@@ -1,3 +1,4 @@
+//! The wire between the nodes of a run.
 ghost use Rattle.std.specs.Prelude.{◌≡◌, ◌≤◌, ◌^◌, length, IsTrue, IfOk, IfErr};
 ghost use Rattle.world_core.specs.Walks.{sent_by};
 ghost use Rattle.wire_core.specs.Wires.{world_of, IsNew};

@@ -1,3 +1,4 @@
+//! The entries of a trace.
 use pseudo_time::{DownCause, NodeId, Stamp};
 
 /// One thing that happened in a run. All but a Tick name the node that it happened to.

@@ -1,3 +1,4 @@
+//! What the entries of a trace alone decide.
 // What entries alone decide, and how a walk goes on, whatever the plan.
 ghost use Rattle.std.specs.Prelude.{◌≡◌, ℕ, ◌+◌, true, false, List, [], ◌∷◌, ◌++◌, length};
 ghost use Rattle.pseudo_time.specs.declared.nodes.NodeId.{NodeId};

@@ -1,3 +1,4 @@
+//! Laws of traces and of what is legal.
 // Each law holds for every trace.
 ghost use Rattle.std.specs.Prelude.{◌≡◌, ℕ, ◌+◌, Bool, true, false, List, [], ◌∷◌, ◌++◌, length, map};
 ghost use Rattle.pseudo_time.specs.declared.nodes.NodeId.{NodeId};

@@ -1,3 +1,4 @@
+//! One reading of scripts serves all plans of a past.
 // Each law holds for every plan that can run.
 ghost use Rattle.std.specs.Prelude.{◌≡◌, ℕ, List};
 ghost use Rattle.pseudo_time.specs.Lists.{Every};

@@ -1,3 +1,4 @@
+//! A trace: everything that happened in a run.
 use crate::entries::Entry;
 use effect_form::Effect;
 use message_form::Message;

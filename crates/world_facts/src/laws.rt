@@ -1,3 +1,4 @@
+//! What is known at each place of a legal trace.
 ghost use Rattle.std.specs.Prelude.{◌≡◌, ℕ, List, [], ◌++◌, map, reverse};
 ghost use Rattle.pseudo_time.specs.Lists.{Has};
 ghost use Rattle.pseudo_time.specs.declared.nodes.NodeId.{NodeId};
