@@ -173,6 +173,26 @@ else
 fi
 exec 9<&-
 is "acts once it isn't locked" "$(held "$work/locked")" 1
+# A look shares the lock with other looks, and keeps a run out.
+exec 9< "$work/locked/lock"
+if flock -s -n 9; then
+  "$program" "$work/locked" history 1.1 > "$work/out" 2> "$work/err"
+  is "status of a look beside another one" "$?" 0
+  is "what a look beside another one says" "$(cat "$work/err")" ""
+  mistake "a run beside a look" "$work/locked" "locked by another program"
+else
+  skip "a look beside another one: flock refuses"
+fi
+exec 9<&-
+exec 9< "$work/locked/lock"
+if flock -n 9; then
+  "$program" "$work/locked" history 1.1 > "$work/out" 2> "$work/err"
+  is "status of a look beside a run" "$?" 6
+  has "line of a look beside a run" "$work/err" "locked by another program"
+else
+  skip "a look beside a run: flock refuses"
+fi
+exec 9<&-
 
 if setpriv --reuid=65534 --regid=65534 --clear-groups true 2> /dev/null; then
   mkdir -m 755 "$work/others" && chmod 755 "$work"

@@ -33,8 +33,9 @@ const NOT_THERE: &str = "not there yet";
 /// A volume of a repository that is missing or blank can't be taken if the file of one of the next
 /// three is there: then it was lost. (A first volume may be blank.)
 ///
-/// A folder is one program's at a time: the first taking locks the empty file `lock` in it, before
-/// any medium is opened or made, and a program that meets the lock takes nothing.
+/// A folder is one program's at a time, or that of several that only look: the first taking locks the empty
+/// file `lock` in it, before any medium is opened or made. A look takes a lock that other looks share. A
+/// program that meets a lock that keeps it out takes nothing.
 ///
 /// A shelf for a look makes no folder and no file, and lengthens none. The medium of a file that isn't
 /// there yet reads 0, and takes no write.
@@ -127,9 +128,15 @@ fn make_folder(files: &impl Files, folder: &str) -> Result<(), Refusal> {
     }
 }
 
-// Locks a file. The lock is the file's, and the system lifts it at its end.
-fn lock_file(file: &File) -> Result<(), Refusal> {
-    match file.try_lock() {
+// Locks a file, for a look with a lock that other looks share. The lock is the file's, and the system lifts
+// it at its end.
+fn lock_file(file: &File, wanted: &Wanted) -> Result<(), Refusal> {
+    let locked = if wanted.makes {
+        file.try_lock()
+    } else {
+        file.try_lock_shared()
+    };
+    match locked {
         Ok(()) => Ok(()),
         Err(TryLockError::WouldBlock) => Err(Refusal::Locked),
         Err(TryLockError::Error(error)) => Err(error.into()),
@@ -147,7 +154,7 @@ fn lock_folder(
             make_folder(files, wanted.folder)?;
         }
         if let Some(file) = open_regular(files, wanted.lock_path, wanted.makes)? {
-            lock_file(&file)?;
+            lock_file(&file, wanted)?;
             *lock = Some(file);
         }
     }
@@ -175,7 +182,7 @@ fn open_file(
     let Some(file) = open_regular(files, path, wanted.makes)? else {
         return Ok((None, NEW_PAGES));
     };
-    lock_file(&file)?;
+    lock_file(&file, wanted)?;
     if !wanted.makes && file.metadata()?.len() == 0 {
         return Ok((None, NEW_PAGES));
     }
@@ -202,7 +209,7 @@ fn account_of(wanted: &Wanted, errors: Stderr) -> Result<Account, AllocError> {
     Account::new(wanted.alloc, errors, path.as_str())
 }
 
-// Says why where there is none, and where a look finds no file.
+// Says why there is none, and if a look finds no first file. That a later volume isn't there is no news.
 fn open_medium(
     files: &impl Files<File = File>,
     wanted: &Wanted,
@@ -213,7 +220,7 @@ fn open_medium(
 {
     match open_locked(files, wanted, lock, account.path()) {
         Ok((file, pages)) => {
-            if file.is_none() {
+            if file.is_none() && wanted.name.volume == 0 {
                 account.say(NOT_THERE);
             }
             Some(FileMedium::new(file, pages, account))
