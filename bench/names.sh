@@ -48,7 +48,7 @@ while IFS= read -r path; do
     for end in "" .rt .antt .edit; do [ ! -e "$base$path$end" ] || found=0; done
   done
   check "$found" "a page names $path"
-done < <(cited README.md docs/[A-BD-Z]*.md docs/CALLING.md docs/COMMANDS.md bench/README.md | grep -vE '/[A-Z]+(/|$)' | sort -u)
+done < <(cited README.md docs/[A-BD-Z]*.md docs/CALLING.md docs/COMMANDS.md bench/README.md | grep -vE '/[A-Z]+([./]|$)' | sort -u)
 
 # Names in the sources.
 cat crates/*/src/*.rt crates/*/specs/*.antt | tr -cs 'A-Za-z0-9_' '\n' | sort -u > "$work/words"
