@@ -9,10 +9,12 @@
 #   `./swallow` as first line    a list of commands, each with what it does after some spaces: run in order in a folder of
 #                                its own, each with status 0, but for `./swallow build` and `./swallow test`
 #   plan FILE                    the text of a plan: compared with FILE, or written to it if there is none
+#   part FILE                    lines that are in FILE one after another
 #   script, then transcript      a script, run alone as one act; the lines of its attempt
 #   results                      `EXPRESSION  => VALUE` or `EXPRESSION  => fails KIND`
 #   faults                       `STATEMENT  => KIND`: how a plan with this line is refused
-# In what is shown ` ..` at the end of a line stands for the rest of it, and a line `..` for any lines.
+# A block of another kind is an error: nothing is shown that isn't compared. In what is shown ` ..` at the end of a line
+# stands for the rest of it, and a line `..` for any lines.
 top="$(cd "$(dirname "${BASH_SOURCE[0]}")/.." && pwd)" || exit 1
 work=$(mktemp -d) || exit 1
 trap 'rm -rf "$work"' EXIT
@@ -115,6 +117,16 @@ plan_file() {
   fi
 }
 
+part_of() {
+  local text
+  text=$(cat "$1")
+  if [[ $'\n'"$(cat "$place/$2")"$'\n' == *$'\n'"$text"$'\n'* ]]; then
+    right=$((right + 1))
+  else
+    failed "$page: a part of $2" "it isn't there"
+  fi
+}
+
 # The plan of one act with this file as script.
 plan_of() {
   printf 'swallow plan 1\nrun 1\nrepositories 16\nbrokers 1\nact broker 1 home 1 timeout 5 tries 1\n'
@@ -189,6 +201,7 @@ read_page() {
     block=${block%.info}
     case "$info" in
     "plan "*) plan_file "$block" "${info#plan }" ;;
+    "part "*) part_of "$block" "${info#part }" ;;
     script) cp "$block" "$work/script" ;;
     transcript) transcript "$block" ;;
     results) results "$block" ;;
@@ -196,6 +209,7 @@ read_page() {
     *) case "$(head -n 1 "$block")" in
       "\$ "*) session "$block" ;;
       "./swallow "*"   "*) list "$block" ;;
+      *) failed "$page" "nothing compares the block that begins '$(head -n 1 "$block")'" ;;
       esac ;;
     esac
   done
