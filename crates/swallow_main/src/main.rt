@@ -3,10 +3,12 @@
 #![tactic(auto)]
 
 mod full_sinks;
+mod plan_lines;
 mod progress;
 
 use full_sinks::FullSink;
 use medium_port::{FileMedium, FileShelf};
+use plan_lines::{KeptSource, fault_text};
 use progress::ToldFates;
 use std::alloc::{AllocError, Global};
 use std::fs::{self, File};
@@ -23,6 +25,9 @@ const NO_OUTPUT: u8 = 4;
 
 /// The status where memory runs out.
 const NO_MEMORY: u8 = 7;
+
+/// The status where what was given is refused.
+const REFUSED: u8 = 2;
 
 /// The folder of a command line that names none: no word follows, so nothing there is touched.
 const NO_FOLDER: &str = ".";
@@ -45,6 +50,25 @@ fn is_look(words: &[String]) -> bool {
             _ => false,
         },
         None => false,
+    }
+}
+
+// Whether the command reads a plan.
+fn is_run(words: &[String]) -> bool {
+    match words.first() {
+        Some(word) => word.as_str() == "run",
+        None => false,
+    }
+}
+
+// Says which line of a refused plan is faulty, and what was expected there. Nothing is said of a plan that a
+// log refuses.
+fn tell_fault(rt: &HostRuntime, alloc: Global, plan: Option<&[u8]>) {
+    let Some(plan) = plan else {
+        return;
+    };
+    if let Some(text) = fault_text(alloc, plan) {
+        let _said = eprintln!(rt; "{}", text.as_str());
     }
 }
 
@@ -101,7 +125,7 @@ fn run<R: Threads + Wait + Sync>(
     let Ok(mut shelf) = made else {
         return Err(AllocError);
     };
-    let mut source = ReadSource::new(rt.reader());
+    let mut source = KeptSource::new(alloc, ReadSource::new(rt.reader()));
     let mut sink = FullSink::new(WriteSink::new(io::writer(rt)));
     let ended = swallow(
         threads,
@@ -116,6 +140,9 @@ fn run<R: Threads + Wait + Sync>(
     let Finish { status, media, .. } = ended;
     if sink.is_full() {
         tell_growth(media.into_vec());
+    }
+    if status == REFUSED && is_run(words) {
+        tell_fault(rt, alloc, source.kept());
     }
     Ok(status)
 }
