@@ -8,7 +8,7 @@
 #   `$ COMMAND` as first line    a session: what each command prints on both outputs is compared with the lines after it
 #   `./swallow` as first line    a list of commands, each with what it does after some spaces: run in order in a folder of
 #                                its own, each with status 0, but for `./swallow build` and `./swallow test`
-#   plan FILE                    the text of a plan: compared with FILE, or written to it if there is none
+#   plan FILE                    the text of a plan, or of polls: compared with FILE, or written to it if there is none
 #   part FILE                    lines that are in FILE one after another
 #   script, then transcript      a script, run alone as one act; the lines of its attempt
 #   results                      `EXPRESSION  => VALUE` or `EXPRESSION  => fails KIND`
