@@ -51,8 +51,9 @@ write() {
   echo "# Crates"
   echo
   echo "bench/crates.sh writes this page from the first lines of the sources, and \`./swallow test\` compares" \
-    "it with them. Nothing here is written by hand. [ARCHITECTURE](ARCHITECTURE.md) explains the layers; which" \
-    "crates each crate names is in [crates.txt](../crates.txt)." | wrap
+    "it with them. Nothing here is written by hand, and its words don't count among those of the pages." \
+    "[ARCHITECTURE](ARCHITECTURE.md) explains the layers; which crates each crate names is in" \
+    "[crates.txt](../crates.txt)." | wrap
   while IFS= read -r line; do
     case "$line" in
     "# NAME:"* | "") ;;

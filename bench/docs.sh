@@ -16,8 +16,10 @@
 # A block of another kind is an error: nothing is shown that isn't compared. In what is shown ` ..` at the end of a line
 # stands for the rest of it, and a line `..` for any lines.
 top="$(cd "$(dirname "${BASH_SOURCE[0]}")/.." && pwd)" || exit 1
-work=$(mktemp -d) || exit 1
-trap 'rm -rf "$work"' EXIT
+disk=$(mktemp -d) || exit 1
+work=$(mktemp -d -p /dev/shm 2> /dev/null || mktemp -d) || exit 1 # in memory, if that can be: it has to sync nothing
+trap 'rm -rf "$work" "$disk"' EXIT
+base=$work
 right=0 wrong=0 folders=0
 seconds=120 # for one command
 
@@ -63,7 +65,7 @@ failed() {
 # Makes a fresh folder to run in, and names it `place`.
 new_place() {
   folders=$((folders + 1))
-  place="$work/place-$folders"
+  place="$base/place-$folders"
   mkdir "$place" || exit 1
   ln -s "$top/swallow" "$top/swallow_lab" "$top/swallow_look" "$top/examples" "$place/"
 }
@@ -194,6 +196,8 @@ blocks() {
 read_page() {
   local block info
   page=$1
+  base=$work
+  if grep -q KILL "$top/$page"; then base=$disk; fi # a run that is killed must not end before
   new_place
   blocks "$top/$page"
   for block in "$work/blocks/"*.info; do
