@@ -1,6 +1,7 @@
 -- Each part of the page has the frame's tags alone.
-use Rattle.folder_look.proofs.Names.{flat_map, TimeParts, ObjectId, Value, Effect, Choice, VersionRow, ObjectRow, MediumLook, Tally, ended_text, ended_class, column, objects_left, ◌≡◌, ℕ, ◌-◌, ◌/◌, ◌+◌, ◌%◌, Bool, true, false, List, [], ◌∷◌, ◌++◌, codes, reverse, length, take, drop, refl, ◌∙◌, Option, Some, None, not, ◌==◌, ◌||◌, nat_lt, nat_le, if◌then◌else◌, object_text, time_text, kind_text, refusal_text, kind_word, axis_of, tally_of}
+use Rattle.folder_look.proofs.Names.{flat_map, TimeParts, ObjectId, Value, Effect, Choice, VersionRow, ObjectRow, MediumLook, Tally, ended_text, ended_class, column, objects_left, ◌≡◌, ℕ, ◌-◌, ◌+◌, Bool, true, false, List, [], ◌∷◌, ◌++◌, codes, reverse, length, take, drop, refl, ◌∙◌, Option, Some, None, not, ◌==◌, ◌||◌, nat_lt, nat_le, if◌then◌else◌, object_text, time_text, kind_text, refusal_text, kind_word, axis_of, tally_of}
 use Rattle.std.specs.Fmt.{decimal}
+use Rattle.std.specs.Prelude.{◌%◌}
 use Rattle.pseudo_time.specs.StampParts.{StampParts}
 use Rattle.pseudo_time.specs.declared.nodes.NodeKind.{NodeKind}
 use Rattle.pseudo_time.specs.declared.nodes.NodeKind.TheVariants.{Repository, Broker}

@@ -1,6 +1,7 @@
 -- The values, the histories, the files and the whole page have the frame's tags alone.
-use Rattle.folder_look.proofs.Names.{flat_map, TimeParts, ObjectId, Value, Effect, Choice, VersionRow, ObjectRow, MediumLook, Tally, ended_text, ended_class, column, objects_left, ◌≡◌, ℕ, ◌-◌, ◌/◌, ◌+◌, ◌%◌, Bool, true, false, List, [], ◌∷◌, ◌++◌, codes, reverse, length, take, drop, refl, ◌∙◌, Option, Some, None, not, ◌==◌, ◌||◌, nat_lt, nat_le, if◌then◌else◌, object_text, time_text, kind_text, refusal_text, kind_word, axis_of, tally_of}
+use Rattle.folder_look.proofs.Names.{flat_map, TimeParts, ObjectId, Value, Effect, Choice, VersionRow, ObjectRow, MediumLook, Tally, ended_text, ended_class, column, objects_left, ◌≡◌, ℕ, ◌-◌, ◌+◌, Bool, true, false, List, [], ◌∷◌, ◌++◌, codes, reverse, length, take, drop, refl, ◌∙◌, Option, Some, None, not, ◌==◌, ◌||◌, nat_lt, nat_le, if◌then◌else◌, object_text, time_text, kind_text, refusal_text, kind_word, axis_of, tally_of}
 use Rattle.std.specs.Fmt.{decimal}
+use Rattle.std.specs.Prelude.{◌%◌}
 use Rattle.pseudo_time.specs.StampParts.{StampParts}
 use Rattle.pseudo_time.specs.declared.nodes.NodeKind.{NodeKind}
 use Rattle.pseudo_time.specs.declared.nodes.NodeKind.TheVariants.{Repository, Broker}
@@ -69,8 +70,7 @@ fold : (n : ℕ) → T (values.fold_head n)
 fold n = pieces InText (Words (codes "<details class=\"more\"><summary>objects, ") ∷ Number n ∷ Words (codes " more</summary>\n") ∷ []) refl
 
 more-values : (p : ShownParts) (rs : List ObjectRow) → T (values.more_values p rs)
-more-values p [] = refl
-more-values p (r ∷ rs) = on (values.fold_head (length (r ∷ rs))) _ (fold (length (r ∷ rs))) ∙ on (values.value_table p (r ∷ rs)) _ (value-table p (r ∷ rs)) ∙ refl
+more-values p rs = one-of (length rs == 0) _ _ refl (on (values.fold_head (length rs)) _ (fold (length rs)) ∙ on (values.value_table p rs) _ (value-table p rs) ∙ refl)
 
 all-values : (p : ShownParts) (rs : List ObjectRow) → T (values.values_text p rs)
 all-values p rs = both (values.value_table p (take 20 rs)) (values.more_values p (drop 20 rs)) (value-table p (take 20 rs)) (more-values p (drop 20 rs))
@@ -157,8 +157,7 @@ rows p axis rs =
     ∙ on (flat_map (draw.row_text p axis) rs) _ (each-through frame_tags (draw.row_text p axis) (row p axis) rs) ∙ refl
 
 more-rows : (p : ShownParts) (axis : List StampParts) (rs : List ObjectRow) → T (draw.more_rows p axis rs)
-more-rows p axis [] = refl
-more-rows p axis (r ∷ rs) = on (values.fold_head (length (r ∷ rs))) _ (fold (length (r ∷ rs))) ∙ on (draw.rows_text p axis (r ∷ rs)) _ (rows p axis (r ∷ rs)) ∙ refl
+more-rows p axis rs = one-of (length rs == 0) _ _ refl (on (values.fold_head (length rs)) _ (fold (length rs)) ∙ on (draw.rows_text p axis rs) _ (rows p axis rs) ∙ refl)
 
 all-rows : (p : ShownParts) (axis : List StampParts) (rs : List ObjectRow) → T (draw.all_rows p axis rs)
 all-rows p axis rs = both (draw.rows_text p axis (take 20 rs)) (draw.more_rows p axis (drop 20 rs)) (rows p axis (take 20 rs)) (more-rows p axis (drop 20 rs))

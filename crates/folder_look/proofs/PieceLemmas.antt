@@ -69,11 +69,11 @@ dot-at Astray h = absurd (false≢true h)
 
 stamp-at : (s : Spot) → takes_numbers s ≡ true → (p : StampParts) → Stays s (stamp_text p)
 stamp-at s h p =
-    on-at s (decimal p.clock) _ (number-at s h p.clock) ∙ on-at s (46 ∷ []) _ (dot-at s h)
-    ∙ on-at s (decimal p.broker) _ (number-at s h p.broker) ∙ on-at s (46 ∷ []) _ (dot-at s h) ∙ number-at s h p.home
+    on-at s (decimal p.clock) (46 ∷ (decimal p.broker ++ 46 ∷ decimal p.home)) (number-at s h p.clock) ∙ on-at s (46 ∷ []) (decimal p.broker ++ 46 ∷ decimal p.home) (dot-at s h)
+    ∙ on-at s (decimal p.broker) (46 ∷ decimal p.home) (number-at s h p.broker) ∙ on-at s (46 ∷ []) (decimal p.home) (dot-at s h) ∙ number-at s h p.home
 
 object-at : (s : Spot) → takes_numbers s ≡ true → (o : ObjectId) → Stays s (object_text o)
-object-at s h o = on-at s (decimal o.repository) _ (number-at s h o.repository) ∙ on-at s (46 ∷ []) _ (dot-at s h) ∙ number-at s h o.number
+object-at s h o = on-at s (decimal o.repository) (46 ∷ decimal o.number) (number-at s h o.repository) ∙ on-at s (46 ∷ []) (decimal o.number) (dot-at s h) ∙ number-at s h o.number
 
 text-at : (s : Spot) → takes_texts s ≡ true → (bytes : List ℕ) → Stays s (page_text bytes)
 text-at InText h bytes = text-stays frame_tags bytes

@@ -33,11 +33,14 @@ bar_to axis c (Some t) = bar_columns c (column axis t.stamp)
 abbrev pub place_text : ℕ → ℕ → List ℕ
 place_text c w = text_of (Words (codes "\" style=\"--a:") ∷ Number c ∷ Words (codes ";--w:") ∷ Number w ∷ Words (codes "\">") ∷ [])
 
+abbrev pub version_place : List StampParts → VersionRow → List ℕ
+version_place axis v = place_text (column axis v.start.stamp) (bar_to axis (column axis v.start.stamp) v.end)
+
 -- a version once: its bar from its start to how far it was read, its state and the front of its value
 abbrev pub bar_text : List StampParts → VersionRow → List ℕ
 bar_text axis v =
     codes "<i class=\"" ++ (state_word v.state ++ (older_class v.older
-    ++ (place_text (column axis v.start.stamp) (bar_to axis (column axis v.start.stamp) v.end)
+    ++ (version_place axis v
     ++ (value_cut 20 v.value ++ codes "</i>\n"))))
 
 abbrev pub origin_bar : List StampParts → Option TimeParts → List ℕ
@@ -107,16 +110,21 @@ every_of axis = length axis / 8 + 1
 abbrev pub axis_text : ShownParts → List StampParts → List ℕ
 axis_text p axis = codes "<div class=\"axis\"><b></b><span class=\"bars\">\n" ++ (flat_map (mark_text p axis (every_of axis)) axis ++ codes "</span></div>\n")
 
+abbrev pub rows_head : List StampParts → List ℕ
+rows_head axis = text_of (Words (codes "<div class=\"histories\" style=\"--n:") ∷ Number (length axis) ∷ Words (codes "\">\n") ∷ [])
+
 -- the axis and a row for each object
 abbrev pub rows_text : ShownParts → List StampParts → List ObjectRow → List ℕ
 rows_text p axis rows =
-    text_of (Words (codes "<div class=\"histories\" style=\"--n:") ∷ Number (length axis) ∷ Words (codes "\">\n") ∷ [])
+    rows_head axis
     ++ (axis_text p axis ++ (flat_map (row_text p axis) rows ++ codes "</div>\n"))
+
+abbrev pub folded_rows : ShownParts → List StampParts → List ObjectRow → List ℕ
+folded_rows p axis rows = fold_head (length rows) ++ (rows_text p axis rows ++ codes "</details>\n")
 
 -- those that the first 20 leave are folded away, under the axis again
 abbrev pub more_rows : ShownParts → List StampParts → List ObjectRow → List ℕ
-more_rows p axis [] = []
-more_rows p axis (r ∷ rows) = fold_head (length (r ∷ rows)) ++ (rows_text p axis (r ∷ rows) ++ codes "</details>\n")
+more_rows p axis rows = if length rows == 0 then [] else folded_rows p axis rows
 
 abbrev pub all_rows : ShownParts → List StampParts → List ObjectRow → List ℕ
 all_rows p axis rows = rows_text p axis (take 20 rows) ++ more_rows p axis (drop 20 rows)

@@ -35,15 +35,22 @@ marks_text p (effect.Begin s d ∷ es) = marks_text p es
 marks_text p (effect.Decide s d ∷ es) = marks_text p es
 marks_text p (effect.Learn s d ∷ es) = marks_text p es
 
+abbrev pub line_head : ℕ → List ℕ
+line_head n = text_of (Words (codes "<div class=\"line\"><b>broker ") ∷ Number n ∷ Words (codes "</b><span class=\"bars\">") ∷ [])
+
+abbrev pub broker_line : ShownParts → MediumLook → List ℕ
+broker_line p m = line_head m.number ++ (marks_text p m.log ++ codes "</span></div>\n")
+
 abbrev pub line_with : NodeKind → ShownParts → MediumLook → List ℕ
 line_with Repository p m = []
-line_with Broker p m =
-    text_of (Words (codes "<div class=\"line\"><b>broker ") ∷ Number m.number ∷ Words (codes "</b><span class=\"bars\">") ∷ [])
-    ++ (marks_text p m.log ++ codes "</span></div>\n")
+line_with Broker p m = broker_line p m
 
 -- the line of a broker
 abbrev pub line_text : ShownParts → MediumLook → List ℕ
 line_text p m = line_with m.kind p m
 
+abbrev pub lines_head : ShownParts → List ℕ
+lines_head p = text_of (Words (codes "<div class=\"lines\" style=\"--n:") ∷ Number (length p.tries) ∷ Words (codes "\">\n") ∷ [])
+
 abbrev pub lines_text : ShownParts → List MediumLook → List ℕ
-lines_text p media = text_of (Words (codes "<div class=\"lines\" style=\"--n:") ∷ Number (length p.tries) ∷ Words (codes "\">\n") ∷ []) ++ (flat_map (line_text p) media ++ codes "</div>\n")
+lines_text p media = lines_head p ++ (flat_map (line_text p) media ++ codes "</div>\n")

@@ -31,9 +31,12 @@ is_whole Whole = true
 is_whole (Damaged page) = false
 is_whole Shut = false
 
+abbrev pub wrong_text : MediumLook → List ℕ
+wrong_text m = codes "<p class=\"banner\">" ++ (name_text m ++ (fault_text m.state ++ codes "</p>\n"))
+
 -- a medium that can't be shown is named at the top
 abbrev pub banner_text : MediumLook → List ℕ
-banner_text m = if is_whole m.state then [] else codes "<p class=\"banner\">" ++ (name_text m ++ (fault_text m.state ++ codes "</p>\n"))
+banner_text m = if is_whole m.state then [] else wrong_text m
 
 -- ---- roles
 
@@ -87,11 +90,12 @@ damaged_page Whole = []
 damaged_page (Damaged page) = strip_page (codes "damaged") page
 damaged_page Shut = []
 
+abbrev pub strip_head : MediumLook → List ℕ
+strip_head m = text_of (Words (codes "<span class=\"bars strip\" style=\"--n:") ∷ Number m.pages ∷ Words (codes "\"><i class=\"gated\" style=\"--w:") ∷ Number (written m) ∷ Words (codes "\"></i>") ∷ [])
+
 -- its pages in order: those that are written, with the spoiled ones among them, then the blank ones
 abbrev pub strip_text : MediumLook → List ℕ
-strip_text m =
-    text_of (Words (codes "<span class=\"bars strip\" style=\"--n:") ∷ Number m.pages ∷ Words (codes "\"><i class=\"gated\" style=\"--w:") ∷ Number (written m) ∷ Words (codes "\"></i>") ∷ [])
-    ++ (flat_map spoiled_page m.spoiled ++ (damaged_page m.state ++ codes "</span>"))
+strip_text m = strip_head m ++ (flat_map spoiled_page m.spoiled ++ (damaged_page m.state ++ codes "</span>"))
 
 abbrev pub medium_pages : ℕ → MediumLook → List ℕ
 medium_pages acts m = counts_text m ++ (strip_text m ++ (codes "</td><td>" ++ (room_text acts m ++ codes "</td></tr>\n")))

@@ -62,9 +62,12 @@ history_key =
     codes "<p class=\"key\"><i class=\"committed\"></i> committed <i class=\"undecided\"></i> undecided <i class=\"aborted\"></i> aborted <i class=\"committed older\"></i> only in an older volume <i class=\"origin\"></i> reads of what was there at first <i class=\"floor\"></i> floor of a retirement</p>\n"
     ++ codes "<p class=\"key\">A bar goes from a version's start to how far it was read. Each stamp has a column, so equal widths aren't equal distances. Open an object for its versions.</p>\n"
 
+abbrev pub broker_text : ShownParts → MediumLook → List ℕ
+broker_text p m = codes "<section><h3>" ++ (name_text m ++ (codes "</h3>\n" ++ (log_text p m.log ++ codes "</section>\n")))
+
 abbrev pub acts_with : NodeKind → ShownParts → MediumLook → List ℕ
 acts_with Repository p m = []
-acts_with Broker p m = codes "<section><h3>" ++ (name_text m ++ (codes "</h3>\n" ++ (log_text p m.log ++ codes "</section>\n")))
+acts_with Broker p m = broker_text p m
 
 -- the acts of a broker
 abbrev pub acts_text : ShownParts → MediumLook → List ℕ

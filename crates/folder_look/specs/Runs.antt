@@ -130,11 +130,15 @@ tries_from p n (effect.Learn s d ∷ es) = tries_from p n es
 abbrev pub run_head : ShownParts → List ℕ
 run_head p = if nat_le (length p.tries) 20 then codes "<details class=\"run\" open>" else codes "<details class=\"run\">"
 
+-- its number, how many attempts of it are shown, and the head of their table
+abbrev pub run_summary : ShownParts → ℕ → List Effect → List ℕ
+run_summary p n es = text_of (Words (codes "<summary>run ") ∷ Number n ∷ Words (codes ", attempts ") ∷ Number (tries_from p 0 es) ∷ Words (codes "</summary>\n<table><thead><tr><th scope=\"col\">stamp</th><th scope=\"col\">reads and writes</th><th scope=\"col\">outcome</th></tr></thead><tbody>\n") ∷ [])
+
 -- a run with its attempts
 abbrev pub run_text : ShownParts → ℕ → List Effect → List ℕ
 run_text p n es =
     run_head p
-    ++ (text_of (Words (codes "<summary>run ") ∷ Number n ∷ Words (codes ", attempts ") ∷ Number (tries_from p 0 es) ∷ Words (codes "</summary>\n<table><thead><tr><th scope=\"col\">stamp</th><th scope=\"col\">reads and writes</th><th scope=\"col\">outcome</th></tr></thead><tbody>\n") ∷ [])
+    ++ (run_summary p n es
     ++ (tries_text p es ++ (acts_text p es ++ codes "</tbody></table></details>\n")))
 
 -- nothing if objects are chosen and no attempt that is shown concerns them

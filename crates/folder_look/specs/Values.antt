@@ -48,9 +48,11 @@ value_table p rows =
 abbrev pub fold_head : ℕ → List ℕ
 fold_head n = text_of (Words (codes "<details class=\"more\"><summary>objects, ") ∷ Number n ∷ Words (codes " more</summary>\n") ∷ [])
 
+abbrev pub folded_values : ShownParts → List ObjectRow → List ℕ
+folded_values p rows = fold_head (length rows) ++ (value_table p rows ++ codes "</details>\n")
+
 abbrev pub more_values : ShownParts → List ObjectRow → List ℕ
-more_values p [] = []
-more_values p (r ∷ rows) = fold_head (length (r ∷ rows)) ++ (value_table p (r ∷ rows) ++ codes "</details>\n")
+more_values p rows = if length rows == 0 then [] else folded_values p rows
 
 abbrev pub values_text : ShownParts → List ObjectRow → List ℕ
 values_text p rows = codes "<h2>Current values</h2>\n" ++ (value_table p (take 20 rows) ++ more_values p (drop 20 rows))

@@ -1,5 +1,5 @@
 //! The picture of histories, and the versions of each object.
-ghost use Rattle.std.specs.Prelude.{◌≡◌, ◌≤◌, ◌++◌, OnOk};
+ghost use Rattle.std.specs.Prelude.{◌≡◌, ◌++◌, OnOk, drop, take};
 ghost use Rattle.std.specs.List.{flat_map};
 ghost use Rattle.folder_look.specs.Drawing as spec;
 ghost use Rattle.folder_look.specs.Shown.{parts_of};
@@ -64,6 +64,19 @@ fn push_place(alloc: Global, out: &mut Vec<u8>, from: u64, columns: u64) -> Resu
     )
 }
 
+// Appends where the bar of a version begins, and how many columns it has.
+fn push_version_place(
+    alloc: Global,
+    out: &mut Vec<u8>,
+    axis: &BTreeSet<Stamp>,
+    version: &VersionRow,
+) -> Result<(), AllocError>
+    ensures { OnOk result (out.new.items ≡ out.old.items ++ spec.version_place axis.now.keys version.now) }
+{
+    let from = column(axis, version.start.stamp());
+    push_place(alloc, out, from, bar_to(axis, from, &version.end))
+}
+
 // Appends the bar of a version.
 fn push_bar(
     alloc: Global,
@@ -76,8 +89,7 @@ fn push_bar(
     out.extend_from_slice(b"<i class=\"")?;
     push_state(out, version.state)?;
     push_older_class(out, version.older)?;
-    let from = column(axis, version.start.stamp());
-    push_place(alloc, out, from, bar_to(axis, from, &version.end))?;
+    push_version_place(alloc, out, axis, version)?;
     push_value_cut(alloc, out, 20, &version.value)?;
     out.extend_from_slice(b"</i>\n")
 }
@@ -417,6 +429,21 @@ fn push_each(
     Ok(())
 }
 
+// Begins the picture.
+fn push_rows_head(alloc: Global, out: &mut Vec<u8>, axis: &BTreeSet<Stamp>) -> Result<(), AllocError>
+    ensures { OnOk result (out.new.items ≡ out.old.items ++ spec.rows_head axis.now.keys) }
+{
+    push_parts(
+        alloc,
+        out,
+        &[
+            Part::Words(b"<div class=\"histories\" style=\"--n:"),
+            Part::Number(axis.len() as u64),
+            Part::Words(b"\">\n"),
+        ],
+    )
+}
+
 // Appends the axis, and a row for each object.
 fn push_rows(
     alloc: Global,
@@ -427,21 +454,28 @@ fn push_rows(
 ) -> Result<(), AllocError>
     ensures { OnOk result (out.new.items ≡ out.old.items ++ spec.rows_text (parts_of shown.now) axis.now.keys rows.now) }
 {
-    push_parts(
-        alloc,
-        out,
-        &[
-            Part::Words(b"<div class=\"histories\" style=\"--n:"),
-            Part::Number(axis.len() as u64),
-            Part::Words(b"\">\n"),
-        ],
-    )?;
+    push_rows_head(alloc, out, axis)?;
     push_axis(alloc, out, shown, axis)?;
     push_each(alloc, out, shown, axis, rows)?;
     out.extend_from_slice(b"</div>\n")
 }
 
-// Appends the objects that the first 20 leave.
+// Appends objects, folded away.
+fn push_folded(
+    alloc: Global,
+    out: &mut Vec<u8>,
+    shown: &Shown,
+    axis: &BTreeSet<Stamp>,
+    rows: &[ObjectRow],
+) -> Result<(), AllocError>
+    ensures { OnOk result (out.new.items ≡ out.old.items ++ spec.folded_rows (parts_of shown.now) axis.now.keys rows.now) }
+{
+    push_fold(alloc, out, rows.len() as u64)?;
+    push_rows(alloc, out, shown, axis, rows)?;
+    out.extend_from_slice(b"</details>\n")
+}
+
+// Appends objects folded away, if there are any.
 fn push_more(
     alloc: Global,
     out: &mut Vec<u8>,
@@ -451,12 +485,37 @@ fn push_more(
 ) -> Result<(), AllocError>
     ensures { OnOk result (out.new.items ≡ out.old.items ++ spec.more_rows (parts_of shown.now) axis.now.keys rows.now) }
 {
-    if rows.is_empty() {
-        return Ok(());
+    if rows.len() == 0 {
+        Ok(())
+    } else {
+        push_folded(alloc, out, shown, axis, rows)
     }
-    push_fold(alloc, out, rows.len() as u64)?;
-    push_rows(alloc, out, shown, axis, rows)?;
-    out.extend_from_slice(b"</details>\n")
+}
+
+// Appends the first 20 objects.
+fn push_front(
+    alloc: Global,
+    out: &mut Vec<u8>,
+    shown: &Shown,
+    axis: &BTreeSet<Stamp>,
+    rows: &[ObjectRow],
+) -> Result<(), AllocError>
+    ensures { OnOk result (out.new.items ≡ out.old.items ++ spec.rows_text (parts_of shown.now) axis.now.keys (take 20 rows.now)) }
+{
+    push_rows(alloc, out, shown, axis, &rows[..rows.len().min(20)])
+}
+
+// Appends those that the first 20 leave.
+fn push_back(
+    alloc: Global,
+    out: &mut Vec<u8>,
+    shown: &Shown,
+    axis: &BTreeSet<Stamp>,
+    rows: &[ObjectRow],
+) -> Result<(), AllocError>
+    ensures { OnOk result (out.new.items ≡ out.old.items ++ spec.more_rows (parts_of shown.now) axis.now.keys (drop 20 rows.now)) }
+{
+    push_more(alloc, out, shown, axis, &rows[rows.len().min(20)..])
 }
 
 /// Appends all objects; those after the first 20 are folded away.
@@ -469,7 +528,6 @@ pub fn push_all_rows(
 ) -> Result<(), AllocError>
     ensures { OnOk result (out.new.items ≡ out.old.items ++ spec.all_rows (parts_of shown.now) axis.now.keys rows.now) }
 {
-    let (first, more) = rows.split_at(rows.len().min(20));
-    push_rows(alloc, out, shown, axis, first)?;
-    push_more(alloc, out, shown, axis, more)
+    push_front(alloc, out, shown, axis, rows)?;
+    push_back(alloc, out, shown, axis, rows)
 }

@@ -72,6 +72,35 @@ fn push_marks(
     Ok(())
 }
 
+// Begins the line of a broker.
+fn push_line_head(alloc: Global, out: &mut Vec<u8>, number: u8) -> Result<(), AllocError>
+    ensures { OnOk result (out.new.items ≡ out.old.items ++ spec.line_head number) }
+{
+    push_parts(
+        alloc,
+        out,
+        &[
+            Part::Words(b"<div class=\"line\"><b>broker "),
+            Part::Number(number as u64),
+            Part::Words(b"</b><span class=\"bars\">"),
+        ],
+    )
+}
+
+// Appends the line of a broker.
+fn push_broker(
+    alloc: Global,
+    out: &mut Vec<u8>,
+    shown: &Shown,
+    medium: &MediumLook,
+) -> Result<(), AllocError>
+    ensures { OnOk result (out.new.items ≡ out.old.items ++ spec.broker_line (parts_of shown.now) medium.now) }
+{
+    push_line_head(alloc, out, medium.number)?;
+    push_marks(alloc, out, shown, medium.log.as_slice())?;
+    out.extend_from_slice(b"</span></div>\n")
+}
+
 // Appends the line of a broker; a repository has none.
 fn push_line(
     alloc: Global,
@@ -83,19 +112,7 @@ fn push_line(
 {
     match medium.kind {
         NodeKind::Repository => Ok(()),
-        NodeKind::Broker => {
-            push_parts(
-                alloc,
-                out,
-                &[
-                    Part::Words(b"<div class=\"line\"><b>broker "),
-                    Part::Number(medium.number as u64),
-                    Part::Words(b"</b><span class=\"bars\">"),
-                ],
-            )?;
-            push_marks(alloc, out, shown, medium.log.as_slice())?;
-            out.extend_from_slice(b"</span></div>\n")
-        }
+        NodeKind::Broker => push_broker(alloc, out, shown, medium),
     }
 }
 
@@ -114,14 +131,9 @@ fn push_each(
     Ok(())
 }
 
-/// Appends the time line.
-pub fn push_lines(
-    alloc: Global,
-    out: &mut Vec<u8>,
-    shown: &Shown,
-    media: &[MediumLook],
-) -> Result<(), AllocError>
-    ensures { OnOk result (out.new.items ≡ out.old.items ++ spec.lines_text (parts_of shown.now) media.now) }
+// Begins the time line.
+fn push_lines_head(alloc: Global, out: &mut Vec<u8>, shown: &Shown) -> Result<(), AllocError>
+    ensures { OnOk result (out.new.items ≡ out.old.items ++ spec.lines_head (parts_of shown.now)) }
 {
     push_parts(
         alloc,
@@ -131,7 +143,19 @@ pub fn push_lines(
             Part::Number(shown.tries.len() as u64),
             Part::Words(b"\">\n"),
         ],
-    )?;
+    )
+}
+
+/// Appends the time line.
+pub fn push_lines(
+    alloc: Global,
+    out: &mut Vec<u8>,
+    shown: &Shown,
+    media: &[MediumLook],
+) -> Result<(), AllocError>
+    ensures { OnOk result (out.new.items ≡ out.old.items ++ spec.lines_text (parts_of shown.now) media.now) }
+{
+    push_lines_head(alloc, out, shown)?;
     push_each(alloc, out, shown, media)?;
     out.extend_from_slice(b"</div>\n")
 }

@@ -85,17 +85,25 @@ fn is_whole(state: MediumState) -> bool
     }
 }
 
+// Says of a medium what is wrong with it.
+fn push_wrong(alloc: Global, out: &mut Vec<u8>, medium: &MediumLook) -> Result<(), AllocError>
+    ensures { OnOk result (out.new.items ≡ out.old.items ++ spec.wrong_text medium.now) }
+{
+    out.extend_from_slice(b"<p class=\"banner\">")?;
+    push_name(alloc, out, medium)?;
+    push_fault(alloc, out, medium.state)?;
+    out.extend_from_slice(b"</p>\n")
+}
+
 // Names a medium that can't be shown.
 fn push_banner(alloc: Global, out: &mut Vec<u8>, medium: &MediumLook) -> Result<(), AllocError>
     ensures { OnOk result (out.new.items ≡ out.old.items ++ spec.banner_text medium.now) }
 {
     if is_whole(medium.state) {
-        return Ok(());
+        Ok(())
+    } else {
+        push_wrong(alloc, out, medium)
     }
-    out.extend_from_slice(b"<p class=\"banner\">")?;
-    push_name(alloc, out, medium)?;
-    push_fault(alloc, out, medium.state)?;
-    out.extend_from_slice(b"</p>\n")
 }
 
 /// Names the media that can't be shown.
@@ -253,9 +261,9 @@ fn push_damaged(alloc: Global, out: &mut Vec<u8>, state: MediumState) -> Result<
     }
 }
 
-// Appends the pages of a medium in order.
-fn push_strip(alloc: Global, out: &mut Vec<u8>, medium: &MediumLook) -> Result<(), AllocError>
-    ensures { OnOk result (out.new.items ≡ out.old.items ++ spec.strip_text medium.now) }
+// Begins a strip, with the pages that are written.
+fn push_strip_head(alloc: Global, out: &mut Vec<u8>, medium: &MediumLook) -> Result<(), AllocError>
+    ensures { OnOk result (out.new.items ≡ out.old.items ++ spec.strip_head medium.now) }
 {
     push_parts(
         alloc,
@@ -267,7 +275,14 @@ fn push_strip(alloc: Global, out: &mut Vec<u8>, medium: &MediumLook) -> Result<(
             Part::Number(written(medium)),
             Part::Words(b"\"></i>"),
         ],
-    )?;
+    )
+}
+
+// Appends the pages of a medium in order.
+fn push_strip(alloc: Global, out: &mut Vec<u8>, medium: &MediumLook) -> Result<(), AllocError>
+    ensures { OnOk result (out.new.items ≡ out.old.items ++ spec.strip_text medium.now) }
+{
+    push_strip_head(alloc, out, medium)?;
     push_spoiled(alloc, out, medium.spoiled.as_slice())?;
     push_damaged(alloc, out, medium.state)?;
     out.extend_from_slice(b"</span>")

@@ -174,6 +174,22 @@ fn push_history_key(out: &mut Vec<u8>) -> Result<(), AllocError>
     )
 }
 
+// Appends the acts of a broker.
+fn push_broker(
+    alloc: Global,
+    out: &mut Vec<u8>,
+    shown: &Shown,
+    medium: &MediumLook,
+) -> Result<(), AllocError>
+    ensures { OnOk result (out.new.items ≡ out.old.items ++ spec.broker_text (parts_of shown.now) medium.now) }
+{
+    out.extend_from_slice(b"<section><h3>")?;
+    push_name(alloc, out, medium)?;
+    out.extend_from_slice(b"</h3>\n")?;
+    push_log(alloc, out, shown, medium.log.as_slice())?;
+    out.extend_from_slice(b"</section>\n")
+}
+
 // Appends the acts of a broker; a repository has none.
 fn push_acts(
     alloc: Global,
@@ -185,13 +201,7 @@ fn push_acts(
 {
     match medium.kind {
         NodeKind::Repository => Ok(()),
-        NodeKind::Broker => {
-            out.extend_from_slice(b"<section><h3>")?;
-            push_name(alloc, out, medium)?;
-            out.extend_from_slice(b"</h3>\n")?;
-            push_log(alloc, out, shown, medium.log.as_slice())?;
-            out.extend_from_slice(b"</section>\n")
-        }
+        NodeKind::Broker => push_broker(alloc, out, shown, medium),
     }
 }
 
@@ -237,6 +247,19 @@ fn push_tries_left(
     )
 }
 
+// Appends how many attempts are shown, if there are more in the logs.
+fn push_left_tries(
+    alloc: Global,
+    out: &mut Vec<u8>,
+    shown: &Shown,
+    media: &[MediumLook],
+) -> Result<(), AllocError>
+    ensures { OnOk result (out.new.items ≡ out.old.items ++
+        spec.tries_left (length (parts_of shown.now).tries) (tally_of media.now).tries) }
+{
+    push_tries_left(alloc, out, shown.tries.len() as u64, tally_of(media).tries)
+}
+
 // Appends the time line, and the acts of each broker.
 fn push_attempts(
     alloc: Global,
@@ -248,7 +271,7 @@ fn push_attempts(
 {
     out.extend_from_slice(b"<h2>Attempts</h2>\n")?;
     push_try_key(out)?;
-    push_tries_left(alloc, out, shown.tries.len() as u64, tally_of(media).tries)?;
+    push_left_tries(alloc, out, shown, media)?;
     push_lines(alloc, out, shown, media)?;
     push_all_acts(alloc, out, shown, media)
 }
@@ -279,6 +302,13 @@ fn push_files(
 {
     out.extend_from_slice(b"<h2>Files</h2>\n")?;
     push_table(alloc, out, acts, media)
+}
+
+// Appends the files, with the room for acts like those in the logs.
+fn push_all_files(alloc: Global, out: &mut Vec<u8>, media: &[MediumLook]) -> Result<(), AllocError>
+    ensures { OnOk result (out.new.items ≡ out.old.items ++ spec.files_text (tally_of media.now).acts media.now) }
+{
+    push_files(alloc, out, tally_of(media).acts, media)
 }
 
 // The objects that a page shows, and how many more are chosen.
@@ -329,7 +359,7 @@ fn push_rest(
 {
     push_attempts(alloc, out, shown, media)?;
     push_histories(alloc, out, shown, rows)?;
-    push_files(alloc, out, tally_of(media).acts, media)?;
+    push_all_files(alloc, out, media)?;
     out.extend_from_slice(b"</body></html>\n")
 }
 

@@ -147,6 +147,22 @@ fn push_act_head<'a>(alloc: Global, out: &mut Vec<u8>, head: &ActHead<'a>) -> Re
     )
 }
 
+// Appends an act and its attempts.
+fn push_act_rows<'a>(
+    alloc: Global,
+    out: &mut Vec<u8>,
+    shown: &Shown,
+    head: &ActHead<'a>,
+    rest: &[Effect],
+) -> Result<(), AllocError>
+    ensures { OnOk result (out.new.items ≡ out.old.items ++
+        (spec.act_head head.now.index head.now.home head.now.tries head.now.script.now ++
+        spec.tries_text (parts_of shown.now) rest.now)) }
+{
+    push_act_head(alloc, out, head)?;
+    push_tries(alloc, out, shown, rest)
+}
+
 // Appends an act and its attempts, unless objects are chosen and no attempt that is shown concerns them.
 fn push_act<'a>(
     alloc: Global,
@@ -159,8 +175,7 @@ fn push_act<'a>(
         spec.act_text (parts_of shown.now) head.now.index head.now.home head.now.tries head.now.script.now rest.now) }
 {
     if shown.choice.has_all() || any_try(shown, rest) {
-        push_act_head(alloc, out, head)?;
-        push_tries(alloc, out, shown, rest)
+        push_act_rows(alloc, out, shown, head, rest)
     } else {
         Ok(())
     }
@@ -233,17 +248,16 @@ fn push_run_head(out: &mut Vec<u8>, shown: &Shown) -> Result<(), AllocError>
     }
 }
 
-// Appends a run with its attempts.
-fn push_run(
+// Appends the number of a run, how many attempts of it are shown, and the head of their table.
+fn push_summary(
     alloc: Global,
     out: &mut Vec<u8>,
     shown: &Shown,
     number: u32,
     effects: &[Effect],
 ) -> Result<(), AllocError>
-    ensures { OnOk result (out.new.items ≡ out.old.items ++ spec.run_text (parts_of shown.now) number effects.now) }
+    ensures { OnOk result (out.new.items ≡ out.old.items ++ spec.run_summary (parts_of shown.now) number effects.now) }
 {
-    push_run_head(out, shown)?;
     push_parts(
         alloc,
         out,
@@ -257,7 +271,21 @@ fn push_run(
                   <th scope=\"col\">reads and writes</th><th scope=\"col\">outcome</th></tr></thead><tbody>\n",
             ),
         ],
-    )?;
+    )
+}
+
+// Appends a run with its attempts.
+fn push_run(
+    alloc: Global,
+    out: &mut Vec<u8>,
+    shown: &Shown,
+    number: u32,
+    effects: &[Effect],
+) -> Result<(), AllocError>
+    ensures { OnOk result (out.new.items ≡ out.old.items ++ spec.run_text (parts_of shown.now) number effects.now) }
+{
+    push_run_head(out, shown)?;
+    push_summary(alloc, out, shown, number, effects)?;
     push_tries(alloc, out, shown, effects)?;
     push_acts(alloc, out, shown, effects)?;
     out.extend_from_slice(b"</tbody></table></details>\n")

@@ -176,6 +176,13 @@ fn push_end_cell(alloc: Global, out: &mut Vec<u8>, end: &Option<Outcome>) -> Res
     out.extend_from_slice(b"</td></tr>\n")
 }
 
+// Appends how the attempt ended, as the last cell of its row.
+fn push_end_of(alloc: Global, out: &mut Vec<u8>, rest: &[Effect]) -> Result<(), AllocError>
+    ensures { OnOk result (out.new.items ≡ out.old.items ++ spec.end_cell (spec.end_of rest.now)) }
+{
+    push_end_cell(alloc, out, &end_of(rest))
+}
+
 /// Appends a row for an attempt.
 pub fn push_try(
     alloc: Global,
@@ -199,5 +206,5 @@ pub fn push_try(
     )?;
     push_steps(alloc, out, shown, stamp, rest)?;
     out.extend_from_slice(b"</td>")?;
-    push_end_cell(alloc, out, &end_of(rest))
+    push_end_of(alloc, out, rest)
 }

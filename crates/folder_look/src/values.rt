@@ -1,5 +1,5 @@
 //! The current value of each object.
-ghost use Rattle.std.specs.Prelude.{◌≡◌, ◌++◌, OnOk};
+ghost use Rattle.std.specs.Prelude.{◌≡◌, ◌++◌, OnOk, drop, take};
 ghost use Rattle.std.specs.List.{flat_map};
 ghost use Rattle.folder_look.specs.Shown.{parts_of};
 ghost use Rattle.folder_look.specs.Values as spec;
@@ -173,7 +173,21 @@ pub fn push_fold(alloc: Global, out: &mut Vec<u8>, count: u64) -> Result<(), All
     )
 }
 
-// Appends the objects that the first table leaves.
+// Appends objects, folded away.
+fn push_folded(
+    alloc: Global,
+    out: &mut Vec<u8>,
+    shown: &Shown,
+    rows: &[ObjectRow],
+) -> Result<(), AllocError>
+    ensures { OnOk result (out.new.items ≡ out.old.items ++ spec.folded_values (parts_of shown.now) rows.now) }
+{
+    push_fold(alloc, out, rows.len() as u64)?;
+    push_table(alloc, out, shown, rows)?;
+    out.extend_from_slice(b"</details>\n")
+}
+
+// Appends objects folded away, if there are any.
 fn push_more(
     alloc: Global,
     out: &mut Vec<u8>,
@@ -182,12 +196,35 @@ fn push_more(
 ) -> Result<(), AllocError>
     ensures { OnOk result (out.new.items ≡ out.old.items ++ spec.more_values (parts_of shown.now) rows.now) }
 {
-    if rows.is_empty() {
-        return Ok(());
+    if rows.len() == 0 {
+        Ok(())
+    } else {
+        push_folded(alloc, out, shown, rows)
     }
-    push_fold(alloc, out, rows.len() as u64)?;
-    push_table(alloc, out, shown, rows)?;
-    out.extend_from_slice(b"</details>\n")
+}
+
+// Appends the first 20 objects.
+fn push_front(
+    alloc: Global,
+    out: &mut Vec<u8>,
+    shown: &Shown,
+    rows: &[ObjectRow],
+) -> Result<(), AllocError>
+    ensures { OnOk result (out.new.items ≡ out.old.items ++ spec.value_table (parts_of shown.now) (take 20 rows.now)) }
+{
+    push_table(alloc, out, shown, &rows[..rows.len().min(20)])
+}
+
+// Appends those that the first 20 leave.
+fn push_back(
+    alloc: Global,
+    out: &mut Vec<u8>,
+    shown: &Shown,
+    rows: &[ObjectRow],
+) -> Result<(), AllocError>
+    ensures { OnOk result (out.new.items ≡ out.old.items ++ spec.more_values (parts_of shown.now) (drop 20 rows.now)) }
+{
+    push_more(alloc, out, shown, &rows[rows.len().min(20)..])
 }
 
 /// Appends the current values; those of more than 20 objects are folded away.
@@ -199,8 +236,7 @@ pub fn push_values(
 ) -> Result<(), AllocError>
     ensures { OnOk result (out.new.items ≡ out.old.items ++ spec.values_text (parts_of shown.now) rows.now) }
 {
-    let (first, more) = rows.split_at(rows.len().min(20));
     out.extend_from_slice(b"<h2>Current values</h2>\n")?;
-    push_table(alloc, out, shown, first)?;
-    push_more(alloc, out, shown, more)
+    push_front(alloc, out, shown, rows)?;
+    push_back(alloc, out, shown, rows)
 }
