@@ -1,5 +1,5 @@
 -- Each part of the page has the frame's tags alone.
-use Rattle.folder_look.proofs.Names.{flat_map, TimeParts, ObjectId, Value, Effect, Choice, VersionRow, ObjectRow, MediumLook, Tally, ended_text, ended_class, column, objects_left, ◌≡◌, ℕ, ◌-◌, ◌+◌, Bool, true, false, List, [], ◌∷◌, ◌++◌, codes, reverse, length, take, drop, refl, ◌∙◌, Option, Some, None, not, ◌==◌, ◌||◌, nat_lt, nat_le, if◌then◌else◌, object_text, time_text, kind_text, refusal_text, kind_word, axis_of, tally_of}
+use Rattle.folder_look.proofs.Names.{flat_map, TimeParts, ObjectId, Value, Effect, Choice, VersionRow, ObjectRow, MediumLook, Tally, ended_text, ended_class, column, objects_left, ◌≡◌, ℕ, ◌-◌, ◌+◌, Bool, true, false, List, [], ◌∷◌, ◌++◌, codes, reverse, length, take, drop, refl, ap, sym, append-nil, ◌∙◌, Option, Some, None, not, ◌==◌, ◌||◌, nat_lt, nat_le, if◌then◌else◌, object_text, time_text, kind_text, refusal_text, kind_word, axis_of, tally_of}
 use Rattle.std.specs.Fmt.{decimal}
 use Rattle.std.specs.Prelude.{◌%◌}
 use Rattle.pseudo_time.specs.StampParts.{StampParts}
@@ -55,7 +55,7 @@ object : (o : ObjectId) → T (object_text o)
 object o = on (decimal o.repository) _ (number o.repository) ∙ number o.number
 
 pub time : (t : TimeParts) → T (time_text t)
-time t = pieces InText (Time t ∷ []) refl
+time t = ap (spot_behind frame_tags InText) (sym (append-nil (time_text t))) ∙ pieces InText (Time t ∷ []) refl
 
 fail-kind : (k : FailKind) → T (kind_text k)
 fail-kind kind.Overflow = refl
@@ -274,4 +274,3 @@ pub time-line : (p : ShownParts) (ms : List MediumLook) → T (lines.lines_text 
 time-line p ms =
     on (text_of (Words (codes "<div class=\"lines\" style=\"--n:") ∷ Number (length p.tries) ∷ Words (codes "\">\n") ∷ [])) _ (pieces InText (Words (codes "<div class=\"lines\" style=\"--n:") ∷ Number (length p.tries) ∷ Words (codes "\">\n") ∷ []) refl)
     ∙ on (flat_map (lines.line_text p) ms) _ (each-through frame_tags (lines.line_text p) (λ m. line-with m.kind p m) ms) ∙ refl
-

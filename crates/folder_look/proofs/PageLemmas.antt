@@ -1,5 +1,5 @@
 -- The values, the histories, the files and the whole page have the frame's tags alone.
-use Rattle.folder_look.proofs.Names.{flat_map, TimeParts, ObjectId, Value, Effect, Choice, VersionRow, ObjectRow, MediumLook, Tally, ended_text, ended_class, column, objects_left, ◌≡◌, ℕ, ◌-◌, ◌+◌, Bool, true, false, List, [], ◌∷◌, ◌++◌, codes, reverse, length, take, drop, refl, ◌∙◌, Option, Some, None, not, ◌==◌, ◌||◌, nat_lt, nat_le, if◌then◌else◌, object_text, time_text, kind_text, refusal_text, kind_word, axis_of, tally_of}
+use Rattle.folder_look.proofs.Names.{flat_map, TimeParts, ObjectId, Value, Effect, Choice, VersionRow, ObjectRow, MediumLook, Tally, ended_text, ended_class, column, objects_left, ◌≡◌, ℕ, ◌-◌, ◌+◌, Bool, true, false, List, [], ◌∷◌, ◌++◌, codes, reverse, length, take, drop, refl, ap, append_assoc, sym, ◌∙◌, Option, Some, None, not, ◌==◌, ◌||◌, nat_lt, nat_le, if◌then◌else◌, object_text, time_text, kind_text, refusal_text, kind_word, axis_of, tally_of}
 use Rattle.std.specs.Fmt.{decimal}
 use Rattle.std.specs.Prelude.{◌%◌}
 use Rattle.pseudo_time.specs.StampParts.{StampParts}
@@ -91,7 +91,7 @@ bar-open (Some false) None c w = pieces InText (Words (codes "<i class=\"aborted
 bar-open (Some false) (Some n) c w = pieces InText (Words (codes "<i class=\"aborted older") ∷ Words (codes "\" style=\"--a:") ∷ Number c ∷ Words (codes ";--w:") ∷ Number w ∷ Words (codes "\">") ∷ []) refl
 
 assoc-bar : (a b c d e : List ℕ) → spot_behind frame_tags InText (a ++ (b ++ (c ++ (d ++ e)))) ≡ spot_behind frame_tags InText ((a ++ (b ++ (c ++ d))) ++ e)
-assoc-bar a b c d e = search rules
+assoc-bar a b c d e = ap (spot_behind frame_tags InText) (sym (append_assoc a (b ++ (c ++ d)) e ∙ ap (λ t. a ++ t) (append_assoc b (c ++ d) e ∙ ap (λ t. b ++ t) (append_assoc c d e))))
 
 bar : (axis : List StampParts) (v : VersionRow) → T (draw.bar_text axis v)
 bar axis v =

@@ -97,11 +97,16 @@ row_text p axis r =
     row_head r
     ++ (bars_text axis r ++ (codes "</span></summary>\n" ++ (versions_text p r ++ codes "</details>\n")))
 
--- a stamp of the axis; of many, each so manieth has its name
+-- of many, each so manieth has its name
+abbrev pub is_named : ℕ → ℕ → Bool
+is_named every n = n % every == 0
+
+abbrev pub named_mark : ShownParts → ℕ → StampParts → List ℕ
+named_mark p n s = text_of (Words (codes "<i style=\"--a:") ∷ Number n ∷ Words (codes "\">") ∷ []) ++ (stamp_ref p s ++ codes "</i>\n")
+
+-- a stamp of the axis
 abbrev pub mark_text : ShownParts → List StampParts → ℕ → StampParts → List ℕ
-mark_text p axis every s =
-    if column axis s % every == 0 then text_of (Words (codes "<i style=\"--a:") ∷ Number (column axis s) ∷ Words (codes "\">") ∷ []) ++ (stamp_ref p s ++ codes "</i>\n")
-    else []
+mark_text p axis every s = if is_named every (column axis s) then named_mark p (column axis s) s else []
 
 -- so that there are eight names at most
 abbrev pub every_of : List StampParts → ℕ

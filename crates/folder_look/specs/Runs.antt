@@ -83,7 +83,7 @@ any_try p (effect.Learn s d ∷ es) = any_try p es
 abbrev pub act_head : ℕ → ℕ → ℕ → List ℕ → List ℕ
 act_head i home tries script =
     text_of (Words (codes "<tr class=\"act\"><th colspan=\"3\" scope=\"rowgroup\">act ") ∷ Number i ∷ Words (codes ", home ") ∷ Number home ∷ Words (codes ", attempts allowed ") ∷ Number tries
-        ∷ Words (codes "<details><summary>script</summary><pre>") ∷ Text script ∷ Words (codes "</pre></details></th></tr>\n") ∷ [])
+    ∷ Words (codes "<details><summary>script</summary><pre>") ∷ Text script ∷ Words (codes "</pre></details></th></tr>\n") ∷ [])
 
 -- an act with its attempts; nothing if objects are chosen and no attempt that is shown concerns them
 abbrev pub act_text : ShownParts → ℕ → ℕ → ℕ → List ℕ → List Effect → List ℕ

@@ -238,11 +238,7 @@ fn push_each_version(
 }
 
 // Appends the row of an origin that was read.
-fn push_origin(
-    alloc: Global,
-    out: &mut Vec<u8>,
-    end: &Option<PseudoTime>,
-) -> Result<(), AllocError>
+fn push_origin(alloc: Global, out: &mut Vec<u8>, end: &Option<PseudoTime>) -> Result<(), AllocError>
     ensures { OnOk result (out.new.items ≡ out.old.items ++ spec.origin_text end.now) }
 {
     match end {
@@ -353,22 +349,24 @@ fn push_row(
     out.extend_from_slice(b"</details>\n")
 }
 
-// Appends a stamp of the axis; of many, each so manieth has its name.
-fn push_mark(
+// Whether the stamp in this column has its name: of many each so manieth.
+fn is_named(axis: &BTreeSet<Stamp>, at: u64) -> bool
+    ensures { result ≡ spec.is_named (spec.every_of axis.now.keys) at }
+{
+    let every = axis.len() as u64 / 8 + 1;
+    at % every == 0
+}
+
+// Appends the name of the stamp in this column.
+fn push_named(
     alloc: Global,
     out: &mut Vec<u8>,
     shown: &Shown,
-    axis: &BTreeSet<Stamp>,
+    at: u64,
     stamp: Stamp,
 ) -> Result<(), AllocError>
-    ensures { OnOk result (out.new.items ≡ out.old.items ++
-        spec.mark_text (parts_of shown.now) axis.now.keys (spec.every_of axis.now.keys) stamp) }
+    ensures { OnOk result (out.new.items ≡ out.old.items ++ spec.named_mark (parts_of shown.now) at stamp) }
 {
-    let every = axis.len() as u64 / 8 + 1;
-    let at = column(axis, stamp);
-    if at % every != 0 {
-        return Ok(());
-    }
     push_parts(
         alloc,
         out,
@@ -380,6 +378,25 @@ fn push_mark(
     )?;
     push_stamp_ref(alloc, out, shown, stamp)?;
     out.extend_from_slice(b"</i>\n")
+}
+
+// Appends a stamp of the axis, if it has its name.
+fn push_mark(
+    alloc: Global,
+    out: &mut Vec<u8>,
+    shown: &Shown,
+    axis: &BTreeSet<Stamp>,
+    stamp: Stamp,
+) -> Result<(), AllocError>
+    ensures { OnOk result (out.new.items ≡ out.old.items ++
+        spec.mark_text (parts_of shown.now) axis.now.keys (spec.every_of axis.now.keys) stamp) }
+{
+    let at = column(axis, stamp);
+    if is_named(axis, at) {
+        push_named(alloc, out, shown, at, stamp)
+    } else {
+        Ok(())
+    }
 }
 
 // Appends the stamps of the axis.
@@ -430,7 +447,11 @@ fn push_each(
 }
 
 // Begins the picture.
-fn push_rows_head(alloc: Global, out: &mut Vec<u8>, axis: &BTreeSet<Stamp>) -> Result<(), AllocError>
+fn push_rows_head(
+    alloc: Global,
+    out: &mut Vec<u8>,
+    axis: &BTreeSet<Stamp>,
+) -> Result<(), AllocError>
     ensures { OnOk result (out.new.items ≡ out.old.items ++ spec.rows_head axis.now.keys) }
 {
     push_parts(
@@ -515,7 +536,7 @@ fn push_back(
 ) -> Result<(), AllocError>
     ensures { OnOk result (out.new.items ≡ out.old.items ++ spec.more_rows (parts_of shown.now) axis.now.keys (drop 20 rows.now)) }
 {
-    push_more(alloc, out, shown, axis, &rows[rows.len().min(20)..])
+    push_more(alloc, out, shown, axis, &rows[20usize.min(rows.len())..])
 }
 
 /// Appends all objects; those after the first 20 are folded away.

@@ -221,12 +221,7 @@ fn push_all_acts(
 }
 
 // Appends how many attempts are shown, if there are more.
-fn push_tries_left(
-    alloc: Global,
-    out: &mut Vec<u8>,
-    shown: u64,
-    all: u64,
-) -> Result<(), AllocError>
+fn push_tries_left(alloc: Global, out: &mut Vec<u8>, shown: u64, all: u64) -> Result<(), AllocError>
     ensures { OnOk result (out.new.items ≡ out.old.items ++ spec.tries_left shown all) }
 {
     if shown >= all {

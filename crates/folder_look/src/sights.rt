@@ -42,7 +42,13 @@ fn tries_of(
     let mut tries = BTreeSet::new(alloc);
     for medium in media {
         if !is_repository(medium.kind) {
-            add_tries(choice, touches, MOST_TRIES, medium.log.as_slice(), &mut tries)?;
+            add_tries(
+                choice,
+                touches,
+                MOST_TRIES,
+                medium.log.as_slice(),
+                &mut tries,
+            )?;
         }
     }
     Ok(tries)

@@ -42,11 +42,7 @@ fn push_read(
 {
     out.extend_from_slice(b"<p>read ")?;
     push_owner(alloc, out, shown, touch)?;
-    push_parts(
-        alloc,
-        out,
-        &[Part::Printed(value), Part::Words(b"</p>\n")],
-    )
+    push_parts(alloc, out, &[Part::Printed(value), Part::Words(b"</p>\n")])
 }
 
 // Appends the value that was written, if it is known.

@@ -224,7 +224,7 @@ fn push_back(
 ) -> Result<(), AllocError>
     ensures { OnOk result (out.new.items ≡ out.old.items ++ spec.more_values (parts_of shown.now) (drop 20 rows.now)) }
 {
-    push_more(alloc, out, shown, &rows[rows.len().min(20)..])
+    push_more(alloc, out, shown, &rows[20usize.min(rows.len())..])
 }
 
 /// Appends the current values; those of more than 20 objects are folded away.
