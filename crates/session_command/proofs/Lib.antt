@@ -1,0 +1,4 @@
+pub mod BatchLemmas
+pub mod InputLemmas
+pub mod SessionLemmas
+pub mod TurnLemmas

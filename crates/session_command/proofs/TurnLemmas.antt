@@ -1,0 +1,41 @@
+-- What a turn comes to.
+use Rattle.std.proofs.Common.{◌≡◌, ◌++◌, ◌+◌, ◌∙◌, ℕ, List, [], ◌∷◌, length, ap, inl, inr, refl, subst, sym, ◌⊎◌}
+use Rattle.std.specs.Prelude.{Option}
+use Rattle.std.specs.Io.KnownBytes.{Consumes, IsAtEnd}
+use Rattle.stream_port.specs.Causes.{Rose}
+use Rattle.stream_port.specs.declared.fates.Asked.{Asked}
+use Rattle.medium_port.specs.declared.shelves.Shelf.{Ghosts}
+use Rattle.session_form.specs.Sessions.{IsBatch, batch_text, counted, ended}
+use Rattle.command_words.specs.declared.commands.Options.{Options}
+use Rattle.plan_volumes.specs.Media.{Media}
+use Rattle.run_command.specs.declared.stops.Stop.{Stop}
+use Rattle.run_command.specs.declared.stops.Stop.TheVariants as stop
+use Rattle.run_command.specs.Written.{EndsIfAny}
+use Rattle.session_command.specs.Chains.{Answered, GoesOn}
+use Rattle.session_command.specs.Inputs.{HasEnded}
+use Rattle.session_command.specs.Lines.{cut_line}
+use Rattle.session_command.specs.Sessions.{EndsAtSource, EndsWell, Stops}
+use Rattle.session_command.specs.Standings.{IsStill, Standing, standing, sunk}
+use Rattle.session_command.specs.Texts.{AreBlank, own}
+use Rattle.session_command.specs.Turns.{GotNothing, StoppedAs, WentOn}
+use Rattle.session_command.proofs.InputLemmas.{ended-append}
+
+-- a head with a batch behind it
+pub text-of : (repositories brokers : List ℕ) (batch : List (List ℕ)) (head text : List ℕ) → head ≡ batch_text repositories brokers [] → text ≡ head ++ ended batch → text ≡ batch_text repositories brokers batch
+text-of repositories brokers batch head text is e = e ∙ (ap (λ (l : List ℕ). l ++ ended batch) is ∙ sym (ended-append (_ ∷ _ ∷ repositories ∷ brokers ∷ []) batch))
+
+module _ {H : Type 0} (shelf : H) (taken new_taken : Option (List ℕ)) (faults new_faults : ℕ) (asked : List Asked) (answers : Option (List ℕ)) where
+  nothing-changed : new_taken ≡ taken → new_faults ≡ faults → standing shelf new_taken new_faults asked answers ≡ standing shelf taken faults asked answers
+  nothing-changed e f = ap (λ (x : Option (List ℕ)). standing shelf x new_faults asked answers) e ∙ ap (λ (n : ℕ). standing shelf taken n asked answers) f
+
+  -- no more is read
+  pub stopped : {M : Type 0} (g : Ghosts H M) (w : Media M) (o : Options) (repositories brokers : List ℕ) (input : Option (List ℕ)) (faults_before faults_now before status : ℕ) (why : Stop) → (why ≡ stop.Source → Rose faults_before faults_now)
+      → StoppedAs why status (sunk (standing shelf taken faults asked answers) (standing shelf new_taken new_faults asked answers))
+      → Stops g w o repositories brokers input faults_before faults_now before status (standing shelf taken faults asked answers) (standing shelf new_taken new_faults asked answers)
+  stopped g w o repositories brokers input faults_before faults_now before status stop.Source rose told =
+      inr (inl (record { status_is = told.0; rose = rose refl; still = record { shelf = refl; asked = refl; answers = refl }; line = told.1 }))
+  stopped g w o repositories brokers input faults_before faults_now before status stop.NoMemory rose told = inr (inr (inr (told.0, nothing-changed told.1 told.2)))
+  stopped g w o repositories brokers input faults_before faults_now before status stop.Words rose told = inr (inr (inr (told.0, nothing-changed told.1 told.2)))
+  stopped g w o repositories brokers input faults_before faults_now before status (stop.Fault line kind) rose told = inr (inr (inr (told.0, nothing-changed told.1 told.2)))
+  stopped g w o repositories brokers input faults_before faults_now before status (stop.Votes line) rose told = inr (inr (inr (told.0, nothing-changed told.1 told.2)))
+  stopped g w o repositories brokers input faults_before faults_now before status stop.Sink rose told = inr (inr (inr (told.0, nothing-changed told.1 told.2)))

@@ -1,0 +1,17 @@
+//! A session: batches of acts are run one after another over media that are held open.
+#![tactic(auto)]
+
+mod answers;
+mod batches;
+mod heights;
+mod inputs;
+mod keeping;
+mod line_readers;
+mod lines;
+mod putting;
+mod sessions;
+mod turns;
+mod words;
+
+pub use answers::Answer;
+pub use sessions::session;
