@@ -1,4 +1,5 @@
 pub mod BatchLemmas
 pub mod InputLemmas
+pub mod KeptLemmas
 pub mod SessionLemmas
 pub mod TurnLemmas

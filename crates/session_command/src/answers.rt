@@ -1,9 +1,10 @@
 //! A batch is answered.
-ghost use Rattle.std.specs.Prelude.{◌≤◌};
+ghost use Rattle.std.specs.Prelude.{◌≤◌, List, ℕ};
 ghost use Rattle.plan_form.specs.PlanTexts.{CanRun};
 ghost use Rattle.run_command.specs.Written.{EndsIfAny, sinking};
 ghost use Rattle.session_form.specs.Sessions.{line_of};
 ghost use Rattle.session_command.specs.Judged.{Judged, RanAbove};
+ghost use Rattle.session_command.specs.Kept.{IsKept};
 ghost use Rattle.session_command.specs.Lines.{fault_line};
 ghost use Rattle.session_command.specs.Standings.{standing};
 
@@ -84,8 +85,9 @@ fn tell_fault<O: Sink>(alloc: Global, before: u64, line: u32, kind: PlanKind, si
     tell_text(line_with(alloc, number, kind.words()), 2, sink)
 }
 
-/// Answers a batch, which is this text as a plan, when so many lines of the session were before it.
-pub fn answer<
+/// Answers a batch, which is this text as a plan, or has a longer front of it than a plan may have, when so
+/// many lines of the session were before it.
+pub fn answer_batch<
     O: Sink,
     H: HoldingShelf,
     F: Fates + Drop + Send,
@@ -105,7 +107,8 @@ pub fn answer<
 where
     H::Medium: Drop + Send,
     requires workers { 1 ≤ options.workers }
-    ensures { Judged H.Shelf H.Medium.Medium options text.now before result.status
+    ensures { (whole : List ℕ) → IsKept text.now whole →
+        Judged H.Shelf H.Medium.Medium options whole before result.status
         (standing shelf.old (O.taken sink.old) (O.faults sink.old) (F.asked fates) (C.answers clock))
         (standing shelf.new (O.taken sink.new) (O.faults sink.new) (F.asked result.fates) (C.answers result.clock)) }
 {

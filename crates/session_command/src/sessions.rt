@@ -14,7 +14,7 @@ ghost use Rattle.session_command.specs.Turns.{ToldOf};
 use crate::answers::Answer;
 use crate::inputs::SessionInput;
 use crate::lines::line_with;
-use crate::turns::{Turn, turn};
+use crate::turns::{Turn, take_turn};
 use crate::words::options_of;
 use command_words::Options;
 use held_shelf::HoldingShelf;
@@ -69,7 +69,7 @@ where
     let mut clock = clock;
     let mut status = 0u8;
     for _ in 0..u64::MAX {
-        let (turn, answer) = turn(
+        let (turn, answer) = take_turn(
             rt, alloc, &mut input, source, options, sink, shelf, fates, clock,
         );
         match turn {

@@ -8,7 +8,7 @@ ghost use Rattle.session_command.specs.Chains.{GoesOn};
 ghost use Rattle.session_command.specs.Standings.{standing};
 ghost use Rattle.session_command.specs.Turns.{StoppedAs, Turned};
 
-use crate::answers::{Answer, answer};
+use crate::answers::{Answer, answer_batch};
 use crate::inputs::{Next, SessionInput};
 use crate::lines::line_with;
 use command_words::Options;
@@ -53,7 +53,7 @@ fn tell_stop<O: Sink>(stop: Stop, sink: &mut O) -> u8
 }
 
 /// Reads the next batch, and answers it.
-pub fn turn<
+pub fn take_turn<
     I: Source,
     O: Sink,
     H: HoldingShelf,
@@ -88,7 +88,7 @@ where
     let before = input.lines;
     match input.read_batch(alloc, source) {
         Ok(Next::Batch(text)) => {
-            let answer = answer(
+            let answer = answer_batch(
                 rt,
                 alloc,
                 text.as_slice(),
