@@ -8,6 +8,10 @@ import sys
 import tempfile
 import threading
 import time
+from pathlib import Path
+
+sys.path.insert(0, str(Path(__file__).resolve().parent.parent / "examples" / "clients"))
+from swallow_session import Act, Ended, Session, with_token
 
 program, sessions, kills = sys.argv[1], int(sys.argv[2]), int(sys.argv[3])
 
@@ -86,40 +90,37 @@ def try_session(seed, bytewise):
 
 
 def try_kills(count):
+    """Sessions of the client that are killed at random places. Each act that was told committed is there afterwards, none
+    twice; and of one without a report the token says whether it is."""
     draw = random.Random(count)
-    folder, acknowledged, number = tempfile.mkdtemp(), [], 0
+    folder, told, sure, number = tempfile.mkdtemp(), [], [], 0
     for _ in range(count):
-        process = subprocess.Popen([program, folder, "session"], stdin=subprocess.PIPE, stdout=subprocess.PIPE)
-        killer = threading.Timer(draw.uniform(0.005, 0.25), process.kill)
-        killer.start()
+        session, killer = None, None
         try:
-            process.stdin.write(b"swallow session 1\nrepositories 1\nbrokers 1\n")
+            session = Session(folder, program=program)
+            killer = threading.Timer(draw.uniform(0.005, 0.25), session.process.kill)
+            killer.start()
+            if session.last_token("1.900") == number and number not in told and number:
+                sure.append(number)
             while True:
                 number += 1
-                rows = f"read x 1.1\nwrite 1.1 given(x, 0) + 1\nwrite 1.{number + 1} {number}"
-                process.stdin.write(f"act broker 1 home 1 timeout 2 tries 9\n{rows}\ndone\ngo\n".encode())
-                process.stdin.flush()
-                committed = False
-                while True:
-                    told = process.stdout.readline()
-                    if not told:
-                        raise BrokenPipeError
-                    committed |= told.startswith(b"try ") and told.endswith(b" committed\n")
-                    if told.startswith((b"wire ", b"swallow: ")):
-                        break
-                if committed:
-                    acknowledged.append(number)
-        except BrokenPipeError:
+                rows = f"read x 1.1\nwrite 1.1 given(x, 0) + 1\nwrite 1.{number + 1000} {number}"
+                report = session.run(Act(with_token(rows, "1.900", number), timeout=2, tries=9))
+                if report.acts[0].committed:
+                    told.append(number)
+        except Ended:
             pass
-        killer.cancel()
-        process.kill()
-        process.wait()
-    status, told = run(folder, ["session"], b"swallow session 1\nrepositories 1\nbrokers 1\ngo\n")
-    finals = dict(told_line.split()[1:3] for told_line in told.decode().splitlines() if told_line.startswith("final "))
-    there = {int(value) for name, value in finals.items() if name != "1.1"}
-    assert set(acknowledged) <= there, sorted(set(acknowledged) - there)
-    assert int(finals.get("1.1", 0)) == len(there), (finals.get("1.1"), len(there))
-    return len(acknowledged), len(there)
+        finally:
+            if killer:
+                killer.cancel()
+            session.process.kill()
+            session.process.wait()
+    with Session(folder, program=program) as session:
+        finals = session.run().finals
+    there = {value for name, value in finals.items() if name not in ("1.1", "1.900")}
+    assert set(told + sure) <= there, sorted(set(told + sure) - there)
+    assert finals.get("1.1", 0) == len(there), (finals.get("1.1"), len(there))
+    return len(told), len(there)
 
 
 began = time.time()
