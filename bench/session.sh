@@ -1,3 +1,4 @@
-#!/bin/sh
-# Tries sessions of the program, from the top of the repository: bench/session.sh [SESSIONS [KILLS]]
-exec python3 bench/session.py ./swallow "${1:-1000}" "${2:-200}"
+#!/usr/bin/env bash
+# Tries sessions of the program that ./swallow starts (session.py): bench/session.sh [SESSIONS [KILLS]]
+top="$(cd "$(dirname "${BASH_SOURCE[0]}")/.." && pwd)" || exit 1
+exec python3 "$top/bench/session.py" "$top/swallow" "${1:-1000}" "${2:-200}"
