@@ -2,8 +2,7 @@
 use Rattle.std.proofs.Common.{◌≡◌, ◌++◌, ◌+◌, ◌-◌, ◌<◌, ◌≤◌, ◌∙◌, ◌==◌, Bool, true, false, ℕ, List, [], ◌∷◌, length, ap, append_assoc, arith, inl, inr, refl, subst, sym, ◌⊎◌}
 use Rattle.std.specs.Prelude.{take, slice_index, if◌then◌else◌}
 use Rattle.std.specs.Str.Lines.{strip_carriage_return}
-use Rattle.std.proofs.lemmas.List.{length-append}
-use Rattle.std.proofs.lemmas.Math.Seq.{length-take}
+use Rattle.std.proofs.lemmas.List.{length-append, length-take}
 use Rattle.plan_form.specs.declared.plan_faults.PlanKind.{PlanKind}
 use Rattle.plan_form.specs.declared.plan_faults.PlanKind.TheVariants as kind
 use Rattle.plan_form.specs.declared.plans.Plan.{Plan}

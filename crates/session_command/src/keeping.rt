@@ -20,15 +20,25 @@ pub fn keep_byte(text: &mut Vec<u8>, byte: u8) -> Result<(), AllocError>
     Ok(())
 }
 
+// Adds bytes to a text, unless the text is longer than a plan already.
+fn keep_bytes(text: &mut Vec<u8>, bytes: &[u8]) -> Result<(), AllocError>
+    ensures { OnOk result ((whole all : List ℕ) → IsKept text.old.items whole → IsKept bytes.now all →
+        IsKept text.new.items (whole ++ all)) }
+{
+    if text.len() > PLAN_BYTES {
+        return Ok(());
+    }
+    text.extend_from_slice(bytes)
+}
+
 /// Adds a line and its end to a text, unless the text is longer than a plan already.
 pub fn keep_line(text: &mut Vec<u8>, line: &[u8]) -> Result<(), AllocError>
     ensures { OnOk result ((whole all : List ℕ) → IsKept text.old.items whole → IsKept line.now all →
         IsKept text.new.items (whole ++ (all ++ 10 ∷ []))) }
 {
-    if text.len() <= PLAN_BYTES {
-        text.extend_from_slice(line)?;
-    }
-    keep_byte(text, b'\n')
+    keep_bytes(text, line)?;
+    keep_byte(text, b'\n')?;
+    Ok(())
 }
 
 /// Whether a line is blank or a comment, and no longer than a plan may be.
