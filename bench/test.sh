@@ -1,7 +1,8 @@
 #!/usr/bin/env bash
 # What `./swallow test` runs, with no toolchain: the sums of release/, all examples and what the pages show (docs.sh), what
-# the starter prints (prompt.sh), the system's mistakes (real.sh), 20 kills (kills.sh), 200 power cuts (cuts.sh), kills and cuts of settles (settles.sh), and sessions with kills (session.sh), some of them side by side. What can't be
-# run here is skipped, with the reason. Its last line is `N passed, M failed`, and its status 0 if nothing failed.
+# the starter prints (prompt.sh), the system's mistakes (real.sh), 20 kills (kills.sh), 200 power cuts (cuts.sh), kills and cuts
+# of settles (settles.sh), and sessions with kills (session.sh), some of them side by side. What can't be run here is skipped,
+# with the reason. Its last line is `N passed, M failed`, and its status 0 if nothing failed.
 top="$(cd "$(dirname "${BASH_SOURCE[0]}")/.." && pwd)" || exit 1
 . "$top/release/start.sh" || exit 70
 work=$(mktemp -d) || exit 1

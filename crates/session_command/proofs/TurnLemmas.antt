@@ -13,16 +13,31 @@ use Rattle.run_command.specs.declared.stops.Stop.TheVariants as stop
 use Rattle.run_command.specs.Written.{EndsIfAny}
 use Rattle.session_command.specs.Chains.{Answered, GoesOn}
 use Rattle.session_command.specs.Inputs.{HasEnded}
+use Rattle.session_command.specs.Judged.{Judged}
 use Rattle.session_command.specs.Lines.{cut_line}
 use Rattle.session_command.specs.Sessions.{EndsAtSource, EndsWell, Stops}
 use Rattle.session_command.specs.Standings.{IsStill, Standing, standing, sunk}
 use Rattle.session_command.specs.Texts.{AreBlank, own}
-use Rattle.session_command.specs.Turns.{GotNothing, StoppedAs, WentOn}
+use Rattle.session_command.specs.Kept.{IsKept}
+use Rattle.session_command.specs.Turns.{GotNothing, IsAfter, StoppedAs, Turned, WentOn}
+use Rattle.session_command.specs.declared.turns.Turn.{Turn}
+use Rattle.session_command.specs.declared.turns.Turn.TheVariants.{On, Ended, Stopped}
 use Rattle.session_command.proofs.InputLemmas.{ended-append}
 
 -- a head with a batch behind it
-pub text-of : (repositories brokers : List ℕ) (batch : List (List ℕ)) (head text : List ℕ) → head ≡ batch_text repositories brokers [] → text ≡ head ++ ended batch → text ≡ batch_text repositories brokers batch
-text-of repositories brokers batch head text is e = e ∙ (ap (λ (l : List ℕ). l ++ ended batch) is ∙ sym (ended-append (_ ∷ _ ∷ repositories ∷ brokers ∷ []) batch))
+text-of : (repositories brokers : List ℕ) (batch : List (List ℕ)) (head : List ℕ) → head ≡ batch_text repositories brokers [] → head ++ ended batch ≡ batch_text repositories brokers batch
+text-of repositories brokers batch head is = ap (λ (l : List ℕ). l ++ ended batch) is ∙ sym (ended-append (_ ∷ _ ∷ repositories ∷ brokers ∷ []) batch)
+
+module _ {H M : Type 0} (g : Ghosts H M) (w : Media M) (o : Options) (repositories brokers : List ℕ) (input left : Option (List ℕ)) (faults_before faults before lines : ℕ) (status : ℕ) (s t : Standing H) where
+  -- a batch was read and answered
+  pub batch-turned : (head text : List ℕ) → head ≡ batch_text repositories brokers [] → (turn : Turn) → IsAfter status turn
+      → ((front : List ℕ) × (batch : List (List ℕ)) × IsBatch front batch × Consumes input left front × IsKept text (head ++ ended batch) × (lines ≡ counted (before + (length batch + 1))))
+      → ((whole : List ℕ) → IsKept text whole → Judged g w o whole before status s t) → Turned g w o repositories brokers input left faults_before faults before lines status s t turn
+  batch-turned head text is On goes (front, batch, one, read, kept, count) judged =
+      record { front = front; batch = batch; is = one; read = read; count = count; answered = judged (batch_text repositories brokers batch) (subst (IsKept text) (text-of repositories brokers batch head is) kept); goes = goes }
+  batch-turned head text is Stopped goes (front, batch, one, read, kept, count) judged =
+      inr (inr (inl (record { front = front; batch = batch; begins = (left, read); is = one; answered = judged (batch_text repositories brokers batch) (subst (IsKept text) (text-of repositories brokers batch head is) kept); last = goes })))
+  batch-turned head text is Ended goes r judged = absurd goes
 
 module _ {H : Type 0} (shelf : H) (taken new_taken : Option (List ℕ)) (faults new_faults : ℕ) (asked : List Asked) (answers : Option (List ℕ)) where
   nothing-changed : new_taken ≡ taken → new_faults ≡ faults → standing shelf new_taken new_faults asked answers ≡ standing shelf taken faults asked answers

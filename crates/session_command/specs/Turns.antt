@@ -38,6 +38,12 @@ StoppedAs (stop.Fault line kind) status s = (status ≡ 7) × GotNothing s
 StoppedAs (stop.Votes line) status s = (status ≡ 7) × GotNothing s
 StoppedAs stop.Sink status s = (status ≡ 7) × GotNothing s
 
+-- so a turn ends after a batch of this status
+abbrev pub IsAfter : ℕ → Turn → Type 0
+IsAfter status On = GoesOn status
+IsAfter status Stopped = GoesOn status → ⊥
+IsAfter status Ended = ⊥
+
 module _ {H M : Type 0} (g : Ghosts H M) (w : Media M) (o : Options) (repositories brokers : List ℕ) (input left : Option (List ℕ)) (faults_before faults before lines : ℕ) (status : ℕ) (s t : Standing H) where
   -- one more batch was answered, and the session goes on
   pub record WentOn : Type 0 where

@@ -6,7 +6,7 @@ ghost use Rattle.run_command.specs.Written.{sinking};
 ghost use Rattle.session_command.specs.Ahead.{ahead};
 ghost use Rattle.session_command.specs.Chains.{GoesOn};
 ghost use Rattle.session_command.specs.Standings.{standing};
-ghost use Rattle.session_command.specs.Turns.{StoppedAs, Turned};
+ghost use Rattle.session_command.specs.Turns.{IsAfter, StoppedAs, Turned};
 
 use crate::answers::{Answer, answer_batch};
 use crate::inputs::{Next, SessionInput};
@@ -36,6 +36,16 @@ fn goes_on(status: u8) -> bool
     ensures { IsTrue result ↔ GoesOn status }
 {
     status == 0 || status == 2 || status == 5
+}
+
+// What a turn comes to by the status of its batch.
+fn turn_after(status: u8) -> Turn
+    ensures { IsAfter status result }
+{
+    if goes_on(status) {
+        return Turn::On;
+    }
+    Turn::Stopped
 }
 
 // Writes why no more is read. The answer is the status.
@@ -99,12 +109,7 @@ where
                 fates,
                 clock,
             );
-            let turn = if goes_on(answer.status) {
-                Turn::On
-            } else {
-                Turn::Stopped
-            };
-            (turn, answer)
+            (turn_after(answer.status), answer)
         }
         Ok(Next::Ended) => (
             Turn::Ended,
