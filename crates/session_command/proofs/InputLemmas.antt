@@ -7,7 +7,7 @@ use Rattle.std.proofs.KnownBytes.{Consumes-nil, Consumes-trans}
 use Rattle.std.proofs.lemmas.List.{append-nil, length-append}
 use Rattle.pseudo_time.specs.Lists.{Every}
 use Rattle.pseudo_time.proofs.ListLemmas.{every-append, every-left, every-right}
-use Rattle.session_form.specs.Sessions.{IsBatch, IsGo, IsInLine, IsRest, counted, ended}
+use Rattle.session_form.specs.Sessions.{IsBatch, IsGo, IsInLine, IsRest, counted, ended, line_end}
 use Rattle.session_command.specs.Ahead.{IsRead}
 use Rattle.session_command.specs.Inputs.{EndsIn, HasEnded, HasRead}
 use Rattle.session_command.specs.Kept.{AreIdle, IsIdle, IsKept}
@@ -72,7 +72,7 @@ module _ (old mid now : Option (List ℕ)) (head text : List ℕ) (before lines 
 
     module _ (ended_is : is_ended ≡ true) where
       one-read : Consumes mid now (line ++ 10 ∷ [])
-      one-read = subst (λ (b : Bool). Consumes mid now (line ++ (if b then 10 ∷ [] else []))) ended_is is.all
+      one-read = subst (λ (b : Bool). Consumes mid now (line ++ line_end b)) ended_is is.all
 
       read-more : Consumes old now (ended (ls ++ line ∷ []))
       read-more = subst (Consumes old now) (sym (ended-append ls (line ∷ []))) (Consumes-trans old mid now (ended ls) (line ++ 10 ∷ []) so.read one-read)
@@ -108,7 +108,7 @@ module _ (old mid now : Option (List ℕ)) (head text : List ℕ) (before lines 
     -- the end of the input
     module _ (ended_is : is_ended ≡ false) (at_end : IsAtEnd now) where
       last-read : Consumes mid now line
-      last-read = subst (Consumes mid now) (append-nil line) (subst (λ (b : Bool). Consumes mid now (line ++ (if b then 10 ∷ [] else []))) ended_is is.all)
+      last-read = subst (Consumes mid now) (append-nil line) (subst (λ (b : Bool). Consumes mid now (line ++ line_end b)) ended_is is.all)
 
       has-ended : HasEnded old now head before lines ls line
       has-ended = record { rest = ended ls ++ line; is = record { none = so.none; whole = lines-whole; is = refl }; all = Consumes-trans old mid now (ended ls) line so.read last-read; end = at_end }

@@ -1,4 +1,5 @@
 pub mod BatchLemmas
+pub mod HeadLemmas
 pub mod InputLemmas
 pub mod KeptLemmas
 pub mod SessionLemmas

@@ -13,7 +13,9 @@ use Rattle.plan_volumes.specs.Media.{Media}
 use Rattle.session_command.specs.Chains.{Answered, Chain, GoesOn, graver, gravest, gravest_from}
 use Rattle.session_command.specs.Sessions.{EndsAtSource, EndsWell, Held, Stops}
 use Rattle.session_command.specs.Standings.{Standing}
-use Rattle.session_command.specs.Turns.{WentOn}
+use Rattle.session_command.specs.Turns.{Turned, WentOn}
+use Rattle.session_command.specs.declared.turns.Turn.{Turn}
+use Rattle.session_command.specs.declared.turns.Turn.TheVariants.{On, Ended, Stopped}
 
 gravest-more : (a : ℕ) (ns : List ℕ) (n : ℕ) → gravest_from a (ns ++ n ∷ []) ≡ graver (gravest_from a ns) n
 gravest-more a [] n = refl
@@ -141,3 +143,17 @@ module _ {H M : Type 0} (g : Ghosts H M) (w : Media M) (o : Options) (repositori
       chain = so.chain;
       ends = inl (so.gravest_is, inr (sym so.count_is ∙ full, refl));
     }
+
+    -- after one more turn
+    module _ (new_lines last : ℕ) (u : Standing H) (turn : Turn) (turned : Turned g w o repositories brokers mid now faults_mid faults lines new_lines last t u turn) where
+      turned-as : (other : Turn) → turn ≡ other → Turned g w o repositories brokers mid now faults_mid faults lines new_lines last t u other
+      turned-as other is = subst (λ (x : Turn). Turned g w o repositories brokers mid now faults_mid faults lines new_lines last t u x) is turned
+
+      pub turn-on : turn ≡ On → (new_status new_count : ℕ) → new_status ≡ graver status last → new_count ≡ count + 1 → SoHeld input now before new_lines new_status new_count s u
+      turn-on is new_status new_count graver_is count_is = so-held-more new_lines new_status last new_count u (turned-as On is) graver_is count_is
+
+      pub turn-ended : turn ≡ Ended → Held g w o repositories brokers input faults_before faults before status s u
+      turn-ended is = held-well u (turned-as Ended is)
+
+      pub turn-stopped : turn ≡ Stopped → faults_before ≤ faults_mid → Held g w o repositories brokers input faults_before faults before last s u
+      turn-stopped is later = held-stopped u last later (turned-as Stopped is)

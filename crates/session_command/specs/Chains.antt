@@ -25,7 +25,7 @@ gravest statuses = gravest_from 0 statuses
 module _ {H M : Type 0} (g : Ghosts H M) (w : Media M) (o : Options) (repositories brokers : List ℕ) where
   -- what came of a batch
   abbrev pub Answered : (before : ℕ) → List (List ℕ) → (status : ℕ) → Standing H → Standing H → Type 0
-  Answered before batch status s t = Judged (batch_text repositories brokers batch) before status s t
+  Answered before batch status s t = Judged g w o (batch_text repositories brokers batch) before status s t
 
   -- The batches were answered with these statuses, one after another, each over what the one before left. So many lines were before the first.
   abbrev pub Chain : (before : ℕ) → List (List (List ℕ)) → List ℕ → Standing H → Standing H → Type 0

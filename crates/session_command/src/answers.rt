@@ -1,21 +1,19 @@
 //! A batch is answered.
-ghost use Rattle.std.specs.Prelude.{◌≤◌, List, ℕ};
+ghost use Rattle.std.specs.Prelude.{◌≡◌, ◌≤◌, List, ℕ};
 ghost use Rattle.plan_form.specs.PlanTexts.{CanRun};
-ghost use Rattle.run_command.specs.Written.{EndsIfAny, sinking};
 ghost use Rattle.session_form.specs.Sessions.{line_of};
 ghost use Rattle.session_command.specs.Judged.{Judged, RanAbove};
 ghost use Rattle.session_command.specs.Kept.{IsKept};
-ghost use Rattle.session_command.specs.Lines.{fault_line};
 ghost use Rattle.session_command.specs.Standings.{standing};
 
 use crate::batches::run_above;
-use crate::lines::line_with;
+use crate::lines::tell_fault;
 use crate::putting::put_back_after;
 use command_words::Options;
 use held_shelf::HoldingShelf;
 use medium_port::{Medium, Shelf};
-use plan_form::{Plan, PlanFault, PlanKind, parse};
-use run_command::{Finish, tell_text};
+use plan_form::{Plan, PlanFault, parse};
+use run_command::Finish;
 use std::alloc::Global;
 use std::sync::Wait;
 use std::thread::Threads;
@@ -74,15 +72,12 @@ where
     }
 }
 
-// Writes what is wrong with a batch, by the line of its plan, when so many lines were before it. The answer is
-// the status.
-fn tell_fault<O: Sink>(alloc: Global, before: u64, line: u32, kind: PlanKind, sink: &mut O) -> u8
-    ensures { EndsIfAny result (sinking (O.taken sink.old) (O.taken sink.new) (O.faults sink.old) (O.faults sink.new)) 2
-        (fault_line (line_of before line) kind) }
+// The line of the session that is this line of a batch as a plan, when so many lines were before the batch.
+fn session_line(before: u64, line: u32) -> u64
+    ensures { result ≡ line_of before line }
 {
     let inside = line.saturating_sub(HEAD_LINES).max(1);
-    let number = before.saturating_add(u64::from(inside));
-    tell_text(line_with(alloc, number, kind.words()), 2, sink)
+    before.saturating_add(u64::from(inside))
 }
 
 /// Answers a batch, which is this text as a plan, or has a longer front of it than a plan may have, when so
@@ -115,7 +110,7 @@ where
     match parse(alloc, text) {
         Ok(plan) => run_held(rt, alloc, plan, options, sink, shelf, fates, clock),
         Err(PlanFault::Fault { line, kind }) => Answer {
-            status: tell_fault(alloc, before, line, kind, sink),
+            status: tell_fault(alloc, session_line(before, line), kind, sink),
             fates,
             clock,
         },

@@ -109,12 +109,14 @@ impl SessionInput {
             return Err(fault(3, PlanKind::Brokers));
         }
         let head = head_text(alloc, repositories.bytes.as_slice(), brokers.bytes.as_slice())?;
-        judge(alloc, head.as_slice())?;
-        Ok(SessionInput {
-            reader,
-            head,
-            lines: 3,
-        })
+        match judge(alloc, head.as_slice()) {
+            Ok(()) => Ok(SessionInput {
+                reader,
+                head,
+                lines: 3,
+            }),
+            Err(stop) => Err(stop),
+        }
     }
 
     /// Reads the next batch, up to the line that ends it.

@@ -2,24 +2,23 @@
 ghost use Rattle.std.specs.Prelude.{◌≡◌, ◌≤◌, ◌⊎◌, List, ℕ, []};
 ghost use Rattle.std.specs.Io.KnownBytes.{prepend_known};
 ghost use Rattle.command_words.specs.Words.{said};
-ghost use Rattle.run_command.specs.Written.{EndsIfAny, sinking};
+ghost use Rattle.run_command.specs.Written.{sinking};
 ghost use Rattle.session_form.specs.Sessions.{batch_text};
 ghost use Rattle.session_command.specs.Ahead.{ahead};
 ghost use Rattle.session_command.specs.Chains.{graver};
-ghost use Rattle.session_command.specs.Lines.{fault_line};
 ghost use Rattle.session_command.specs.Sessions.{Held, Promise};
 ghost use Rattle.session_command.specs.Standings.{standing};
 ghost use Rattle.session_command.specs.Turns.{ToldOf};
 
 use crate::answers::Answer;
 use crate::inputs::SessionInput;
-use crate::lines::line_with;
+use crate::lines::tell_fault;
 use crate::turns::{Turn, take_turn};
 use crate::words::options_of;
 use command_words::Options;
 use held_shelf::HoldingShelf;
 use medium_port::{Medium, Shelf};
-use run_command::{Stop, tell_text, write_all};
+use run_command::{Stop, write_all};
 use std::alloc::Global;
 use std::sync::Wait;
 use std::thread::Threads;
@@ -105,11 +104,7 @@ fn tell_stop<O: Sink>(alloc: Global, stop: Stop, sink: &mut O) -> u8
             let _ = write_all(sink, b"swallow: words\n");
             1
         }
-        Stop::Fault { line, kind } => tell_text(
-            line_with(alloc, u64::from(line), kind.words()),
-            2,
-            sink,
-        ),
+        Stop::Fault { line, kind } => tell_fault(alloc, u64::from(line), kind, sink),
         Stop::Source => {
             let _ = write_all(sink, b"swallow: source\n");
             3

@@ -10,11 +10,11 @@ ghost use Rattle.session_command.specs.Turns.{IsAfter, StoppedAs, Turned};
 
 use crate::answers::{Answer, answer_batch};
 use crate::inputs::{Next, SessionInput};
-use crate::lines::line_with;
+use crate::lines::tell_cut;
 use command_words::Options;
 use held_shelf::HoldingShelf;
 use medium_port::{Medium, Shelf};
-use run_command::{Stop, tell_text, write_all};
+use run_command::{Stop, write_all};
 use std::alloc::Global;
 use std::sync::Wait;
 use std::thread::Threads;
@@ -120,7 +120,7 @@ where
             },
         ),
         Ok(Next::Cut { line }) => {
-            let status = tell_text(line_with(alloc, line, "go"), 2, sink);
+            let status = tell_cut(alloc, line, sink);
             (
                 Turn::Stopped,
                 Answer {
