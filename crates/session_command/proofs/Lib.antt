@@ -4,3 +4,4 @@ pub mod InputLemmas
 pub mod KeptLemmas
 pub mod SessionLemmas
 pub mod TurnLemmas
+pub mod WordLemmas
