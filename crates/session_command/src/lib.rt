@@ -6,6 +6,7 @@ mod batches;
 mod heights;
 mod inputs;
 mod keeping;
+mod laws;
 mod line_readers;
 mod lines;
 mod putting;
@@ -14,4 +15,5 @@ mod turns;
 mod words;
 
 pub use answers::Answer;
+pub use laws::{law_of_reached_logs, law_of_retired_logs};
 pub use sessions::session;
