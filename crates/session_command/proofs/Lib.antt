@@ -3,6 +3,7 @@ pub mod HeadLemmas
 pub mod HeightLemmas
 pub mod InputLemmas
 pub mod KeptLemmas
+pub mod LawLemmas
 pub mod RetiredLemmas
 pub mod SessionLemmas
 pub mod TurnLemmas

@@ -4,6 +4,7 @@ pub mod Chains
 pub mod Inputs
 pub mod Judged
 pub mod Kept
+pub mod Laws
 pub mod Lines
 pub mod Sessions
 pub mod Standings
