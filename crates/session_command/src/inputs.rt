@@ -108,7 +108,11 @@ impl SessionInput {
         if !brokers.is_ended {
             return Err(fault(3, PlanKind::Brokers));
         }
-        let head = head_text(alloc, repositories.bytes.as_slice(), brokers.bytes.as_slice())?;
+        let head = head_text(
+            alloc,
+            repositories.bytes.as_slice(),
+            brokers.bytes.as_slice(),
+        )?;
         match judge(alloc, head.as_slice()) {
             Ok(()) => Ok(SessionInput {
                 reader,

@@ -15,7 +15,5 @@ mod turns;
 mod words;
 
 pub use answers::Answer;
-pub use laws::{
-    law_of_late_batches, law_of_opened_logs, law_of_reached_logs, law_of_retired_logs,
-};
+pub use laws::{law_of_late_batches, law_of_opened_logs, law_of_reached_logs, law_of_retired_logs};
 pub use sessions::session;

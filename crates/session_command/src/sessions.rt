@@ -164,9 +164,7 @@ where
     let begun = match options_of(alloc, words) {
         Ok(Some(options)) => match SessionInput::begin(alloc, source) {
             Ok(input) => {
-                return hold(
-                    rt, alloc, input, source, options, sink, shelf, fates, clock,
-                );
+                return hold(rt, alloc, input, source, options, sink, shelf, fates, clock);
             }
             Err(stop) => stop,
         },

@@ -128,8 +128,8 @@ where
     ended.status
 }
 
-// The top call over the files of a folder, or a session over them. Gives its status. `threads` is the runtime too: the one that
-// may make threads and wait.
+// The top call over the files of a folder, or a session over them. Gives its status. `threads` is the
+// runtime too: the one that may make threads and wait.
 fn run<R: Threads + Wait + Sync>(
     threads: &R,
     rt: &HostRuntime,

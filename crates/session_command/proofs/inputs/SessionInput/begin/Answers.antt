@@ -18,8 +18,8 @@ returns-then-not-title-clause-head g c =
     let t = c.in_ok-title.title in
     title-fault input (prepend_known first input) (prepend-nothing input first c.new-reader.ensures) mid t.bytes.items read.0 t.is_ended read.1 (g.I.Source.left c.read_line.new.source) c.fault.result c.fault.ensures
     (elim c.then-not-title.branch [
-      then-not-title-via-then-not-title w ↦ λ e k. let f = w.if-not-title.true in absurd (cc (e, f))
-    | then-not-title-via-else-not-title+then-not-is_title w ↦ λ e k. let f = w.if-not-is_title.true in let j = w.is_title.ensures.1 (subst IsTitle (sym w.as_slice.ensures.value) k) in absurd (cc (j, f))
+      | then-not-title-via-then-not-title w ↦ λ e k. let f = w.if-not-title.true in absurd (cc (e, f))
+      | then-not-title-via-else-not-title+then-not-is_title w ↦ λ e k. let f = w.if-not-is_title.true in let j = w.is_title.ensures.1 (subst IsTitle (sym w.as_slice.ensures.value) k) in absurd (cc (j, f))
     ])
 
 pub returns-then-not-repositories-clause-head : goal.returns-then-not-repositories-clause-head
