@@ -7,13 +7,11 @@ ghost use Rattle.run_command.specs.Written.{sinking};
 ghost use Rattle.session_command.specs.Above.{RunsAbove};
 
 use crate::heights::heights_of;
-use crate::lines::full_line;
+use crate::lines::tell_full;
 use command_words::Options;
 use medium_port::{Medium, Shelf};
 use plan_form::Plan;
-use run_command::{
-    Finish, Wanted, hand_back, laws_of_runs, quiet, run_taken, take_volumes, tell_text,
-};
+use run_command::{Finish, Wanted, hand_back, laws_of_runs, quiet, run_taken, take_volumes};
 use session_form::{has_room, raised};
 use std::alloc::Global;
 use std::sync::Wait;
@@ -53,7 +51,7 @@ where
     };
     let heights = heights_of(taken.openings.as_slice());
     if !has_room(heights) {
-        let status = tell_text(full_line(alloc), 2, sink);
+        let status = tell_full(alloc, sink);
         return quiet(alloc, status, hand_back(&draft, taken), fates, clock);
     }
     let plan = raised(draft, heights);

@@ -47,11 +47,19 @@ pub fn tell_cut<O: Sink>(alloc: Global, line: u64, sink: &mut O) -> u8
     tell_words(alloc, line, "go", sink)
 }
 
-/// The line that says that no run or no clock is left.
-pub fn full_line(alloc: Global) -> Result<Bytes, AllocError>
+// The line that says that no run or no clock is left.
+fn full_line(alloc: Global) -> Result<Bytes, AllocError>
     ensures { IfOk result (λ t. t ≡ spec.full_line) }
 {
     let mut text = Vec::new(alloc);
     text.extend_from_slice(b"swallow: nothing is left above\n")?;
     Ok(Bytes::of(text))
+}
+
+/// Writes that no run or no clock is left. The answer is the status.
+pub fn tell_full<O: Sink>(alloc: Global, sink: &mut O) -> u8
+    ensures { EndsIfAny result (sinking (O.taken sink.old) (O.taken sink.new) (O.faults sink.old) (O.faults sink.new)) 2
+        spec.full_line }
+{
+    tell_text(full_line(alloc), 2, sink)
 }
