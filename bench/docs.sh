@@ -255,7 +255,7 @@ calls() {
 
 if [ "$#" -eq 0 ]; then
   plans
-  for folder in retire audit snapshot settle votes; do calls "$folder"; done
+  for folder in retire audit snapshot settle votes sessions; do calls "$folder"; done
   set -- README.md docs/TUTORIAL.md docs/LANGUAGE.md docs/COMMANDS.md docs/OPERATIONS.md
 fi
 for page in "$@"; do read_page "$page"; done
