@@ -7,15 +7,19 @@
 # ./swallow, ./swallow_lab, ./swallow_look and examples/.
 #   `$ COMMAND` as first line    a session: what each command prints on both outputs is compared with the lines after it
 #   `./swallow` as first line    a list of commands, each with what it does after some spaces: run in order in a folder of
-#                                its own, each with status 0, but for `./swallow build` and `./swallow test`
-#   plan FILE                    the text of a plan: compared with FILE, or written to it if there is none
+#                                its own, each with status 0, but for `build`, `test` and a `session` without input
+#   plan FILE                    the text of a plan, or of polls: compared with FILE, or written to it if there is none
+#   part FILE                    lines that are in FILE one after another
 #   script, then transcript      a script, run alone as one act; the lines of its attempt
 #   results                      `EXPRESSION  => VALUE` or `EXPRESSION  => fails KIND`
 #   faults                       `STATEMENT  => KIND`: how a plan with this line is refused
-# In what is shown ` ..` at the end of a line stands for the rest of it, and a line `..` for any lines.
+# A block of another kind is an error: nothing is shown that isn't compared. In what is shown ` ..` at the end of a line
+# stands for the rest of it, and a line `..` for any lines.
 top="$(cd "$(dirname "${BASH_SOURCE[0]}")/.." && pwd)" || exit 1
-work=$(mktemp -d) || exit 1
-trap 'rm -rf "$work"' EXIT
+disk=$(mktemp -d) || exit 1
+work=$(mktemp -d -p /dev/shm 2> /dev/null || mktemp -d) || exit 1 # in memory, if that can be: it has to sync nothing
+trap 'rm -rf "$work" "$disk"' EXIT
+base=$work
 right=0 wrong=0 folders=0
 seconds=120 # for one command
 
@@ -61,7 +65,7 @@ failed() {
 # Makes a fresh folder to run in, and names it `place`.
 new_place() {
   folders=$((folders + 1))
-  place="$work/place-$folders"
+  place="$base/place-$folders"
   mkdir "$place" || exit 1
   ln -s "$top/swallow" "$top/swallow_lab" "$top/swallow_look" "$top/examples" "$place/"
 }
@@ -100,7 +104,7 @@ list() {
   new_place
   while IFS= read -r line; do
     command=${line%%   *}
-    case "$command" in "./swallow build" | "./swallow test") continue ;; esac
+    case "$command" in "./swallow build" | "./swallow test" | "./swallow data session") continue ;; esac
     run "$place" "$command"
     if [ "$code" -eq 0 ]; then right=$((right + 1)); else failed "$page: $command" "its status is $code"; fi
   done < "$1"
@@ -112,6 +116,16 @@ plan_file() {
     compare "$page: the text of $2" "$1" "$place/$2"
   else
     cp "$1" "$place/$2"
+  fi
+}
+
+part_of() {
+  local text
+  text=$(cat "$1")
+  if [[ $'\n'"$(cat "$place/$2")"$'\n' == *$'\n'"$text"$'\n'* ]]; then
+    right=$((right + 1))
+  else
+    failed "$page: a part of $2" "it isn't there"
   fi
 }
 
@@ -182,6 +196,8 @@ blocks() {
 read_page() {
   local block info
   page=$1
+  base=$work
+  if grep -q KILL "$top/$page"; then base=$disk; fi # a run that is killed must not end before
   new_place
   blocks "$top/$page"
   for block in "$work/blocks/"*.info; do
@@ -189,6 +205,7 @@ read_page() {
     block=${block%.info}
     case "$info" in
     "plan "*) plan_file "$block" "${info#plan }" ;;
+    "part "*) part_of "$block" "${info#part }" ;;
     script) cp "$block" "$work/script" ;;
     transcript) transcript "$block" ;;
     results) results "$block" ;;
@@ -196,6 +213,7 @@ read_page() {
     *) case "$(head -n 1 "$block")" in
       "\$ "*) session "$block" ;;
       "./swallow "*"   "*) list "$block" ;;
+      *) failed "$page" "nothing compares the block that begins '$(head -n 1 "$block")'" ;;
       esac ;;
     esac
   done

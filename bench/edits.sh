@@ -1,6 +1,7 @@
 #!/usr/bin/env bash
 # Tries the edits of edits/NAME/: of the crates that the words name, or of each whose line in edits/tried.txt doesn't hold, since
-# its stamp is another or not all of its edits were refused (edits/README.md). Each crate is tried in a copy of it and of the
+# its stamp is another or not all of its edits were refused (edits/README.md), those with few edits first. With --list it only
+# says which lines don't hold, and its status is 0 if all do. Each crate is tried in a copy of it and of the
 # libraries below it, with what is kept of their proofs in out/; what isn't is proved there first. Prints what rt says,
 # and writes the crate's line. Status 0 where each edit that was tried is refused. RT is the command, or rt.
 top="$(cd "$(dirname "${BASH_SOURCE[0]}")/.." && pwd)" || exit 1
@@ -13,11 +14,25 @@ fail() {
   exit 1
 }
 
-# Sets `stamp` to the sum over all that decides what becomes of the crate's edits.
+# Sets `stamp` to the sum over all that decides what becomes of the crate's edits. All are read at once.
+declare -A stamps
 stamp_of() {
-  find_places "$1"
-  places=("${places[@]:2}" "edits/$1")
-  stamp=$(sum_of_places "${places[@]}") || fail "the files of $1 can't be read"
+  local name value
+  if [ "${#stamps[@]}" -eq 0 ]; then
+    while read -r name value; do
+      stamps[$name]=$value
+    done < <(python3 "$top/bench/stamps.py")
+  fi
+  stamp=${stamps[$1]}
+  [ -n "$stamp" ] || fail "the files of $1 can't be read"
+}
+
+# How many edits a crate has, and its name.
+counts() {
+  local folder
+  for folder in "$top"/edits/*/; do
+    echo "$(find "$folder" -maxdepth 1 -name '*.edit' | wc -l) $(basename "$folder")"
+  done
 }
 
 # Whether the crate's line has this stamp, and all of its edits were refused.
@@ -55,12 +70,13 @@ try_crate() (
   [ "$refused" -eq "$count" ]
 )
 
-version=$("$rt" version) && [[ "$version" == *"$logic" ]] || fail "rt is of ${version:-no kit}, and not of one with $logic"
+list=0
+[ "$*" != --list ] || { list=1; set --; }
+[ "$*" != --stale ] || set --
+[ "$list" -eq 1 ] || { version=$("$rt" version) && [[ "$version" == *"$logic" ]]; } || fail "rt is of ${version:-no kit}, and not of one with $logic"
 names=("$@")
 if [ "$#" -eq 0 ]; then
-  for folder in "$top"/edits/*/; do
-    [ -d "$folder" ] && names+=("$(basename "$folder")")
-  done
+  mapfile -t names < <(counts | sort -n | cut -d ' ' -f 2)
 fi
 wrong=0
 for name in "${names[@]}"; do
@@ -68,6 +84,12 @@ for name in "${names[@]}"; do
   [ -n "$(below "$name")" ] || fail "crates.txt has no crate $name"
   stamp_of "$name"
   [ "$#" -eq 0 ] && holds "$name" && continue
-  try_crate "$name" || wrong=1
+  if [ "$list" -eq 1 ]; then
+    echo "stale: $name"
+    wrong=1
+  else
+    try_crate "$name" || wrong=1
+  fi
 done
+[ "$list" -eq 0 ] || [ "$wrong" -eq 1 ] || echo "nothing is stale"
 exit "$wrong"

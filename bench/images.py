@@ -92,7 +92,8 @@ def committed(files):
         whole = files["repository-%d-0" % home]
         for at in range(0, len(whole), 4096):
             page = whole[at:at + 4096]
-            if page[0] != 0xA5 or page[1] != 2:
+            # A page with a piece of a long text has no other effect.
+            if page[0] != 0xA5 or page[1] != 2 or page[4] != 0:
                 continue
             size, place = int.from_bytes(page[2:4], "big"), 5
             while place < 5 + size:

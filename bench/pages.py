@@ -1,10 +1,13 @@
 #!/usr/bin/env python3
-"""pages.py FOLDER PAGE: whether PAGE is what swallow_look shows of FOLDER. It is worked out here from the bytes of the files by docs/FORMATS.md, over
-plain lists, and shares nothing with the program but the page's head (the style). `pages.py --cases STDOUT DATA` does so for each page of look_cases."""
+"""pages.py FOLDER PAGE [--object R.N] [--repository R] [--from CLOCK] [--to CLOCK]: whether PAGE is what swallow_look shows of FOLDER. It is worked out
+here from the bytes of the files by docs/FORMATS.md, over plain lists, and shares nothing with the program but the page's head (the style). Each link has
+to lead somewhere, no place may be there twice, and headings and heads of tables have to be in order. `pages.py --cases STDOUT DATA` does so for each page
+of look_cases."""
 import os
 import re
 import struct
 import sys
+from html.parser import HTMLParser
 
 BLANK = bytes(4096)
 ENDS = {1: "committed", 2: "withdrawn", 3: "failed", 4: "refused", 5: "refused", 6: "expired", 7: "spent"}
@@ -237,13 +240,6 @@ class History:
         return {None: "undecided", True: "committed", False: "aborted"}[self.settled.get(version.start[:3])]
 
 
-def key():
-    bar = '<rect x="1" y="4" width="28" height="12" rx="3"/>'
-    box = lambda word, more="": f'<svg width="30" height="20"><g class="{word}">{bar}{more}</g></svg>'
-    cross = '<path d="M1 1l18 18m0-18l-18 18"/>'
-    return f"<p class=\"key\">{box('committed')} committed\n{box('undecided')} undecided\n{box('aborted', cross)} aborted\n{box('committed older')} only in an older volume\n{box('origin')} reads of what was there at first. A bar goes from a version's start to how far it was read.</p>\n"
-
-
 def history(logs, wanted):
     """What the volumes of a repository with these logs say of an object: the current one, behind what each older one alone has."""
     current = max((i for i, log in enumerate(logs) if ("whole",) in log), default=0)
@@ -256,114 +252,328 @@ def history(logs, wanted):
     return each[-1]
 
 
-def histories(media):
-    objects = sorted({e[1] for m in media for e in m.log if e[0] in ("put", "stretch")})
-    logs = {}
-    for m in media:
-        if m.kind == "repository":
-            logs.setdefault(m.number, []).append(m.log)
-    rows = [(o, history(logs.get(o[0], []), o)) for o in objects]
-    axis = set()
-    for _, h in rows:
-        axis |= {h.origin[:3]} if h.origin else set()
-        for v, _, _ in h.rows:
-            axis |= {v.start[:3], v.end[:3]}
-    axis = sorted(axis)
-    column = {s: i for i, s in enumerate(axis)}
-    wide = f'<svg width="{64 * len(axis) + 96}" height="40">\n'
-    out = f"<h2>Histories</h2>\n{key()}<div class=\"histories\">\n<div class=\"row axis\"><b></b>{wide}"
-    for s in axis:
-        p = printed_stamp(s)
-        out += f'<a id="s{p}" href="#t{p}"><text x="{64 * column[s] + 30}" y="16">{p}</text></a>\n'
-    out += "</svg></div>\n"
-    for o, h in rows:
-        name = f"{o[0]}.{o[1]}"
-        out += f'<div class="row" id="o{name}"><b>{name}</b>{wide}'
-        bar = lambda x, w: f'<rect x="{x}" y="18" width="{w}" height="12" rx="3"/>'
-        if h.origin:
-            out += f'<g class="origin"><title>origin, read to {printed_time(h.origin)}</title>{bar(0, 64 * column[h.origin[:3]] + 26)}</g>\n'
-        if h.floor:
-            below = sum(s < h.floor[:3] for s in axis)
-            out += f'<path class="floor" d="M{64 * below + 28} 0v40"><title>floor {printed_time(h.floor)}</title></path>\n'
-        for v, state, volume in h.rows:
-            first, last = column[v.start[:3]], column[v.end[:3]]
-            text, x = printed(v.value), 64 * first + 30
-            older, where = ("", "") if volume is None else (" older", f", only in volume {volume}")
-            short = escaped(text[:9]) + "&#8230;" if len(text) > 10 else escaped(text)
-            out += f'<a href="#t{printed_stamp(v.start)}"><g class="{state}{older}"><title>{printed_time(v.start)} read to {printed_time(v.end)}, {state}{where}: {escaped(text)}</title>'
-            out += bar(x, 64 * (last - first) - 4 if last > first else 30)
-            out += f'<path d="M{x} 15l18 18m0-18l-18 18"/>' if state == "aborted" else ""
-            out += f'<text x="{x}" y="13">{short}</text></g></a>\n'
-        out += "</svg></div>\n"
-    return objects, out + "</div>\n"
+def bars(word, at=None, wide=None, text=""):
+    style = ";".join(f"--{name}:{n}" for name, n in (("a", at), ("w", wide)) if n is not None)
+    return f'<i class="{word}" style="{style}">{text}</i>' if style else f'<i class="{word}">{text}</i>'
 
 
-def attempts(media):
-    out = "<h2>Attempts</h2>\n"
-    for m in media:
-        if m.kind == "broker":
-            out += f"<section><h3>{m.name()}</h3>\n"
+def front(text, most):
+    return escaped(text[:most]) + "&#8230;" if len(text) > most else escaped(text)
+
+
+def table(heads, rows):
+    return "<table><thead><tr>" + "".join(f'<th scope="col">{h}</th>' for h in heads) + "</tr></thead><tbody>\n" + "".join(rows) + "</tbody></table>\n"
+
+
+def folded(many, inside):
+    return f'<details class="more"><summary>objects, {many} more</summary>\n{inside}</details>\n' if many else ""
+
+
+class Attempt:
+    """An attempt: what the broker's log says of it, and what the repositories' logs say of its steps."""
+
+    def __init__(self, stamp, log, touches):
+        self.stamp, self.steps, self.outcome = stamp, [], None
+        for e in log:
+            if e[0] in ("run", "act", "try"):
+                break
+            if e[0] == "end":
+                self.outcome = e if ENDS[e[1]] != "spent" else None
+                break
+            if e[0] in ("got", "acked"):
+                self.steps.append((e, touches.get(stamp[:3] + (e[1],))))
+
+    def word(self):
+        return ENDS[self.outcome[1]] if self.outcome else "open"
+
+    def objects(self):
+        found = {t[0] for _, t in self.steps if t}
+        if self.word() == "refused":
+            found.add(tuple(map(int, self.outcome[2].split(" ")[2].split("."))))
+        return found
+
+
+class Page:
+    def __init__(self, folder, media, wanted):
+        self.media, self.wanted = media, wanted
+        self.all_given = wanted["object"] is None and wanted["repository"] is None
+        logs = [m for m in media if m.kind == "repository" and m.volume < 1000]
+        self.volumes = {}
+        for m in logs:
+            self.volumes.setdefault(m.number, []).append(m.log)
+        self.touches = {}
+        for m in logs:
             for e in m.log:
-                if e[0] == "run":
-                    out += f"<h4>run {e[1]}</h4>\n"
-                elif e[0] == "act":
-                    out += f'<div class="act">act {e[1]}, home {e[2]}, attempts allowed {e[3]}<details><summary>script</summary><pre>{escaped(e[4])}</pre></details></div>\n'
-                elif e[0] == "try":
-                    p = printed_stamp(e[1])
-                    out += f'<p class="try" id="t{p}">attempt <a href="#s{p}">{p}</a></p>\n'
-                elif e[0] == "got":
-                    out += f"<p>step {e[1]}: got {escaped(printed(e[2]))}</p>\n"
-                elif e[0] == "acked":
-                    out += f"<p>step {e[1]}: stored</p>\n"
-                elif e[0] == "end":
-                    out += f'<p class="{ENDS[e[1]]}">{e[2]}</p>\n'
-            out += "</section>\n"
-    return out
+                if e[0] in ("put", "stretch"):
+                    self.touches[e[2]] = (e[1], e[3] if e[0] == "put" else Nothing)
+        self.objects = sorted({e[1] for m in logs for e in m.log if e[0] in ("put", "stretch")})
+        chosen = [o for o in self.objects if self.has_object(o)]
+        self.left, left = max(0, len(chosen) - 200), 2000
+        self.rows = []
+        for o in chosen[:200]:
+            h = history(self.volumes.get(o[0], []), o)
+            h.rows = [r for r in h.rows if self.has_stamp(r[0].start)]
+            h.shown = h.rows[:left]
+            left -= len(h.shown)
+            self.rows.append((o, h))
+        self.tries = set()
+        for m in media:
+            chosen = [e[1][:3] for i, e in enumerate(m.log) if m.kind == "broker" and e[0] == "try" and self.has_try(e[1], m.log[i + 1 :])]
+            self.tries |= set(chosen[:300])
+
+    def has_object(self, o):
+        return self.wanted["object"] in (None, o) and self.wanted["repository"] in (None, o[0])
+
+    def has_stamp(self, s):
+        return self.wanted["from"] <= s[0] <= self.wanted["to"]
+
+    def has_try(self, stamp, log):
+        return self.has_stamp(stamp) and (self.all_given or any(map(self.has_object, Attempt(stamp, log, self.touches).objects())))
+
+    def link(self, place, text, there):
+        return f'<a href="#{place}">{text}</a>' if there else text
+
+    def object(self, o):
+        name = f"{o[0]}.{o[1]}"
+        return self.link("o" + name, name, o in [r[0] for r in self.rows])
+
+    def stamp(self, s, text=None):
+        return self.link("t" + printed_stamp(s), text or printed_stamp(s), s[:3] in self.tries)
+
+    def time(self, t):
+        return self.stamp(t, printed_time(t)) if t else "none"
+
+    # ---- the first screen
+
+    def first(self):
+        out = "" if self.media else '<p class="banner">no file of a node is there</p>\n'
+        for m in self.media:
+            if m.state[0] != "whole":
+                what = "can't be read" if m.state[0] == "shut" else f"is damaged at page {m.state[1]}"
+                out += f'<p class="banner">{m.name()} {what}: nothing of its log is shown</p>\n'
+        log = [e for m in self.media for e in m.log]
+        count = lambda word: sum(e[0] == word for e in log)
+        done = sum(e[0] == "end" and e[1] == 1 for e in log)
+        cells = [(len(self.objects), "objects"), (count("act"), "acts"), (count("try"), "attempts"), (done, "committed"), (count("end") - done, "ended otherwise")]
+        out += '<div class="tally">\n' + "".join(f"<span><b>{n}</b> {w}</span>\n" for n, w in cells if n) + "</div>\n<h2>Current values</h2>\n"
+        cut = lambda rows: table(["object", "value", "version", "read up to", "versions"], map(self.value_row, rows))
+        out += cut(self.rows[:20]) + folded(len(self.rows[20:]), cut(self.rows[20:]))
+        return out + (f'<p class="banner">objects, {self.left} more aren\'t shown: choose with --object or --repository</p>\n' if self.left else "")
+
+    def value_row(self, row):
+        o, h = row
+        name = f"{o[0]}.{o[1]}"
+        last = [v for v, state, volume in h.rows if state == "committed" and volume is None]
+        cells = "<td>none is committed</td><td></td><td></td>"
+        if last:
+            v = last[-1]
+            cells = f"<td>{front(printed(v.value), 80)}</td><td>{self.time(v.start)}</td><td>{printed_time(v.end)}</td>"
+        open_ones = sum(state == "undecided" for _, state, _ in h.rows)
+        more = f", undecided {open_ones}" if open_ones else ""
+        return f'<tr><th scope="row"><a href="#o{name}">{name}</a></th>{cells}<td>{len(h.rows)}{more}</td></tr>\n'
+
+    # ---- attempts
+
+    def shown_tries(self, log):
+        return [Attempt(e[1], log[i + 1 :], self.touches) for i, e in enumerate(log) if e[0] == "try" and e[1][:3] in self.tries]
+
+    def attempts(self):
+        key = lambda word, text: f'<i class="{word}"></i> {text}'
+        out = "<h2>Attempts</h2>\n<p class=\"key\">In the order of their stamps: "
+        out += " ".join([key("committed", "committed"), key("refused", "refused"), key("failed", "withdrawn, failed or expired"), key("open", "open")]) + "</p>\n"
+        total = sum(e[0] == "try" for m in self.media for e in m.log)
+        if len(self.tries) < total:
+            out += f'<p class="key">attempts shown, {len(self.tries)} of {total}: 300 of each broker at most; choose with --object, --repository, --from and --to</p>\n'
+        order = {s: i for i, s in enumerate(sorted(self.tries))}
+        out += f'<div class="lines" style="--n:{len(order)}">\n'
+        brokers = [m for m in self.media if m.kind == "broker"]
+        for m in brokers:
+            marks = "".join(bars(a.word(), order[a.stamp[:3]]) for a in self.shown_tries(m.log))
+            out += f'<div class="line"><b>broker {m.number}</b><span class="bars">{marks}</span></div>\n'
+        out += "</div>\n"
+        for m in brokers:
+            starts = [i for i, e in enumerate(m.log) if e[0] == "run"]
+            parts = [(0, m.log[: starts[0]] if starts else m.log, False)]
+            parts += [(m.log[i][1], m.log[i + 1 : j], self.all_given) for i, j in zip(starts, starts[1:] + [len(m.log)])]
+            out += f"<section><h3>{m.name()}</h3>\n" + "".join(self.run(*p) for p in parts) + "</section>\n"
+        return out
+
+    def run(self, number, log, always):
+        tries = len(self.shown_tries(log))
+        if not (always or tries):
+            return ""
+        starts = [i for i, e in enumerate(log) if e[0] == "act"]
+        rows = self.act(log[: starts[0]] if starts else log)
+        for i, j in zip(starts, starts[1:] + [len(log)]):
+            inside = log[i + 1 : j]
+            if self.all_given or self.shown_tries(inside):
+                _, index, home, allowed, script = log[i]
+                rows += f'<tr class="act"><th colspan="3" scope="rowgroup">act {index}, home {home}, attempts allowed {allowed}<details><summary>script</summary><pre>{escaped(script)}</pre></details></th></tr>\n'
+                rows += self.act(inside)
+        is_open = " open" if len(self.tries) <= 20 else ""
+        return f'<details class="run"{is_open}><summary>run {number}, attempts {tries}</summary>\n' + table(["stamp", "reads and writes", "outcome"], [rows]).rstrip() + "</details>\n"
+
+    def act(self, log):
+        out = ""
+        for i, e in enumerate(log):
+            if e[0] == "try" and e[1][:3] in self.tries:
+                a, p = Attempt(e[1], log[i + 1 :], self.touches), printed_stamp(e[1])
+                out += f'<tr id="t{p}"><td>{p}</td><td>{"".join(map(self.step, a.steps))}</td><td class="{a.word()}">{a.outcome[2] if a.outcome else "open"}</td></tr>\n'
+            elif e[0] == "end" and ENDS[e[1]] == "spent":
+                out += f'<tr><td></td><td></td><td class="spent">{e[2]}</td></tr>\n'
+        return out
+
+    def step(self, step):
+        e, touch = step
+        if e[0] == "got":
+            return f"<p>read {self.object(touch[0]) + ' = ' if touch else ''}{escaped(printed(e[2]))}</p>\n"
+        wrote = self.object(touch[0]) + ("" if touch[1] is Nothing else f" = {escaped(printed(touch[1]))}") if touch else ""
+        return f"<p>wrote {wrote}</p>\n"
+
+    # ---- histories
+
+    def histories(self):
+        axis = set()
+        for _, h in self.rows:
+            axis |= {h.origin[:3]} if h.origin else set()
+            for v, _, _ in h.shown:
+                axis |= {v.start[:3], v.end[:3]}
+        self.axis = sorted(axis)
+        out = '<h2>Histories</h2>\n<p class="key">'
+        keys = [("committed", "committed"), ("undecided", "undecided"), ("aborted", "aborted"), ("committed older", "only in an older volume"), ("origin", "reads of what was there at first"), ("floor", "floor of a retirement")]
+        out += " ".join(f'<i class="{word}"></i> {text}' for word, text in keys) + "</p>\n"
+        out += "<p class=\"key\">A bar goes from a version's start to how far it was read. Each stamp has a column, so equal widths aren't equal distances. Open an object for its versions.</p>\n"
+        return out + self.picture(self.rows[:20]) + folded(len(self.rows[20:]), self.picture(self.rows[20:]))
+
+    def picture(self, rows):
+        out = f'<div class="histories" style="--n:{len(self.axis)}">\n<div class="axis"><b></b><span class="bars">\n'
+        every = len(self.axis) // 8 + 1
+        out += "".join(f'<i style="--a:{i}">{self.stamp(s)}</i>\n' for i, s in enumerate(self.axis) if i % every == 0)
+        return out + "</span></div>\n" + "".join(map(self.object_row, rows)) + "</div>\n"
+
+    def object_row(self, row):
+        o, h = row
+        name, column = f"{o[0]}.{o[1]}", {s: i for i, s in enumerate(self.axis)}
+        out = f'<details class="row" id="o{name}"><summary><b>{name}</b><span class="bars">\n'
+        lines = []
+        if h.origin:
+            out += bars("origin", wide=column[h.origin[:3]]) + "\n"
+            lines.append(f"<tr><td>origin</td><td>{printed_time(h.origin)}</td><td></td><td>what was there at first</td></tr>\n")
+        if h.floor:
+            out += bars("floor", sum(s < h.floor[:3] for s in self.axis)) + "\n"
+        for v, state, volume in h.shown:
+            first, last = column[v.start[:3]], column[v.end[:3]]
+            older, where = ("", "") if volume is None else (" older", f", only in volume {volume}")
+            out += bars(state + older, first, max(1, last - first), front(printed(v.value), 20)) + "\n"
+            lines.append(f"<tr><td>{self.time(v.start)}</td><td>{printed_time(v.end)}</td><td>{state}{where}</td><td>{escaped(printed(v.value))}</td></tr>\n")
+        out += "</span></summary>\n" + table(["version", "read up to", "state", "value"], lines)
+        out += f"<p>floor {printed_time(h.floor)}</p>\n" if h.floor else ""
+        more = len(h.rows) - len(h.shown)
+        out += f"<p>versions, {more} more: choose with --object, --from and --to</p>\n" if more else ""
+        return out + "</details>\n"
+
+    # ---- files
+
+    def files(self):
+        acts = sum(e[0] == "act" for m in self.media for e in m.log)
+        rows = []
+        for m in self.media:
+            written = m.gated + len(m.spoiled)
+            role = "log" if m.kind == "broker" or m.volume < 1000 else ROLES.get(m.volume, "other")
+            state = {"whole": "whole", "shut": "can't be read"}.get(m.state[0]) or f"damaged at page {m.state[1]}"
+            room = f"some {(m.pages - written) * acts // written} acts" if acts and written and m.volume == 0 else ""
+            spoiled = f", spoiled {len(m.spoiled)}" if m.spoiled else ""
+            strip = bars("gated", wide=written) + "".join(bars("spoiled", p) for p in m.spoiled)
+            strip += bars("damaged", m.state[1]) if m.state[0] == "damaged" else ""
+            rows.append(f'<tr><th scope="row">{m.name()}</th><td>{role}</td><td class="{m.state[0]}">{state}</td><td>{len(m.log)}</td><td>{written} of {m.pages}{spoiled}<span class="bars strip" style="--n:{m.pages}">{strip}</span></td><td>{room}</td></tr>\n')
+        return "<h2>Files</h2>\n" + table(["file", "role", "state", "effects", "pages written", "room for"], rows)
 
 
-def strips(media, acts):
-    out = "<h2>Pages</h2>\n" + ("" if media else '<p class="more">no medium is there</p>\n')
-    for m in media:
-        written = m.gated + len(m.spoiled)
-        state = {"whole": '<em class="whole">whole</em>', "shut": '<em class="shut">can\'t be read</em>'}.get(m.state[0]) or f'<em class="damaged">damaged at page {m.state[1]}</em>'
-        room = f", room for some {(m.pages - written) * acts // written} more acts of the usual size" if acts and written else ""
-        out += f'<div class="medium"><b>{m.name()}</b> {state}: effects {len(m.log)}, pages {m.pages}, gated {m.gated}, spoiled {len(m.spoiled)}{room}'
-        out += f'<svg class="strip" viewBox="0 0 {m.pages} 8" preserveAspectRatio="none"><rect class="gated" width="{written}" height="8"/>'
-        page = lambda word, p: f'<rect class="{word}" x="{p}" width="1" height="8"/>'
-        out += "".join(page("spoiled", p) for p in m.spoiled) + (page("damaged", m.state[1]) if m.state[0] == "damaged" else "") + "</svg>\n</div>\n"
-    return out
+ROLES = {1001: "totals by count", 1002: "totals by sum", 1003: "totals by last", 1010: "votes"}
+Nothing = object()
+ALL = {"object": None, "repository": None, "from": 0, "to": 2**40 - 1}
 
 
-def body(folder):
+def body(folder, wanted):
     names = [n for n in os.listdir(folder) if re.fullmatch(r"(repository|broker)-\d+-\d+", n)]
     media = sorted((Medium(folder, n) for n in names), key=lambda m: (m.kind != "repository", m.number, m.volume))
-    log = [e for m in media for e in m.log]
-    count = lambda word: sum(e[0] == word for e in log)
-    ended = [ENDS[e[1]] for e in log if e[0] == "end"]
-    objects, picture = histories(media)
-    cells = [(len(media), "media"), (len(objects), "objects"), (max([e[1] for e in log if e[0] == "run"], default=0), "runs"), (max([e[1][0] for e in log if e[0] == "try"], default=0), "greatest clock"), (count("act"), "acts"), (count("try"), "attempts")]
-    cells += [(ended.count(w), w) for w in ("committed", "withdrawn", "failed", "refused", "expired", "spent")]
-    out = "<h1>What the folder holds</h1>\n<div class=\"tally\">\n" + "".join(f"<span><b>{n}</b> {w}</span>\n" for n, w in cells) + "</div>\n"
-    return out + picture + attempts(media) + strips(media, count("act")) + "</body></html>\n"
+    page = Page(folder, media, wanted)
+    return page.first() + page.attempts() + page.histories() + page.files() + "</body></html>\n"
 
 
-def judge(folder, page):
+class Checker(HTMLParser):
+    """Links that lead nowhere, places that are there twice, headings out of order, cells and columns without a head."""
+
+    def __init__(self):
+        super().__init__()
+        self.places, self.links, self.level, self.wrong = [], [], 0, []
+
+    def handle_starttag(self, tag, attrs):
+        given = dict(attrs)
+        if "id" in given:
+            self.places.append(given["id"])
+        if tag == "a":
+            self.links.append(given["href"][1:])
+        if tag == "th" and "scope" not in given:
+            self.wrong.append("a head without a scope")
+        if re.fullmatch("h[1-6]", tag):
+            self.wrong += [f"{tag} after h{self.level}"] if int(tag[1]) > self.level + 1 else []
+            self.level = int(tag[1])
+
+    def faults(self):
+        dead = sorted(set(self.links) - set(self.places))
+        twice = sorted({p for p in self.places if self.places.count(p) > 1}) if len(self.places) < 3000 else []
+        return self.wrong + [f"link to {p}" for p in dead] + [f"{p} is there twice" for p in twice]
+
+
+def brightness(colour):
+    digits = colour if len(colour) == 6 else "".join(2 * c for c in colour)
+    parts = [int(digits[i : i + 2], 16) / 255 for i in (0, 2, 4)]
+    parts = [c / 12.92 if c <= 0.03928 else ((c + 0.055) / 1.055) ** 2.4 for c in parts]
+    return sum(weight * c for weight, c in zip((0.2126, 0.7152, 0.0722), parts))
+
+
+def faint(head):
+    """Texts of the style, light or dark, whose contrast is below 4.5 (WCAG 2)."""
+    texts = [(text, "paper") for text in ("ink", "soft", "good", "open", "bad")] + [("ink", "tint"), ("soft", "tint"), ("paper", "good")]
+    found = []
+    for scheme in re.findall(r":root\{([^}]*)\}", head):
+        colours = dict(re.findall(r"--(\w+):#(\w+)", scheme))
+        for text, ground in texts:
+            low, high = sorted((brightness(colours[text]), brightness(colours[ground])))
+            if (high + 0.05) / (low + 0.05) < 4.5:
+                found.append(f"{text} on {ground} is faint")
+    return found
+
+
+def judge(folder, page, wanted=ALL):
+    name = escaped(os.path.basename(folder) if CASES else folder)
     head, mark, rest = page.partition("</style></head><body>\n")
-    due = body(folder)
-    if mark and rest == due and head.startswith("<!doctype html>\n"):
-        return head
+    title, rest = rest.split("\n", 1) if mark else ("", "")
+    due = body(folder, wanted)
+    checker = Checker()
+    checker.feed(page)
+    faults = checker.faults() + faint(head)
+    for fault in faults:
+        print(f"{folder}: {fault}")
+    if mark and rest == due and title == f"<h1>{name}</h1>" and f"<title>{name}</title>" in head and not faults:
+        return head.replace(f"<title>{name}</title>", "")
     ours, theirs = due.split("\n"), rest.split("\n")
     at = next((i for i, (a, b) in enumerate(zip(ours, theirs)) if a != b), min(len(ours), len(theirs)))
-    print(f"{folder}: line {at + 1} of the body\n due   {ours[at : at + 1]}\n found {theirs[at : at + 1]}")
+    print(f"{folder}: line {at + 1} of the body\n due   {ours[at : at + 1]}\n found {theirs[at : at + 1]}, title {title}")
     return None
 
 
-if len(sys.argv) == 4 and sys.argv[1] == "--cases":
+CASES = len(sys.argv) == 4 and sys.argv[1] == "--cases"
+if CASES:
     text = open(sys.argv[2], encoding="latin-1").read()
     parts = re.split(r"^folder (\w+)\n", text, flags=re.M)[1:]
     heads = [judge(f"{sys.argv[3]}/{parts[i]}", parts[i + 1]) for i in range(0, len(parts), 2)]
-elif len(sys.argv) == 3:
-    heads = [judge(sys.argv[1], open(sys.argv[2], encoding="latin-1").read())]
+elif len(sys.argv) >= 3:
+    given = dict(ALL)
+    for word, value in zip(sys.argv[3::2], sys.argv[4::2]):
+        given[word[2:]] = tuple(map(int, value.split("."))) if word == "--object" else int(value)
+    heads = [judge(sys.argv[1], open(sys.argv[2], encoding="latin-1").read(), given)]
 else:
     sys.exit(__doc__)
 print(f"{sum(h is not None for h in heads)} pages of {len(heads)} are right")

@@ -1,8 +1,9 @@
 #!/usr/bin/env bash
-# What `./swallow test` runs, with no toolchain: the sums of release/, all examples and what the pages show (docs.sh), what
-# the starter prints (prompt.sh), the system's mistakes (real.sh), 20 kills (kills.sh), 200 power cuts (cuts.sh), kills and cuts
-# of settles (settles.sh), and sessions with kills (session.sh), some of them side by side. What can't be run here is skipped,
-# with the reason. Its last line is `N passed, M failed`, and its status 0 if nothing failed.
+# What `./swallow test` runs, with no toolchain: the sums of release/, all examples and what the pages show (docs.sh), whether
+# docs/CRATES.md is what the sources give (crates.sh) and what the pages cite is there (names.sh), the remedies that they give
+# (remedies.sh), what the starter prints (prompt.sh), the system's mistakes (real.sh), 20 kills (kills.sh), 200 power cuts
+# (cuts.sh), kills and cuts of settles (settles.sh), and sessions with kills (session.sh), some of them side by side. What
+# can't be run here is skipped, with the reason. Its last line is `N passed, M failed`, and its status 0 if nothing failed.
 top="$(cd "$(dirname "${BASH_SOURCE[0]}")/.." && pwd)" || exit 1
 . "$top/release/start.sh" || exit 70
 work=$(mktemp -d) || exit 1
@@ -55,6 +56,9 @@ if has strace "power cuts" && has python3 "power cuts"; then
 fi
 begin sums "$top/bench/release.sh" check
 begin pages "$top/bench/docs.sh"
+begin crates "$top/bench/crates.sh" check
+begin names "$top/bench/names.sh"
+begin remedies "$top/bench/remedies.sh"
 begin prompt "$top/bench/prompt.sh"
 [ -z "$kills" ] || begin system "$top/bench/real.sh" 1
 [ -z "$cuts" ] || begin cuts "$top/bench/cuts.sh" "$cuts"
@@ -64,6 +68,9 @@ begin prompt "$top/bench/prompt.sh"
 wait
 count sums 1
 count pages 1
+count crates 1
+count names 1
+count remedies 1
 count prompt 1
 grep '^skipped' "$work/prompt"
 if [ -n "$kills" ]; then

@@ -48,10 +48,10 @@ help_swallow_look() {
 ./swallow_look FOLDER [OPTIONS] > page.html   writes a page for a browser: what the logs in FOLDER say
 ./swallow_look build                          proves and builds the program here, and compares it with release/
 
---object R.N     only this object, such as 1.7
---repository R   only the objects of this repository, 1 to 16
---from CLOCK     versions whose clock is at least this
---to CLOCK       versions whose clock is at most this
+--object R.N     only this object, such as 1.7, and the attempts that concern it
+--repository R   only the objects of this repository, 1 to 16, and their attempts
+--from CLOCK     versions and attempts whose clock is at least this
+--to CLOCK       versions and attempts whose clock is at most this
 
 Status 0: the page was written. 1: no command. 4: standard output failed. 7: out of memory.
 70: the program couldn't be built or started. docs/COMMANDS.md says what the page shows.

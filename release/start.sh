@@ -275,6 +275,11 @@ start() {
     esac
   fi
   find_program "$1" || exit 70
+  if [ "$1" = swallow_main ]; then
+    . "$top/release/words.sh"
+    words_fault "${words[@]}"
+    [ -z "$fault" ] || say "$fault"
+  fi
   trap '' XFSZ # the program gets a limit on the size of files as an error of its write
   [ ! -t 2 ] || start_before_a_reader "${words[@]}"
   shopt -s execfail

@@ -1,6 +1,8 @@
 pub mod Appends
 pub mod FrameLemmas
 pub mod OnceLemmas
+pub mod PageLemmas
+pub mod PieceLemmas
 pub mod RowLemmas
 pub mod StartLemmas
 pub mod VolumeLemmas

@@ -1,13 +1,10 @@
 -- The names that the proofs of this crate cite, passed on from one place. Declares nothing.
 pub use Rattle.effect_form.specs.declared.effects.Effect.{Effect}
-pub use Rattle.folder_look.specs.Attempts.{act_text, effect_text, end_text, ended_class, ended_text, got_text, log_text, try_text}
-pub use Rattle.folder_look.specs.Axes.{axis_of, column, columns_below, width_of, with_rows, with_versions}
+pub use Rattle.folder_look.specs.Attempts.{ended_class, ended_text}
+pub use Rattle.folder_look.specs.Axes.{axis_of, column, columns_below, with_rows, with_versions}
 pub use Rattle.folder_look.specs.Choices.{has_object, has_start}
-pub use Rattle.folder_look.specs.Drawing.{bar_text, cross_text, floor_text, hidden_text, mark_text, origin_text, rect_text, row_text, rows_text, version_text}
-pub use Rattle.folder_look.specs.MediaText.{acts_text, acts_with, medium_text, spoiled_text, state_text}
-pub use Rattle.folder_look.specs.Objects.{is_volume, logs_of, objects_left, rows_in, with_media, with_objects}
-pub use Rattle.folder_look.specs.Page.{head_text, histories_text, left_text, pages_text}
-pub use Rattle.folder_look.specs.Rows.{current_marks, given_up, given_up_at, given_up_by, is_shown, row_of, rows_of, rows_with, starts_at}
+pub use Rattle.folder_look.specs.Objects.{is_log, is_volume, logs_of, objects_left, rows_in, with_media, with_objects}
+pub use Rattle.folder_look.specs.Rows.{current_marks, given_up, given_up_at, given_up_by, is_shown, row_of, rows_of, rows_with, starts_at, whole_row}
 pub use Rattle.folder_look.specs.Tallies.{counted_all, counted_over, none, tally_of}
 pub use Rattle.folder_look.specs.Told.{is_told_in, told_row}
 pub use Rattle.folder_look.specs.declared.choices.Choice.{Choice}

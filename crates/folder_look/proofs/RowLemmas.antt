@@ -1,5 +1,5 @@
 -- The rows that the code makes of what it keeps are those of the marks.
-use Rattle.folder_look.proofs.Names.{filter, BTreeSet, contains, reverse-append, TimeParts, time_cmp, ObjectId, Value, Mark, Seen, floor_of, falling, versions, Choice, ObjectRow, VersionRow, Version, has_start, row_of, is_shown, rows_with, starts_at, told_of, Holds, told_row, is_told_in, ◌≡◌, ℕ, Bool, true, false, List, [], ◌∷◌, ◌++◌, map, reverse, refl, sym, ◌∙◌, ap, Option, Some, None, if◌then◌else◌, ◌&&◌, not, top, latest, stretched}
+use Rattle.folder_look.proofs.Names.{filter, BTreeSet, contains, reverse-append, TimeParts, time_cmp, ObjectId, Value, Mark, Seen, floor_of, falling, versions, Choice, VersionRow, Version, has_start, row_of, is_shown, whole_row, rows_with, starts_at, told_of, Holds, told_row, is_told_in, ◌≡◌, ℕ, Bool, true, false, List, [], ◌∷◌, ◌++◌, map, reverse, refl, sym, ◌∙◌, ap, Option, Some, None, if◌then◌else◌, ◌&&◌, not, top, latest, stretched}
 use Rattle.object_history.specs.Kept.{Settled}
 
 map-append : (f : Seen → Version) (xs ys : List Seen) → map f (xs ++ ys) ≡ map f xs ++ map f ys
@@ -46,6 +46,5 @@ pub origin-is : (o : ObjectId) (m : List Mark) (origin floor end : Option TimePa
 origin-is o m origin floor end vs settled h floors ends = ends ∙ ap (λ f. latest f origin) floors ∙ ap (latest (floor_of m)) h.origin_is
 
 -- a row by its parts
-pub row-is : (o : ObjectId) (origin origin' floor floor' : Option TimeParts) (versions versions' : List VersionRow) (hidden hidden' : ℕ) → origin ≡ origin' → floor ≡ floor' → versions ≡ versions' → hidden ≡ hidden' →
-    ◌≡◌ {A = ObjectRow} (record { object = o; origin = origin; floor = floor; versions = versions; hidden = hidden }) (record { object = o; origin = origin'; floor = floor'; versions = versions'; hidden = hidden' })
-row-is o origin origin' floor floor' versions versions' hidden hidden' a b c d = λ i. record { object = o; origin = a i; floor = b i; versions = c i; hidden = d i }
+pub row-is : (most : ℕ) (o : ObjectId) (origin origin' floor floor' : Option TimeParts) (rows rows' : List VersionRow) → origin ≡ origin' → floor ≡ floor' → rows ≡ rows' → whole_row most o origin floor rows ≡ whole_row most o origin' floor' rows'
+row-is most o origin origin' floor floor' rows rows' a b c = λ i. whole_row most o (a i) (b i) (c i)

@@ -1,5 +1,5 @@
 -- The axis of a picture: the stamps that are shown, in order, and where a stamp stands on it.
-use Rattle.std.specs.Prelude.{ℕ, ◌+◌, ◌*◌, List, [], ◌∷◌, Option, Some, None, nat_lt, min, length, ◌&&◌, if◌then◌else◌}
+use Rattle.std.specs.Prelude.{ℕ, ◌+◌, List, [], ◌∷◌, Option, Some, None, nat_lt, ◌&&◌, if◌then◌else◌}
 use Rattle.std.specs.BTreeSet.{insert_key}
 use Rattle.std.specs.Ordering.{is_lt}
 use Rattle.pseudo_time.specs.StampParts.{StampParts, stamp_cmp}
@@ -40,7 +40,3 @@ columns_below n s (p ∷ ps) = columns_below (if is_lt (stamp_cmp p s) && nat_lt
 -- the column of a stamp
 abbrev pub column : List StampParts → StampParts → ℕ
 column axis s = columns_below 0 s axis
-
--- how wide the picture is
-abbrev pub width_of : List StampParts → ℕ
-width_of axis = 64 * min (length axis) 1000000 + 96

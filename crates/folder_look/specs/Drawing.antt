@@ -1,123 +1,135 @@
--- The picture of histories.
-use Rattle.std.specs.Prelude.{ℕ, ◌+◌, ◌-◌, ◌*◌, Bool, true, false, List, [], ◌++◌, codes, take, length, Option, Some, None, nat_lt, ◌==◌, if◌then◌else◌}
+-- The picture of histories, and the versions of each object.
+use Rattle.std.specs.Prelude.{ℕ, ◌+◌, ◌-◌, ◌/◌, ◌%◌, Bool, true, false, List, [], ◌∷◌, ◌++◌, codes, take, drop, length, Option, Some, None, nat_lt, ◌==◌, if◌then◌else◌}
 use Rattle.std.specs.List.{flat_map}
 use Rattle.pseudo_time.specs.StampParts.{StampParts}
 use Rattle.pseudo_time.specs.TimeParts.{TimeParts}
-use Rattle.value_form.specs.declared.values.Value.{Value}
-use Rattle.value_form.specs.ValueText.{value_text}
-use Rattle.report_writer.specs.Parts.{object_text, stamp_text, time_text}
-use Rattle.report_writer.specs.Reports.{named}
-use Rattle.page_text.specs.Escapes.{page_text}
 use Rattle.folder_look.specs.declared.looks.VersionRow.{VersionRow}
 use Rattle.folder_look.specs.declared.looks.ObjectRow.{ObjectRow}
-use Rattle.folder_look.specs.Axes.{column, width_of}
+use Rattle.folder_look.specs.Axes.{column}
+use Rattle.folder_look.specs.Pieces.{text_of, Words, Number, Object, Time, Printed}
+use Rattle.folder_look.specs.Shown.{ShownParts, stamp_ref, time_ref}
+use Rattle.folder_look.specs.Values.{value_cut, time_or_none, fold_head}
 
--- ---- values
-
--- the printed value, as the text of an element
-abbrev pub value_shown : Value → List ℕ
-value_shown v = page_text (value_text v)
-
--- its first nine bytes, where it is longer, and a mark that it is
-abbrev pub cut_text : List ℕ → List ℕ
-cut_text text = if nat_lt 10 (length text) then page_text (take 9 text) ++ codes "&#8230;" else page_text text
-
-abbrev pub value_cut : Value → List ℕ
-value_cut v = cut_text (value_text v)
-
--- ---- versions
+-- ---- bars
 
 abbrev pub state_word : Option Bool → List ℕ
 state_word None = codes "undecided"
 state_word (Some true) = codes "committed"
 state_word (Some false) = codes "aborted"
 
-abbrev pub start_x : ℕ → ℕ
-start_x c = 64 * c + 30
-
--- how wide a bar is that begins in a column and ends in another
-abbrev pub bar_width : ℕ → ℕ → ℕ
-bar_width c e = if nat_lt c e then 64 * (e - c) - 4 else 30
-
-abbrev pub bar_to : List StampParts → ℕ → Option TimeParts → ℕ
-bar_to axis c None = 30
-bar_to axis c (Some t) = bar_width c (column axis t.stamp)
-
-abbrev pub end_word : Option TimeParts → List ℕ
-end_word None = codes " read to none"
-end_word (Some t) = codes " read to " ++ time_text t
-
--- which older volume alone has it
-abbrev pub older_word : Option ℕ → List ℕ
-older_word None = []
-older_word (Some n) = named (codes ", only in volume ") n
-
 abbrev pub older_class : Option ℕ → List ℕ
 older_class None = []
 older_class (Some n) = codes " older"
 
--- the whole of a version, which is shown where one points at its bar
-abbrev pub title_text : VersionRow → List ℕ
-title_text v =
-    codes "<title>" ++ (time_text v.start ++ (end_word v.end ++ (codes ", " ++ (state_word v.state ++ (older_word v.older ++ (codes ": " ++ (value_shown v.value ++ codes "</title>")))))))
+-- how many columns a bar has that begins in one and ends in another
+abbrev pub bar_columns : ℕ → ℕ → ℕ
+bar_columns c e = if nat_lt c e then e - c else 1
 
-abbrev pub rect_text : ℕ → ℕ → List ℕ
-rect_text x w = named (codes "<rect x=\"") x ++ (named (codes "\" y=\"18\" width=\"") w ++ codes "\" height=\"12\" rx=\"3\"/>")
+abbrev pub bar_to : List StampParts → ℕ → Option TimeParts → ℕ
+bar_to axis c None = 1
+bar_to axis c (Some t) = bar_columns c (column axis t.stamp)
 
--- an aborted version is crossed out
-abbrev pub cross_text : Option Bool → ℕ → List ℕ
-cross_text None x = []
-cross_text (Some true) x = []
-cross_text (Some false) x = named (codes "<path d=\"M") x ++ codes " 15l18 18m0-18l-18 18\"/>"
+-- where a bar begins, and how many columns it has
+abbrev pub place_text : ℕ → ℕ → List ℕ
+place_text c w = text_of (Words (codes "\" style=\"--a:") ∷ Number c ∷ Words (codes ";--w:") ∷ Number w ∷ Words (codes "\">") ∷ [])
 
-abbrev pub label_text : ℕ → Value → List ℕ
-label_text x v = named (codes "<text x=\"") x ++ (codes "\" y=\"13\">" ++ (value_cut v ++ codes "</text>"))
+abbrev pub version_place : List StampParts → VersionRow → List ℕ
+version_place axis v = place_text (column axis v.start.stamp) (bar_to axis (column axis v.start.stamp) v.end)
 
-abbrev pub bar_text : List StampParts → VersionRow → ℕ → List ℕ
-bar_text axis v c = rect_text (start_x c) (bar_to axis c v.end) ++ (cross_text v.state (start_x c) ++ label_text (start_x c) v.value)
+-- a version once: its bar from its start to how far it was read, its state and the front of its value
+abbrev pub bar_text : List StampParts → VersionRow → List ℕ
+bar_text axis v =
+    codes "<i class=\"" ++ (state_word v.state ++ (older_class v.older
+    ++ (version_place axis v
+    ++ (value_cut 20 v.value ++ codes "</i>\n"))))
 
--- a version once: its bar from its start to how far it was read, its state and its value, paler where only an older volume has it; it leads to its attempt
-abbrev pub version_text : List StampParts → VersionRow → List ℕ
-version_text axis v =
-    codes "<a href=\"#t" ++ (stamp_text v.start.stamp ++ (codes "\"><g class=\"" ++ (state_word v.state ++ (older_class v.older ++ (codes "\">" ++ (title_text v ++ (bar_text axis v (column axis v.start.stamp) ++ codes "</g></a>\n")))))))
+abbrev pub origin_bar : List StampParts → Option TimeParts → List ℕ
+origin_bar axis None = []
+origin_bar axis (Some t) = text_of (Words (codes "<i class=\"origin\" style=\"--w:") ∷ Number (column axis t.stamp) ∷ Words (codes "\"></i>\n") ∷ [])
+
+abbrev pub floor_line : List StampParts → Option TimeParts → List ℕ
+floor_line axis None = []
+floor_line axis (Some t) = text_of (Words (codes "<i class=\"floor\" style=\"--a:") ∷ Number (column axis t.stamp) ∷ Words (codes "\"></i>\n") ∷ [])
+
+abbrev pub bars_text : List StampParts → ObjectRow → List ℕ
+bars_text axis r = origin_bar axis r.origin ++ (floor_line axis r.floor ++ flat_map (bar_text axis) r.versions)
+
+-- ---- versions
+
+-- which older volume alone has it
+abbrev pub older_word : Option ℕ → List ℕ
+older_word None = []
+older_word (Some n) = text_of (Words (codes ", only in volume ") ∷ Number n ∷ [])
+
+-- its state and its value
+abbrev pub version_end : VersionRow → List ℕ
+version_end v = state_word v.state ++ (older_word v.older ++ text_of (Words (codes "</td><td>") ∷ Printed v.value ∷ Words (codes "</td></tr>\n") ∷ []))
+
+-- the whole of a version, whose start leads to its attempt
+abbrev pub version_text : ShownParts → VersionRow → List ℕ
+version_text p v =
+    codes "<tr><td>" ++ (time_ref p v.start ++ (codes "</td><td>" ++ (time_or_none v.end ++ (codes "</td><td>" ++ version_end v))))
+
+abbrev pub origin_text : Option TimeParts → List ℕ
+origin_text None = []
+origin_text (Some t) = text_of (Words (codes "<tr><td>origin</td><td>") ∷ Time t ∷ Words (codes "</td><td></td><td>what was there at first</td></tr>\n") ∷ [])
+
+abbrev pub floor_text : Option TimeParts → List ℕ
+floor_text None = []
+floor_text (Some t) = text_of (Words (codes "<p>floor ") ∷ Time t ∷ Words (codes "</p>\n") ∷ [])
+
+abbrev pub hidden_text : ℕ → List ℕ
+hidden_text n = if n == 0 then [] else text_of (Words (codes "<p>versions, ") ∷ Number n ∷ Words (codes " more: choose with --object, --from and --to</p>\n") ∷ [])
+
+abbrev pub versions_text : ShownParts → ObjectRow → List ℕ
+versions_text p r =
+    codes "<table><thead><tr><th scope=\"col\">version</th><th scope=\"col\">read up to</th><th scope=\"col\">state</th><th scope=\"col\">value</th></tr></thead><tbody>\n"
+    ++ (origin_text r.origin ++ (flat_map (version_text p) r.versions ++ (codes "</tbody></table>\n" ++ (floor_text r.floor ++ hidden_text r.hidden))))
 
 -- ---- rows
 
-abbrev pub origin_text : List StampParts → Option TimeParts → List ℕ
-origin_text axis None = []
-origin_text axis (Some t) =
-    codes "<g class=\"origin\"><title>origin, read to " ++ (time_text t ++ (codes "</title>" ++ (rect_text 0 (64 * column axis t.stamp + 26) ++ codes "</g>\n")))
-
-abbrev pub floor_text : List StampParts → Option TimeParts → List ℕ
-floor_text axis None = []
-floor_text axis (Some t) =
-    named (codes "<path class=\"floor\" d=\"M") (64 * column axis t.stamp + 28) ++ (codes " 0v40\"><title>floor " ++ (time_text t ++ codes "</title></path>\n"))
-
-abbrev pub hidden_text : ℕ → List ℕ
-hidden_text n = if n == 0 then [] else named (codes "<p class=\"more\">and ") n ++ codes " more versions</p>\n"
-
 abbrev pub row_head : ObjectRow → List ℕ
-row_head r = codes "<div class=\"row\" id=\"o" ++ (object_text r.object ++ (codes "\"><b>" ++ (object_text r.object ++ codes "</b>")))
+row_head r = text_of (Words (codes "<details class=\"row\" id=\"o") ∷ Object r.object ∷ Words (codes "\"><summary><b>") ∷ Object r.object ∷ Words (codes "</b><span class=\"bars\">\n") ∷ [])
 
-abbrev pub svg_head : List StampParts → List ℕ
-svg_head axis = named (codes "<svg width=\"") (width_of axis) ++ codes "\" height=\"40\">\n"
+-- an object: its bars, and its versions folded away
+abbrev pub row_text : ShownParts → List StampParts → ObjectRow → List ℕ
+row_text p axis r =
+    row_head r
+    ++ (bars_text axis r ++ (codes "</span></summary>\n" ++ (versions_text p r ++ codes "</details>\n")))
 
-abbrev pub row_body : List StampParts → ObjectRow → List ℕ
-row_body axis r = origin_text axis r.origin ++ (floor_text axis r.floor ++ flat_map (version_text axis) r.versions)
+-- of many, each so manieth has its name
+abbrev pub is_named : ℕ → ℕ → Bool
+is_named every n = n % every == 0
 
-abbrev pub row_text : List StampParts → ObjectRow → List ℕ
-row_text axis r = row_head r ++ (svg_head axis ++ (row_body axis r ++ (codes "</svg></div>\n" ++ hidden_text r.hidden)))
+abbrev pub named_mark : ShownParts → ℕ → StampParts → List ℕ
+named_mark p n s = text_of (Words (codes "<i style=\"--a:") ∷ Number n ∷ Words (codes "\">") ∷ []) ++ (stamp_ref p s ++ codes "</i>\n")
 
--- ---- the axis
+-- a stamp of the axis
+abbrev pub mark_text : ShownParts → List StampParts → ℕ → StampParts → List ℕ
+mark_text p axis every s = if is_named every (column axis s) then named_mark p (column axis s) s else []
 
--- a stamp, which leads to its attempt
-abbrev pub mark_text : List StampParts → StampParts → List ℕ
-mark_text axis s =
-    codes "<a id=\"s" ++ (stamp_text s ++ (codes "\" href=\"#t" ++ (stamp_text s ++ (named (codes "\"><text x=\"") (start_x (column axis s)) ++ (codes "\" y=\"16\">" ++ (stamp_text s ++ codes "</text></a>\n"))))))
+-- so that there are eight names at most
+abbrev pub every_of : List StampParts → ℕ
+every_of axis = length axis / 8 + 1
 
-abbrev pub axis_text : List StampParts → List ℕ
-axis_text axis = codes "<div class=\"row axis\"><b></b>" ++ (svg_head axis ++ (flat_map (mark_text axis) axis ++ codes "</svg></div>\n"))
+abbrev pub axis_text : ShownParts → List StampParts → List ℕ
+axis_text p axis = codes "<div class=\"axis\"><b></b><span class=\"bars\">\n" ++ (flat_map (mark_text p axis (every_of axis)) axis ++ codes "</span></div>\n")
+
+abbrev pub rows_head : List StampParts → List ℕ
+rows_head axis = text_of (Words (codes "<div class=\"histories\" style=\"--n:") ∷ Number (length axis) ∷ Words (codes "\">\n") ∷ [])
 
 -- the axis and a row for each object
-abbrev pub rows_text : List StampParts → List ObjectRow → List ℕ
-rows_text axis rows = codes "<div class=\"histories\">\n" ++ (axis_text axis ++ (flat_map (row_text axis) rows ++ codes "</div>\n"))
+abbrev pub rows_text : ShownParts → List StampParts → List ObjectRow → List ℕ
+rows_text p axis rows =
+    rows_head axis
+    ++ (axis_text p axis ++ (flat_map (row_text p axis) rows ++ codes "</div>\n"))
+
+abbrev pub folded_rows : ShownParts → List StampParts → List ObjectRow → List ℕ
+folded_rows p axis rows = fold_head (length rows) ++ (rows_text p axis rows ++ codes "</details>\n")
+
+-- those that the first 20 leave are folded away, under the axis again
+abbrev pub more_rows : ShownParts → List StampParts → List ObjectRow → List ℕ
+more_rows p axis rows = if length rows == 0 then [] else folded_rows p axis rows
+
+abbrev pub all_rows : ShownParts → List StampParts → List ObjectRow → List ℕ
+all_rows p axis rows = rows_text p axis (take 20 rows) ++ more_rows p axis (drop 20 rows)

@@ -1,5 +1,5 @@
 -- The objects of a folder, and the logs that each is read from. Logs stand oldest first, media in the order of their volumes.
-use Rattle.std.specs.Prelude.{ℕ, ◌-◌, Bool, true, false, List, [], ◌∷◌, length, take, ◌==◌, ◌&&◌, if◌then◌else◌}
+use Rattle.std.specs.Prelude.{ℕ, ◌-◌, Bool, true, false, List, [], ◌∷◌, length, take, nat_lt, ◌==◌, ◌&&◌, if◌then◌else◌}
 use Rattle.std.specs.List.{filter}
 use Rattle.std.specs.BTreeSet.{insert_key}
 use Rattle.pseudo_time.specs.declared.nodes.NodeKind.{NodeKind}
@@ -17,6 +17,10 @@ use Rattle.folder_look.specs.Rows.{object_row}
 abbrev pub is_repository : NodeKind → Bool
 is_repository Repository = true
 is_repository Broker = false
+
+-- the volumes of runs: those from 1000 on have totals and votes
+abbrev pub is_log : MediumLook → Bool
+is_log m = is_repository m.kind && nat_lt m.volume 1000
 
 -- ---- objects
 
@@ -42,7 +46,7 @@ with_objects (e ∷ es) all = with_objects es (with_object e all)
 
 abbrev pub with_media : List MediumLook → List ObjectId → List ObjectId
 with_media [] all = all
-with_media (m ∷ ms) all = with_media ms (with_objects m.log all)
+with_media (m ∷ ms) all = with_media ms (if is_log m then with_objects m.log all else all)
 
 -- each object of the folder once, by repository, then number
 abbrev pub objects_of : List MediumLook → List ObjectId
@@ -54,9 +58,9 @@ chosen c media = filter (has_object c) (objects_of media)
 
 -- ---- rows
 
--- it is a volume of the repository
+-- it is a volume of the repository, and neither totals nor votes
 abbrev pub is_volume : ℕ → MediumLook → Bool
-is_volume r m = is_repository m.kind && m.number == r
+is_volume r m = is_log m && m.number == r
 
 -- the logs of the repository's volumes, in their order
 abbrev pub logs_of : ℕ → List MediumLook → List (List Effect)

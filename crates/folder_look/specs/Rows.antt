@@ -1,5 +1,5 @@
 -- What is shown of an object, by the marks of its repository's volumes, newest first.
-use Rattle.std.specs.Prelude.{ℕ, zero, suc, ◌-◌, Bool, List, [], ◌∷◌, ◌++◌, map, take, length, reverse, ◌&&◌, not, Option, Some, None}
+use Rattle.std.specs.Prelude.{ℕ, zero, suc, ◌+◌, ◌-◌, ◌^◌, min, Bool, true, false, List, [], ◌∷◌, ◌++◌, map, take, length, reverse, ◌&&◌, not, Option, Some, None, if◌then◌else◌}
 use Rattle.std.specs.List.{filter, list_any}
 use Rattle.pseudo_time.specs.Order.{same_time}
 use Rattle.pseudo_time.specs.TimeParts.{TimeParts}
@@ -58,12 +58,42 @@ current_marks logs = marks (reverse (node_log logs))
 abbrev pub rows_of : Choice → ObjectId → List (List Effect) → List VersionRow
 rows_of c o logs = given_up_by c o (current logs) logs ++ rows_with c None [] o (current_marks logs)
 
--- the first of them, and how many more there are
-abbrev pub object_row : Choice → ℕ → ObjectId → List (List Effect) → ObjectRow
-object_row c most o logs = record {
+-- ---- what stands out
+
+-- committed, and in the current volume
+abbrev pub is_current : Option Bool → Option ℕ → Bool
+is_current (Some true) None = true
+is_current (Some true) (Some n) = false
+is_current (Some false) older = false
+is_current None older = false
+
+-- the last of them that is current, or the one before
+abbrev pub last_from : Option VersionRow → List VersionRow → Option VersionRow
+last_from found [] = found
+last_from found (v ∷ vs) = last_from (if is_current v.state v.older then Some v else found) vs
+
+abbrev pub is_open : Option Bool → Bool
+is_open None = true
+is_open (Some c) = false
+
+-- how many of them are undecided, and n
+abbrev pub open_from : ℕ → List VersionRow → ℕ
+open_from n [] = n
+open_from n (v ∷ vs) = open_from (if is_open v.state then min (n + 1) (2 ^ 64 - 1) else n) vs
+
+-- a row of these versions: the first of them, how many more there are, how many are undecided, and the current one
+abbrev pub whole_row : ℕ → ObjectId → Option TimeParts → Option TimeParts → List VersionRow → ObjectRow
+whole_row most o origin floor rows = record {
   object = o;
-  origin = reach (current_marks logs) o None;
-  floor = floor_of (current_marks logs);
-  versions = take most (rows_of c o logs);
-  hidden = length (rows_of c o logs) - most;
+  origin = origin;
+  floor = floor;
+  versions = take most rows;
+  hidden = length rows - most;
+  count = length rows;
+  undecided = open_from 0 rows;
+  last = last_from None rows;
 }
+
+-- an object by the logs of its repository
+abbrev pub object_row : Choice → ℕ → ObjectId → List (List Effect) → ObjectRow
+object_row c most o logs = whole_row most o (reach (current_marks logs) o None) (floor_of (current_marks logs)) (rows_of c o logs)

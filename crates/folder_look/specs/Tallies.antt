@@ -12,17 +12,17 @@ abbrev pub more : ℕ → ℕ
 more n = min (n + 1) (2 ^ 64 - 1)
 
 abbrev pub none : Tally
-none = record { runs = 0; acts = 0; tries = 0; committed = 0; withdrawn = 0; failed = 0; refused = 0; expired = 0; spent = 0; clock = 0 }
+none = record { runs = 0; acts = 0; tries = 0; committed = 0; others = 0; clock = 0 }
 
 -- with how an attempt or an act ended
 abbrev pub ended : Outcome → Tally → Tally
 ended outcome.Committed t = record t { committed = more t.committed }
-ended (outcome.Withdrawn l) t = record t { withdrawn = more t.withdrawn }
-ended (outcome.Failed l k) t = record t { failed = more t.failed }
-ended (outcome.LaterRead o e) t = record t { refused = more t.refused }
-ended (outcome.LaterVersion o x) t = record t { refused = more t.refused }
-ended (outcome.Expired d m) t = record t { expired = more t.expired }
-ended (outcome.Spent c) t = record t { spent = more t.spent }
+ended (outcome.Withdrawn l) t = record t { others = more t.others }
+ended (outcome.Failed l k) t = record t { others = more t.others }
+ended (outcome.LaterRead o e) t = record t { others = more t.others }
+ended (outcome.LaterVersion o x) t = record t { others = more t.others }
+ended (outcome.Expired d m) t = record t { others = more t.others }
+ended (outcome.Spent c) t = record t { others = more t.others }
 
 -- with one more effect
 abbrev pub counted : Effect → Tally → Tally

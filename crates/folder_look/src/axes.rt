@@ -70,10 +70,3 @@ pub fn column(axis: &BTreeSet<Stamp>, stamp: Stamp) -> u64
     }
     count
 }
-
-/// How wide the picture is.
-pub fn width_of(axis: &BTreeSet<Stamp>) -> u64
-    ensures { result ≡ spec.width_of axis.now.keys }
-{
-    64 * (axis.len() as u64).min(1_000_000) + 96
-}

@@ -1,56 +1,17 @@
-//! Versions as bars, in HTML.
-ghost use Rattle.std.specs.Prelude.{◌≡◌, ◌≤◌, ◌++◌, OnOk};
+//! The picture of histories, and the versions of each object.
+ghost use Rattle.std.specs.Prelude.{◌≡◌, ◌++◌, OnOk, drop, take};
 ghost use Rattle.std.specs.List.{flat_map};
 ghost use Rattle.folder_look.specs.Drawing as spec;
-ghost use Rattle.report_writer.specs.Parts.{stamp_text};
+ghost use Rattle.folder_look.specs.Shown.{parts_of};
 
-use crate::axes::{column, width_of};
+use crate::axes::column;
 use crate::looks::{ObjectRow, VersionRow};
-use page_text::push_text;
+use crate::parts::{Part, push_parts};
+use crate::shown::{Shown, push_stamp_ref, push_time_ref};
+use crate::values::{push_fold, push_time_or_none, push_value_cut};
 use pseudo_time::{PseudoTime, Stamp};
-use report_writer::{push_named, push_object, push_time};
 use std::alloc::{AllocError, Global};
 use std::collections::BTreeSet;
-use value_form::Value;
-
-/// Appends a stamp.
-pub fn push_stamp(alloc: Global, out: &mut Vec<u8>, stamp: Stamp) -> Result<(), AllocError>
-    ensures { OnOk result (out.new.items ≡ out.old.items ++ stamp_text stamp) }
-{
-    push_named(alloc, out, b"", stamp.clock())?;
-    push_named(alloc, out, b".", stamp.broker() as u64)?;
-    push_named(alloc, out, b".", stamp.home() as u64)
-}
-
-/// Appends a printed value.
-pub fn push_value(alloc: Global, out: &mut Vec<u8>, value: &Value) -> Result<(), AllocError>
-    ensures { OnOk result (out.new.items ≡ out.old.items ++ spec.value_shown value.now) }
-{
-    let mut text = Vec::new(alloc);
-    value.print(alloc, &mut text)?;
-    push_text(out, text.as_slice())
-}
-
-// Appends a text, cut where it is long.
-fn push_cut(out: &mut Vec<u8>, text: &[u8]) -> Result<(), AllocError>
-    ensures { OnOk result (out.new.items ≡ out.old.items ++ spec.cut_text text.now) }
-{
-    if text.len() > 10 {
-        push_text(out, &text[..9])?;
-        out.extend_from_slice(b"&#8230;")
-    } else {
-        push_text(out, text)
-    }
-}
-
-// Appends the front of a printed value.
-fn push_front(alloc: Global, out: &mut Vec<u8>, value: &Value) -> Result<(), AllocError>
-    ensures { OnOk result (out.new.items ≡ out.old.items ++ spec.value_cut value.now) }
-{
-    let mut text = Vec::new(alloc);
-    value.print(alloc, &mut text)?;
-    push_cut(out, text.as_slice())
-}
 
 // Appends how a version stands.
 fn push_state(out: &mut Vec<u8>, state: Option<bool>) -> Result<(), AllocError>
@@ -63,17 +24,7 @@ fn push_state(out: &mut Vec<u8>, state: Option<bool>) -> Result<(), AllocError>
     }
 }
 
-// Appends which older volume alone has a version.
-fn push_older(alloc: Global, out: &mut Vec<u8>, older: Option<u64>) -> Result<(), AllocError>
-    ensures { OnOk result (out.new.items ≡ out.old.items ++ spec.older_word older) }
-{
-    match older {
-        None => Ok(()),
-        Some(volume) => push_named(alloc, out, b", only in volume ", volume),
-    }
-}
-
-// Appends the class of such a version.
+// Appends the class of a version that an older volume alone has.
 fn push_older_class(out: &mut Vec<u8>, older: Option<u64>) -> Result<(), AllocError>
     ensures { OnOk result (out.new.items ≡ out.old.items ++ spec.older_class older) }
 {
@@ -83,183 +34,246 @@ fn push_older_class(out: &mut Vec<u8>, older: Option<u64>) -> Result<(), AllocEr
     }
 }
 
-// How wide the bar of a version is.
+// How many columns the bar of a version has.
 fn bar_to(axis: &BTreeSet<Stamp>, from: u64, end: &Option<PseudoTime>) -> u64
-    requires { from ≤ 1000000 }
     ensures { result ≡ spec.bar_to axis.now.keys from end.now }
 {
     match end {
-        None => 30,
+        None => 1,
         Some(end) => {
             let to = column(axis, end.stamp());
-            if from < to { 64 * (to - from) - 4 } else { 30 }
+            if from < to { to - from } else { 1 }
         }
     }
 }
 
-// Appends how far a version was read.
-fn push_end(alloc: Global, out: &mut Vec<u8>, end: &Option<PseudoTime>) -> Result<(), AllocError>
-    ensures { OnOk result (out.new.items ≡ out.old.items ++ spec.end_word end.now) }
+// Appends where a bar begins, and how many columns it has.
+fn push_place(alloc: Global, out: &mut Vec<u8>, from: u64, columns: u64) -> Result<(), AllocError>
+    ensures { OnOk result (out.new.items ≡ out.old.items ++ spec.place_text from columns) }
 {
-    match end {
-        None => out.extend_from_slice(b" read to none"),
-        Some(end) => {
-            out.extend_from_slice(b" read to ")?;
-            push_time(alloc, out, *end)
-        }
-    }
+    push_parts(
+        alloc,
+        out,
+        &[
+            Part::Words(b"\" style=\"--a:"),
+            Part::Number(from),
+            Part::Words(b";--w:"),
+            Part::Number(columns),
+            Part::Words(b"\">"),
+        ],
+    )
 }
 
-// Appends the whole of a version.
-fn push_title(alloc: Global, out: &mut Vec<u8>, version: &VersionRow) -> Result<(), AllocError>
-    ensures { OnOk result (out.new.items ≡ out.old.items ++ spec.title_text version.now) }
-{
-    out.extend_from_slice(b"<title>")?;
-    push_time(alloc, out, version.start)?;
-    push_end(alloc, out, &version.end)?;
-    out.extend_from_slice(b", ")?;
-    push_state(out, version.state)?;
-    push_older(alloc, out, version.older)?;
-    out.extend_from_slice(b": ")?;
-    push_value(alloc, out, &version.value)?;
-    out.extend_from_slice(b"</title>")
-}
-
-// Appends a bar.
-fn push_rect(alloc: Global, out: &mut Vec<u8>, x: u64, width: u64) -> Result<(), AllocError>
-    ensures { OnOk result (out.new.items ≡ out.old.items ++ spec.rect_text x width) }
-{
-    push_named(alloc, out, b"<rect x=\"", x)?;
-    push_named(alloc, out, b"\" y=\"18\" width=\"", width)?;
-    out.extend_from_slice(b"\" height=\"12\" rx=\"3\"/>")
-}
-
-// Crosses an aborted version out.
-fn push_cross(
+// Appends where the bar of a version begins, and how many columns it has.
+fn push_version_place(
     alloc: Global,
     out: &mut Vec<u8>,
-    state: Option<bool>,
-    x: u64,
+    axis: &BTreeSet<Stamp>,
+    version: &VersionRow,
 ) -> Result<(), AllocError>
-    ensures { OnOk result (out.new.items ≡ out.old.items ++ spec.cross_text state x) }
+    ensures { OnOk result (out.new.items ≡ out.old.items ++ spec.version_place axis.now.keys version.now) }
 {
-    match state {
-        None => Ok(()),
-        Some(true) => Ok(()),
-        Some(false) => {
-            push_named(alloc, out, b"<path d=\"M", x)?;
-            out.extend_from_slice(b" 15l18 18m0-18l-18 18\"/>")
-        }
-    }
+    let from = column(axis, version.start.stamp());
+    push_place(alloc, out, from, bar_to(axis, from, &version.end))
 }
 
-// Appends the value over a bar.
-fn push_label(alloc: Global, out: &mut Vec<u8>, x: u64, value: &Value) -> Result<(), AllocError>
-    ensures { OnOk result (out.new.items ≡ out.old.items ++ spec.label_text x value.now) }
-{
-    push_named(alloc, out, b"<text x=\"", x)?;
-    out.extend_from_slice(b"\" y=\"13\">")?;
-    push_front(alloc, out, value)?;
-    out.extend_from_slice(b"</text>")
-}
-
-// Appends the bar of a version that begins in this column.
+// Appends the bar of a version.
 fn push_bar(
     alloc: Global,
     out: &mut Vec<u8>,
     axis: &BTreeSet<Stamp>,
     version: &VersionRow,
-    from: u64,
 ) -> Result<(), AllocError>
-    requires { from ≤ 1000000 }
-    ensures { OnOk result (out.new.items ≡ out.old.items ++ spec.bar_text axis.now.keys version.now from) }
+    ensures { OnOk result (out.new.items ≡ out.old.items ++ spec.bar_text axis.now.keys version.now) }
 {
-    let x = 64 * from + 30;
-    push_rect(alloc, out, x, bar_to(axis, from, &version.end))?;
-    push_cross(alloc, out, version.state, x)?;
-    push_label(alloc, out, x, &version.value)
-}
-
-// Appends a version, which leads to its attempt.
-fn push_version(
-    alloc: Global,
-    out: &mut Vec<u8>,
-    axis: &BTreeSet<Stamp>,
-    version: &VersionRow,
-) -> Result<(), AllocError>
-    ensures { OnOk result (out.new.items ≡ out.old.items ++ spec.version_text axis.now.keys version.now) }
-{
-    out.extend_from_slice(b"<a href=\"#t")?;
-    push_stamp(alloc, out, version.start.stamp())?;
-    out.extend_from_slice(b"\"><g class=\"")?;
+    out.extend_from_slice(b"<i class=\"")?;
     push_state(out, version.state)?;
     push_older_class(out, version.older)?;
-    out.extend_from_slice(b"\">")?;
-    push_title(alloc, out, version)?;
-    push_bar(
-        alloc,
-        out,
-        axis,
-        version,
-        column(axis, version.start.stamp()),
-    )?;
-    out.extend_from_slice(b"</g></a>\n")
+    push_version_place(alloc, out, axis, version)?;
+    push_value_cut(alloc, out, 20, &version.value)?;
+    out.extend_from_slice(b"</i>\n")
 }
 
-// Appends versions, in order.
-fn push_versions(
+// Appends the bars of versions.
+fn push_versions_bars(
     alloc: Global,
     out: &mut Vec<u8>,
     axis: &BTreeSet<Stamp>,
     versions: &[VersionRow],
 ) -> Result<(), AllocError>
-    ensures { OnOk result (out.new.items ≡ out.old.items ++ flat_map (spec.version_text axis.now.keys) versions.now) }
+    ensures { OnOk result (out.new.items ≡ out.old.items ++ flat_map (spec.bar_text axis.now.keys) versions.now) }
 {
     for version in versions {
-        push_version(alloc, out, axis, version)?;
+        push_bar(alloc, out, axis, version)?;
     }
     Ok(())
 }
 
 // Appends how far an origin was read.
-fn push_origin(
+fn push_origin_bar(
     alloc: Global,
     out: &mut Vec<u8>,
     axis: &BTreeSet<Stamp>,
     end: &Option<PseudoTime>,
 ) -> Result<(), AllocError>
-    ensures { OnOk result (out.new.items ≡ out.old.items ++ spec.origin_text axis.now.keys end.now) }
+    ensures { OnOk result (out.new.items ≡ out.old.items ++ spec.origin_bar axis.now.keys end.now) }
 {
     match end {
         None => Ok(()),
-        Some(end) => {
-            out.extend_from_slice(b"<g class=\"origin\"><title>origin, read to ")?;
-            push_time(alloc, out, *end)?;
-            out.extend_from_slice(b"</title>")?;
-            push_rect(alloc, out, 0, 64 * column(axis, end.stamp()) + 26)?;
-            out.extend_from_slice(b"</g>\n")
-        }
+        Some(end) => push_parts(
+            alloc,
+            out,
+            &[
+                Part::Words(b"<i class=\"origin\" style=\"--w:"),
+                Part::Number(column(axis, end.stamp())),
+                Part::Words(b"\"></i>\n"),
+            ],
+        ),
     }
 }
 
 // Appends a floor.
-fn push_floor(
+fn push_floor_line(
     alloc: Global,
     out: &mut Vec<u8>,
     axis: &BTreeSet<Stamp>,
     floor: &Option<PseudoTime>,
 ) -> Result<(), AllocError>
-    ensures { OnOk result (out.new.items ≡ out.old.items ++ spec.floor_text axis.now.keys floor.now) }
+    ensures { OnOk result (out.new.items ≡ out.old.items ++ spec.floor_line axis.now.keys floor.now) }
 {
     match floor {
         None => Ok(()),
-        Some(floor) => {
-            let x = 64 * column(axis, floor.stamp()) + 28;
-            push_named(alloc, out, b"<path class=\"floor\" d=\"M", x)?;
-            out.extend_from_slice(b" 0v40\"><title>floor ")?;
-            push_time(alloc, out, *floor)?;
-            out.extend_from_slice(b"</title></path>\n")
-        }
+        Some(floor) => push_parts(
+            alloc,
+            out,
+            &[
+                Part::Words(b"<i class=\"floor\" style=\"--a:"),
+                Part::Number(column(axis, floor.stamp())),
+                Part::Words(b"\"></i>\n"),
+            ],
+        ),
+    }
+}
+
+// Appends the bars of an object.
+fn push_bars(
+    alloc: Global,
+    out: &mut Vec<u8>,
+    axis: &BTreeSet<Stamp>,
+    row: &ObjectRow,
+) -> Result<(), AllocError>
+    ensures { OnOk result (out.new.items ≡ out.old.items ++ spec.bars_text axis.now.keys row.now) }
+{
+    push_origin_bar(alloc, out, axis, &row.origin)?;
+    push_floor_line(alloc, out, axis, &row.floor)?;
+    push_versions_bars(alloc, out, axis, row.versions.as_slice())
+}
+
+// Appends which older volume alone has a version.
+fn push_older(alloc: Global, out: &mut Vec<u8>, older: Option<u64>) -> Result<(), AllocError>
+    ensures { OnOk result (out.new.items ≡ out.old.items ++ spec.older_word older) }
+{
+    match older {
+        None => Ok(()),
+        Some(volume) => push_parts(
+            alloc,
+            out,
+            &[Part::Words(b", only in volume "), Part::Number(volume)],
+        ),
+    }
+}
+
+// Appends the state of a version, and its value.
+fn push_version_end(
+    alloc: Global,
+    out: &mut Vec<u8>,
+    version: &VersionRow,
+) -> Result<(), AllocError>
+    ensures { OnOk result (out.new.items ≡ out.old.items ++ spec.version_end version.now) }
+{
+    push_state(out, version.state)?;
+    push_older(alloc, out, version.older)?;
+    push_parts(
+        alloc,
+        out,
+        &[
+            Part::Words(b"</td><td>"),
+            Part::Printed(&version.value),
+            Part::Words(b"</td></tr>\n"),
+        ],
+    )
+}
+
+// Appends the whole of a version, whose start leads to its attempt.
+fn push_version(
+    alloc: Global,
+    out: &mut Vec<u8>,
+    shown: &Shown,
+    version: &VersionRow,
+) -> Result<(), AllocError>
+    ensures { OnOk result (out.new.items ≡ out.old.items ++ spec.version_text (parts_of shown.now) version.now) }
+{
+    out.extend_from_slice(b"<tr><td>")?;
+    push_time_ref(alloc, out, shown, version.start)?;
+    out.extend_from_slice(b"</td><td>")?;
+    push_time_or_none(alloc, out, &version.end)?;
+    out.extend_from_slice(b"</td><td>")?;
+    push_version_end(alloc, out, version)
+}
+
+// Appends versions, in order.
+fn push_each_version(
+    alloc: Global,
+    out: &mut Vec<u8>,
+    shown: &Shown,
+    versions: &[VersionRow],
+) -> Result<(), AllocError>
+    ensures { OnOk result (out.new.items ≡ out.old.items ++
+        flat_map (spec.version_text (parts_of shown.now)) versions.now) }
+{
+    for version in versions {
+        push_version(alloc, out, shown, version)?;
+    }
+    Ok(())
+}
+
+// Appends the row of an origin that was read.
+fn push_origin(alloc: Global, out: &mut Vec<u8>, end: &Option<PseudoTime>) -> Result<(), AllocError>
+    ensures { OnOk result (out.new.items ≡ out.old.items ++ spec.origin_text end.now) }
+{
+    match end {
+        None => Ok(()),
+        Some(end) => push_parts(
+            alloc,
+            out,
+            &[
+                Part::Words(b"<tr><td>origin</td><td>"),
+                Part::Time(*end),
+                Part::Words(b"</td><td></td><td>what was there at first</td></tr>\n"),
+            ],
+        ),
+    }
+}
+
+// Appends a floor in words.
+fn push_floor(
+    alloc: Global,
+    out: &mut Vec<u8>,
+    floor: &Option<PseudoTime>,
+) -> Result<(), AllocError>
+    ensures { OnOk result (out.new.items ≡ out.old.items ++ spec.floor_text floor.now) }
+{
+    match floor {
+        None => Ok(()),
+        Some(floor) => push_parts(
+            alloc,
+            out,
+            &[
+                Part::Words(b"<p>floor "),
+                Part::Time(*floor),
+                Part::Words(b"</p>\n"),
+            ],
+        ),
     }
 }
 
@@ -270,124 +284,271 @@ fn push_hidden(alloc: Global, out: &mut Vec<u8>, hidden: u64) -> Result<(), Allo
     if hidden == 0 {
         return Ok(());
     }
-    push_named(alloc, out, b"<p class=\"more\">and ", hidden)?;
-    out.extend_from_slice(b" more versions</p>\n")
+    push_parts(
+        alloc,
+        out,
+        &[
+            Part::Words(b"<p>versions, "),
+            Part::Number(hidden),
+            Part::Words(b" more: choose with --object, --from and --to</p>\n"),
+        ],
+    )
 }
 
-// Appends the name of a row.
-fn push_row_head(alloc: Global, out: &mut Vec<u8>, row: &ObjectRow) -> Result<(), AllocError>
-    ensures { OnOk result (out.new.items ≡ out.old.items ++ spec.row_head row.now) }
-{
-    out.extend_from_slice(b"<div class=\"row\" id=\"o")?;
-    push_object(alloc, out, row.object)?;
-    out.extend_from_slice(b"\"><b>")?;
-    push_object(alloc, out, row.object)?;
-    out.extend_from_slice(b"</b>")
-}
-
-// Begins the picture of a row.
-fn push_svg(alloc: Global, out: &mut Vec<u8>, axis: &BTreeSet<Stamp>) -> Result<(), AllocError>
-    ensures { OnOk result (out.new.items ≡ out.old.items ++ spec.svg_head axis.now.keys) }
-{
-    push_named(alloc, out, b"<svg width=\"", width_of(axis))?;
-    out.extend_from_slice(b"\" height=\"40\">\n")
-}
-
-// Appends what stands in the picture of a row.
-fn push_row_body(
+// Appends the versions of an object.
+fn push_versions(
     alloc: Global,
     out: &mut Vec<u8>,
-    axis: &BTreeSet<Stamp>,
+    shown: &Shown,
     row: &ObjectRow,
 ) -> Result<(), AllocError>
-    ensures { OnOk result (out.new.items ≡ out.old.items ++ spec.row_body axis.now.keys row.now) }
+    ensures { OnOk result (out.new.items ≡ out.old.items ++ spec.versions_text (parts_of shown.now) row.now) }
 {
-    push_origin(alloc, out, axis, &row.origin)?;
-    push_floor(alloc, out, axis, &row.floor)?;
-    push_versions(alloc, out, axis, row.versions.as_slice())
-}
-
-// Appends a row.
-fn push_row(
-    alloc: Global,
-    out: &mut Vec<u8>,
-    axis: &BTreeSet<Stamp>,
-    row: &ObjectRow,
-) -> Result<(), AllocError>
-    ensures { OnOk result (out.new.items ≡ out.old.items ++ spec.row_text axis.now.keys row.now) }
-{
-    push_row_head(alloc, out, row)?;
-    push_svg(alloc, out, axis)?;
-    push_row_body(alloc, out, axis, row)?;
-    out.extend_from_slice(b"</svg></div>\n")?;
+    out.extend_from_slice(
+        b"<table><thead><tr><th scope=\"col\">version</th><th scope=\"col\">read up to</th>\
+          <th scope=\"col\">state</th><th scope=\"col\">value</th></tr></thead><tbody>\n",
+    )?;
+    push_origin(alloc, out, &row.origin)?;
+    push_each_version(alloc, out, shown, row.versions.as_slice())?;
+    out.extend_from_slice(b"</tbody></table>\n")?;
+    push_floor(alloc, out, &row.floor)?;
     push_hidden(alloc, out, row.hidden)
 }
 
-// Appends a stamp of the axis.
+// Appends the head of a row.
+fn push_row_head(alloc: Global, out: &mut Vec<u8>, row: &ObjectRow) -> Result<(), AllocError>
+    ensures { OnOk result (out.new.items ≡ out.old.items ++ spec.row_head row.now) }
+{
+    push_parts(
+        alloc,
+        out,
+        &[
+            Part::Words(b"<details class=\"row\" id=\"o"),
+            Part::Object(row.object),
+            Part::Words(b"\"><summary><b>"),
+            Part::Object(row.object),
+            Part::Words(b"</b><span class=\"bars\">\n"),
+        ],
+    )
+}
+
+// Appends an object: its bars, and its versions folded away.
+fn push_row(
+    alloc: Global,
+    out: &mut Vec<u8>,
+    shown: &Shown,
+    axis: &BTreeSet<Stamp>,
+    row: &ObjectRow,
+) -> Result<(), AllocError>
+    ensures { OnOk result (out.new.items ≡ out.old.items ++ spec.row_text (parts_of shown.now) axis.now.keys row.now) }
+{
+    push_row_head(alloc, out, row)?;
+    push_bars(alloc, out, axis, row)?;
+    out.extend_from_slice(b"</span></summary>\n")?;
+    push_versions(alloc, out, shown, row)?;
+    out.extend_from_slice(b"</details>\n")
+}
+
+// Whether the stamp in this column has its name: of many each so manieth.
+fn is_named(axis: &BTreeSet<Stamp>, at: u64) -> bool
+    ensures { result ≡ spec.is_named (spec.every_of axis.now.keys) at }
+{
+    let every = axis.len() as u64 / 8 + 1;
+    at % every == 0
+}
+
+// Appends the name of the stamp in this column.
+fn push_named(
+    alloc: Global,
+    out: &mut Vec<u8>,
+    shown: &Shown,
+    at: u64,
+    stamp: Stamp,
+) -> Result<(), AllocError>
+    ensures { OnOk result (out.new.items ≡ out.old.items ++ spec.named_mark (parts_of shown.now) at stamp) }
+{
+    push_parts(
+        alloc,
+        out,
+        &[
+            Part::Words(b"<i style=\"--a:"),
+            Part::Number(at),
+            Part::Words(b"\">"),
+        ],
+    )?;
+    push_stamp_ref(alloc, out, shown, stamp)?;
+    out.extend_from_slice(b"</i>\n")
+}
+
+// Appends a stamp of the axis, if it has its name.
 fn push_mark(
     alloc: Global,
     out: &mut Vec<u8>,
+    shown: &Shown,
     axis: &BTreeSet<Stamp>,
     stamp: Stamp,
 ) -> Result<(), AllocError>
-    ensures { OnOk result (out.new.items ≡ out.old.items ++ spec.mark_text axis.now.keys stamp) }
+    ensures { OnOk result (out.new.items ≡ out.old.items ++
+        spec.mark_text (parts_of shown.now) axis.now.keys (spec.every_of axis.now.keys) stamp) }
 {
-    out.extend_from_slice(b"<a id=\"s")?;
-    push_stamp(alloc, out, stamp)?;
-    out.extend_from_slice(b"\" href=\"#t")?;
-    push_stamp(alloc, out, stamp)?;
-    push_named(alloc, out, b"\"><text x=\"", 64 * column(axis, stamp) + 30)?;
-    out.extend_from_slice(b"\" y=\"16\">")?;
-    push_stamp(alloc, out, stamp)?;
-    out.extend_from_slice(b"</text></a>\n")
+    let at = column(axis, stamp);
+    if is_named(axis, at) {
+        push_named(alloc, out, shown, at, stamp)
+    } else {
+        Ok(())
+    }
 }
 
 // Appends the stamps of the axis.
-fn push_marks(alloc: Global, out: &mut Vec<u8>, axis: &BTreeSet<Stamp>) -> Result<(), AllocError>
-    ensures { OnOk result (out.new.items ≡ out.old.items ++ flat_map (spec.mark_text axis.now.keys) axis.now.keys) }
+fn push_marks(
+    alloc: Global,
+    out: &mut Vec<u8>,
+    shown: &Shown,
+    axis: &BTreeSet<Stamp>,
+) -> Result<(), AllocError>
+    ensures { OnOk result (out.new.items ≡ out.old.items ++
+        flat_map (spec.mark_text (parts_of shown.now) axis.now.keys (spec.every_of axis.now.keys)) axis.now.keys) }
 {
     for stamp in axis {
-        push_mark(alloc, out, axis, *stamp)?;
+        push_mark(alloc, out, shown, axis, *stamp)?;
     }
     Ok(())
 }
 
 // Appends the axis.
-fn push_axis(alloc: Global, out: &mut Vec<u8>, axis: &BTreeSet<Stamp>) -> Result<(), AllocError>
-    ensures { OnOk result (out.new.items ≡ out.old.items ++ spec.axis_text axis.now.keys) }
+fn push_axis(
+    alloc: Global,
+    out: &mut Vec<u8>,
+    shown: &Shown,
+    axis: &BTreeSet<Stamp>,
+) -> Result<(), AllocError>
+    ensures { OnOk result (out.new.items ≡ out.old.items ++ spec.axis_text (parts_of shown.now) axis.now.keys) }
 {
-    out.extend_from_slice(b"<div class=\"row axis\"><b></b>")?;
-    push_svg(alloc, out, axis)?;
-    push_marks(alloc, out, axis)?;
-    out.extend_from_slice(b"</svg></div>\n")
+    out.extend_from_slice(b"<div class=\"axis\"><b></b><span class=\"bars\">\n")?;
+    push_marks(alloc, out, shown, axis)?;
+    out.extend_from_slice(b"</span></div>\n")
 }
 
 // Appends a row for each object.
 fn push_each(
     alloc: Global,
     out: &mut Vec<u8>,
+    shown: &Shown,
     axis: &BTreeSet<Stamp>,
     rows: &[ObjectRow],
 ) -> Result<(), AllocError>
-    ensures { OnOk result (out.new.items ≡ out.old.items ++ flat_map (spec.row_text axis.now.keys) rows.now) }
+    ensures { OnOk result (out.new.items ≡ out.old.items ++
+        flat_map (spec.row_text (parts_of shown.now) axis.now.keys) rows.now) }
 {
     for row in rows {
-        push_row(alloc, out, axis, row)?;
+        push_row(alloc, out, shown, axis, row)?;
     }
     Ok(())
 }
 
-/// Appends the axis, and a row for each object.
-pub fn push_rows(
+// Begins the picture.
+fn push_rows_head(
     alloc: Global,
     out: &mut Vec<u8>,
     axis: &BTreeSet<Stamp>,
+) -> Result<(), AllocError>
+    ensures { OnOk result (out.new.items ≡ out.old.items ++ spec.rows_head axis.now.keys) }
+{
+    push_parts(
+        alloc,
+        out,
+        &[
+            Part::Words(b"<div class=\"histories\" style=\"--n:"),
+            Part::Number(axis.len() as u64),
+            Part::Words(b"\">\n"),
+        ],
+    )
+}
+
+// Appends the axis, and a row for each object.
+fn push_rows(
+    alloc: Global,
+    out: &mut Vec<u8>,
+    shown: &Shown,
+    axis: &BTreeSet<Stamp>,
     rows: &[ObjectRow],
 ) -> Result<(), AllocError>
-    ensures { OnOk result (out.new.items ≡ out.old.items ++ spec.rows_text axis.now.keys rows.now) }
+    ensures { OnOk result (out.new.items ≡ out.old.items ++ spec.rows_text (parts_of shown.now) axis.now.keys rows.now) }
 {
-    out.extend_from_slice(b"<div class=\"histories\">\n")?;
-    push_axis(alloc, out, axis)?;
-    push_each(alloc, out, axis, rows)?;
+    push_rows_head(alloc, out, axis)?;
+    push_axis(alloc, out, shown, axis)?;
+    push_each(alloc, out, shown, axis, rows)?;
     out.extend_from_slice(b"</div>\n")
+}
+
+// Appends objects, folded away.
+fn push_folded(
+    alloc: Global,
+    out: &mut Vec<u8>,
+    shown: &Shown,
+    axis: &BTreeSet<Stamp>,
+    rows: &[ObjectRow],
+) -> Result<(), AllocError>
+    ensures { OnOk result (out.new.items ≡ out.old.items ++ spec.folded_rows (parts_of shown.now) axis.now.keys rows.now) }
+{
+    push_fold(alloc, out, rows.len() as u64)?;
+    push_rows(alloc, out, shown, axis, rows)?;
+    out.extend_from_slice(b"</details>\n")
+}
+
+// Appends objects folded away, if there are any.
+fn push_more(
+    alloc: Global,
+    out: &mut Vec<u8>,
+    shown: &Shown,
+    axis: &BTreeSet<Stamp>,
+    rows: &[ObjectRow],
+) -> Result<(), AllocError>
+    ensures { OnOk result (out.new.items ≡ out.old.items ++ spec.more_rows (parts_of shown.now) axis.now.keys rows.now) }
+{
+    if rows.len() == 0 {
+        Ok(())
+    } else {
+        push_folded(alloc, out, shown, axis, rows)
+    }
+}
+
+// Appends the first 20 objects.
+fn push_front(
+    alloc: Global,
+    out: &mut Vec<u8>,
+    shown: &Shown,
+    axis: &BTreeSet<Stamp>,
+    rows: &[ObjectRow],
+) -> Result<(), AllocError>
+    ensures { OnOk result (out.new.items ≡ out.old.items ++ spec.rows_text (parts_of shown.now) axis.now.keys (take 20 rows.now)) }
+{
+    push_rows(alloc, out, shown, axis, &rows[..rows.len().min(20)])
+}
+
+// Appends those that the first 20 leave.
+fn push_back(
+    alloc: Global,
+    out: &mut Vec<u8>,
+    shown: &Shown,
+    axis: &BTreeSet<Stamp>,
+    rows: &[ObjectRow],
+) -> Result<(), AllocError>
+    ensures { OnOk result (out.new.items ≡ out.old.items ++ spec.more_rows (parts_of shown.now) axis.now.keys (drop 20 rows.now)) }
+{
+    push_more(alloc, out, shown, axis, &rows[20usize.min(rows.len())..])
+}
+
+/// Appends all objects; those after the first 20 are folded away.
+pub fn push_all_rows(
+    alloc: Global,
+    out: &mut Vec<u8>,
+    shown: &Shown,
+    axis: &BTreeSet<Stamp>,
+    rows: &[ObjectRow],
+) -> Result<(), AllocError>
+    ensures { OnOk result (out.new.items ≡ out.old.items ++ spec.all_rows (parts_of shown.now) axis.now.keys rows.now) }
+{
+    push_front(alloc, out, shown, axis, rows)?;
+    push_back(alloc, out, shown, axis, rows)
 }

@@ -19,7 +19,7 @@ ghost use Rattle.folder_look.specs.Rows.{object_row, rows_of};
 
 /// A law: whatever the logs hold, each tag of the page is one of the frame's, and is closed.
 pub fn page_has_the_frame()
-    ensures { (c : Choice) (media : List MediumLook) → HasTagsOf frame_tags (folder_page c media) }
+    ensures { (name : List ℕ) (c : Choice) (media : List MediumLook) → HasTagsOf frame_tags (folder_page name c media) }
 {}
 
 /// A law: the versions of an object in a log, which a row shows in turn, are as many as the log's Puts of

@@ -28,6 +28,12 @@ pub struct ObjectRow {
     pub versions: Items<VersionRow>,
     /// How many more versions it has that would be shown.
     pub hidden: u64,
+    /// How many versions it has together.
+    pub count: u64,
+    /// How many of them are undecided.
+    pub undecided: u64,
+    /// The last one that is committed, if the current volume has one.
+    pub last: Option<VersionRow>,
 }
 
 /// Whether a medium could be read.

@@ -1,4 +1,4 @@
-//! The objects that logs name, and those that a page shows.
+//! The objects of a folder.
 ghost use Rattle.std.specs.Prelude.{◌≡◌, [], IfOk, OnOk, length};
 ghost use Rattle.std.specs.List.{filter};
 ghost use Rattle.folder_look.specs.Choices.{has_object};
@@ -7,6 +7,7 @@ ghost use Rattle.folder_look.specs.Objects as spec;
 use crate::choices::Choice;
 use crate::looks::{MediumLook, ObjectRow};
 use crate::rows::object_row;
+use crate::volumes::is_log;
 use effect_form::Effect;
 use std::alloc::{AllocError, Global};
 use std::collections::BTreeSet;
@@ -45,7 +46,9 @@ fn objects_of(alloc: Global, media: &[MediumLook]) -> Result<BTreeSet<ObjectId>,
 {
     let mut all = BTreeSet::new(alloc);
     for medium in media {
-        add_objects(&mut all, medium.log.as_slice())?;
+        if is_log(medium) {
+            add_objects(&mut all, medium.log.as_slice())?;
+        }
     }
     Ok(all)
 }

@@ -1,5 +1,5 @@
-//! The rows of the page: one for each object.
-ghost use Rattle.std.specs.Prelude.{◌≡◌, ◌++◌, ℕ, List, IfOk, OnOk, map, reverse};
+//! What is shown of an object, by the volumes of its repository.
+ghost use Rattle.std.specs.Prelude.{◌≡◌, ◌++◌, ℕ, List, IfOk, OnOk, None, map, reverse};
 ghost use Rattle.std.specs.BTreeSet.{contains};
 ghost use Rattle.std.specs.List.{filter, list_any};
 ghost use Rattle.pseudo_time.specs.Order.{same_time};
@@ -172,6 +172,99 @@ fn push_given_up(
     Ok(())
 }
 
+// An equal version.
+fn copy_of(alloc: Global, version: &VersionRow) -> Result<VersionRow, AllocError>
+    ensures { IfOk result (λ row. row ≡ version.now) }
+{
+    let value = version.value.copy(alloc)?;
+    Ok(VersionRow {
+        start: version.start,
+        end: version.end,
+        state: version.state,
+        value,
+        older: version.older,
+    })
+}
+
+// Whether it is committed, and in the current volume.
+fn is_current(state: Option<bool>, older: Option<u64>) -> bool
+    ensures { result ≡ spec.is_current state older }
+{
+    match (state, older) {
+        (Some(true), None) => true,
+        (Some(true), Some(_)) => false,
+        (Some(false), _) => false,
+        (None, _) => false,
+    }
+}
+
+// The last that is committed in the current volume.
+fn last_of(alloc: Global, versions: &[VersionRow]) -> Result<Option<VersionRow>, AllocError>
+    ensures { IfOk result (λ last. last ≡ spec.last_from None versions.now) }
+{
+    let mut last = None;
+    for version in versions {
+        if is_current(version.state, version.older) {
+            last = Some(version);
+        }
+    }
+    match last {
+        None => Ok(None),
+        Some(version) => Ok(Some(copy_of(alloc, version)?)),
+    }
+}
+
+// Whether a version is undecided.
+fn is_open(state: Option<bool>) -> bool
+    ensures { result ≡ spec.is_open state }
+{
+    match state {
+        None => true,
+        Some(_) => false,
+    }
+}
+
+// How many versions are undecided.
+fn open_in(versions: &[VersionRow]) -> u64
+    ensures { result ≡ spec.open_from 0 versions.now }
+{
+    let mut count = 0u64;
+    for version in versions {
+        if is_open(version.state) {
+            count = count.saturating_add(1);
+        }
+    }
+    count
+}
+
+// The row of an object with these versions.
+fn whole_row(
+    alloc: Global,
+    most: usize,
+    object: ObjectId,
+    origin: Option<PseudoTime>,
+    floor: Option<PseudoTime>,
+    mut rows: Vec<VersionRow>,
+) -> Result<ObjectRow, AllocError>
+    ensures { IfOk result (λ row. row ≡ spec.whole_row most object origin floor rows.items) }
+{
+    let count = rows.len() as u64;
+    let undecided = open_in(rows.as_slice());
+    let last = last_of(alloc, rows.as_slice())?;
+    let hidden = rows.len().saturating_sub(most) as u64;
+    rows.truncate(most);
+    Ok(ObjectRow {
+        object,
+        origin,
+        floor,
+        versions: Items::of(rows),
+        hidden,
+        count,
+        undecided,
+        last,
+    })
+}
+
 /// An object with those of its versions that are chosen, the first `most` of them, by what the volumes
 /// of its repository hold.
 pub fn object_row(
@@ -202,13 +295,6 @@ pub fn object_row(
         telling.versions.as_slice(),
         &mut rows,
     )?;
-    let hidden = rows.len().saturating_sub(most) as u64;
-    rows.truncate(most);
-    Ok(ObjectRow {
-        object,
-        origin,
-        floor,
-        versions: Items::of(rows),
-        hidden,
-    })
+    let row = whole_row(alloc, most, object, origin, floor, rows)?;
+    Ok(row)
 }

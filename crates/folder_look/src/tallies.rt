@@ -13,11 +13,8 @@ pub struct Tally {
     pub acts: u64,
     pub tries: u64,
     pub committed: u64,
-    pub withdrawn: u64,
-    pub failed: u64,
-    pub refused: u64,
-    pub expired: u64,
-    pub spent: u64,
+    /// Attempts that ended otherwise, and acts that are spent.
+    pub others: u64,
     /// The greatest clock of an attempt.
     pub clock: u64,
 }
@@ -29,12 +26,12 @@ fn ended(outcome: Outcome, tally: Tally) -> Tally
     let mut tally = tally;
     match outcome {
         Outcome::Committed => tally.committed = tally.committed.saturating_add(1),
-        Outcome::Withdrawn { .. } => tally.withdrawn = tally.withdrawn.saturating_add(1),
-        Outcome::Failed { .. } => tally.failed = tally.failed.saturating_add(1),
-        Outcome::LaterRead { .. } => tally.refused = tally.refused.saturating_add(1),
-        Outcome::LaterVersion { .. } => tally.refused = tally.refused.saturating_add(1),
-        Outcome::Expired { .. } => tally.expired = tally.expired.saturating_add(1),
-        Outcome::Spent { .. } => tally.spent = tally.spent.saturating_add(1),
+        Outcome::Withdrawn { .. } => tally.others = tally.others.saturating_add(1),
+        Outcome::Failed { .. } => tally.others = tally.others.saturating_add(1),
+        Outcome::LaterRead { .. } => tally.others = tally.others.saturating_add(1),
+        Outcome::LaterVersion { .. } => tally.others = tally.others.saturating_add(1),
+        Outcome::Expired { .. } => tally.others = tally.others.saturating_add(1),
+        Outcome::Spent { .. } => tally.others = tally.others.saturating_add(1),
     }
     tally
 }
@@ -77,11 +74,7 @@ pub fn tally_of(media: &[MediumLook]) -> Tally
         acts: 0,
         tries: 0,
         committed: 0,
-        withdrawn: 0,
-        failed: 0,
-        refused: 0,
-        expired: 0,
-        spent: 0,
+        others: 0,
         clock: 0,
     };
     for medium in media {

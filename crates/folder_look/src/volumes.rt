@@ -8,8 +8,8 @@ use effect_form::Effect;
 use forward_copy::has_whole;
 use pseudo_time::NodeKind;
 
-// Whether a node is a repository.
-fn is_repository(kind: NodeKind) -> bool
+/// Whether a node is a repository.
+pub fn is_repository(kind: NodeKind) -> bool
     ensures { result ≡ spec.is_repository kind }
 {
     match kind {
@@ -18,11 +18,18 @@ fn is_repository(kind: NodeKind) -> bool
     }
 }
 
-// Whether it is a volume of the repository.
+/// Whether it is a volume of runs: those from 1000 on have totals and votes.
+pub fn is_log(medium: &MediumLook) -> bool
+    ensures { result ≡ spec.is_log medium.now }
+{
+    is_repository(medium.kind) && medium.volume < 1000
+}
+
+// Whether it is a volume of the repository, and neither totals nor votes.
 fn is_volume(repository: u8, medium: &MediumLook) -> bool
     ensures { result ≡ spec.is_volume repository medium.now }
 {
-    is_repository(medium.kind) && medium.number == repository
+    is_log(medium) && medium.number == repository
 }
 
 /// Whether it is a volume of the repository, and so many come before it, which aren't more than `last`.

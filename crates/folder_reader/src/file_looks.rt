@@ -1,4 +1,4 @@
-//! Reads the files of a folder without changing them.
+//! The files of a folder, opened for reading alone.
 ghost use Rattle.std.specs.Prelude.{◌≡◌, ◌≢◌, ◌≤◌, [], IfOk, IfSome};
 
 use crate::file_names::{name_of, path_of};
@@ -65,7 +65,11 @@ fn look_into(
     };
     match pages_of(&file) {
         None => Ok(shut(alloc, kind, number, volume)),
-        Some(pages) => look_at(alloc, kind, number, volume, ReadMedium::new(file, pages)),
+        Some(pages) => {
+            let medium = ReadMedium::new(file, pages);
+            let (look, _failed) = look_at(alloc, kind, number, volume, medium)?;
+            Ok(look)
+        }
     }
 }
 

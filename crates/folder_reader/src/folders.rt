@@ -1,4 +1,4 @@
-//! Reads a folder, node by node and volume by volume.
+//! The media of a folder.
 use crate::file_looks::{look_in, shut};
 use crate::lost_files::later_name;
 use folder_look::MediumLook;
@@ -10,8 +10,11 @@ use std::rt::Files;
 /// The greatest number of a node.
 const MOST_NODES: u8 = 16;
 
-/// The greatest number of a volume.
-const MOST_VOLUMES: u32 = 65_536;
+/// Volumes of runs have a number below this.
+const MOST_VOLUMES: u32 = 1000;
+
+/// The volumes of a repository that have its totals by `count`, `sum` and `last`, and its votes.
+const OTHER_VOLUMES: [u32; 4] = [1001, 1002, 1003, 1010];
 
 /// Why a folder wasn't read: memory runs out.
 #[derive(Clone, Copy)]
@@ -53,28 +56,58 @@ fn add_node(
     Ok(())
 }
 
-// Adds the nodes of a kind.
-fn add_kind(
+// Adds the totals and votes of a repository.
+fn add_others(
     alloc: Global,
     files: &impl Files<File = File>,
     folder: &str,
-    kind: NodeKind,
+    number: u8,
     media: &mut Vec<MediumLook>,
 ) -> Result<(), LookFault> {
-    for number in 1..=MOST_NODES {
-        add_node(alloc, files, folder, kind, number, media)?;
+    for volume in OTHER_VOLUMES {
+        if let Some(look) = look_in(alloc, files, folder, NodeKind::Repository, number, volume)? {
+            media.push(look)?;
+        }
     }
     Ok(())
 }
 
-/// What the media of a folder hold, the repositories first, each node's volumes in order.
+// Adds the repositories, each with its totals and votes after its volumes.
+fn add_repositories(
+    alloc: Global,
+    files: &impl Files<File = File>,
+    folder: &str,
+    media: &mut Vec<MediumLook>,
+) -> Result<(), LookFault> {
+    for number in 1..=MOST_NODES {
+        add_node(alloc, files, folder, NodeKind::Repository, number, media)?;
+        add_others(alloc, files, folder, number, media)?;
+    }
+    Ok(())
+}
+
+// Adds the brokers.
+fn add_brokers(
+    alloc: Global,
+    files: &impl Files<File = File>,
+    folder: &str,
+    media: &mut Vec<MediumLook>,
+) -> Result<(), LookFault> {
+    for number in 1..=MOST_NODES {
+        add_node(alloc, files, folder, NodeKind::Broker, number, media)?;
+    }
+    Ok(())
+}
+
+/// What the media of a folder hold, the repositories first, each node's volumes in order. A repository's
+/// totals and votes come after its volumes.
 pub fn media_of(
     alloc: Global,
     files: &impl Files<File = File>,
     folder: &str,
 ) -> Result<Vec<MediumLook>, LookFault> {
     let mut media = Vec::new(alloc);
-    add_kind(alloc, files, folder, NodeKind::Repository, &mut media)?;
-    add_kind(alloc, files, folder, NodeKind::Broker, &mut media)?;
+    add_repositories(alloc, files, folder, &mut media)?;
+    add_brokers(alloc, files, folder, &mut media)?;
     Ok(media)
 }

@@ -1,6 +1,8 @@
-//! Which pages of a medium have a gate, and which are spoiled.
+//! What a medium holds, read once.
 ghost use Rattle.std.specs.Prelude.{◌≡◌, ◌≢◌, ◌≤◌, ◌<◌, ◌+◌, ◌++◌, [], ◌∷◌, IsTrue, ℕ, Ok, Err, IfOk, IfErr, OnOk, false, if◌then◌else◌};
+ghost use Rattle.stream_port.specs.Causes.{Rose};
 ghost use Rattle.version_store.specs.Storage.{storage};
+ghost use Rattle.folder_reader.specs.Failures.{HasFailed};
 ghost use Rattle.folder_reader.specs.Strips.{gated_below, is_gated, is_spoiled, spoiled_below};
 
 use folder_look::{MediumLook, MediumState};
@@ -65,6 +67,8 @@ fn strip_of<M: Medium>(alloc: Global, medium: &mut M) -> Result<Strip, StripFaul
     ensures reads { IsTrue M.tells → M.reads medium.new ≡ M.reads medium.old }
     ensures size { M.page_count medium.new ≡ M.page_count medium.old }
     ensures state { IfOk result (λ _. M.is_failed medium.new ≡ false) }
+    ensures later { M.faults medium.old ≤ M.faults medium.new }
+    ensures failed { IfErr result (λ e. e ≡ StripFault.Medium → Rose (M.faults medium.old) (M.faults medium.new)) }
     ensures gated { IsTrue M.tells →
         IfOk result (λ strip. strip.gated ≡ gated_below (M.reads medium.old) (M.page_count medium.old)) }
     ensures spoiled { IsTrue M.tells →
@@ -84,27 +88,30 @@ fn strip_of<M: Medium>(alloc: Global, medium: &mut M) -> Result<Strip, StripFaul
     Ok(strip)
 }
 
-/// What a medium holds: how its pages stand, and its log. A damaged one is reported with its page.
+/// What a medium holds: how its pages stand, and its log. A damaged one is reported with its page. One
+/// that failed is given back, and its look says that it can't be read.
 pub fn look_at<M: Medium>(
     alloc: Global,
     kind: NodeKind,
     number: u8,
     volume: u32,
     mut medium: M,
-) -> Result<MediumLook, AllocError>
+) -> Result<(MediumLook, Option<M>), AllocError>
     requires open { M.is_failed medium ≡ false }
-    ensures pages { IfOk result (λ look. look.pages ≡ M.page_count medium) }
-    ensures whole { IsTrue M.tells → IfOk result (λ look. look.state ≡ MediumState.Whole →
-        storage (M.reads medium) ≡ Ok look.log) }
-    ensures damaged { IsTrue M.tells → IfOk result (λ look. (page : ℕ) → look.state ≡ MediumState.Damaged page →
+    // It can't be read only if a call of the medium failed.
+    ensures shut { IfOk result (λ r. r.0.state ≡ MediumState.Shut → HasFailed M.faults medium r.1) }
+    ensures pages { IfOk result (λ r. r.0.pages ≡ M.page_count medium) }
+    ensures whole { IsTrue M.tells → IfOk result (λ r. r.0.state ≡ MediumState.Whole →
+        storage (M.reads medium) ≡ Ok r.0.log) }
+    ensures damaged { IsTrue M.tells → IfOk result (λ r. (page : ℕ) → r.0.state ≡ MediumState.Damaged page →
         storage (M.reads medium) ≡ Err page) }
-    ensures no_log { IfOk result (λ look. look.state ≢ MediumState.Whole → look.log ≡ []) }
+    ensures no_log { IfOk result (λ r. r.0.state ≢ MediumState.Whole → r.0.log ≡ []) }
     // How its pages stand, where they were all read.
-    ensures gated { IsTrue M.tells → IfOk result (λ look. look.state ≢ MediumState.Shut →
-        look.gated ≡ gated_below (M.reads medium) (M.page_count medium)) }
-    ensures spoiled { IsTrue M.tells → IfOk result (λ look. look.state ≢ MediumState.Shut →
-        look.spoiled ≡ spoiled_below (M.reads medium) (M.page_count medium)) }
-    ensures name { IfOk result (λ look. (look.kind ≡ kind) × (look.number ≡ number) × (look.volume ≡ volume)) }
+    ensures gated { IsTrue M.tells → IfOk result (λ r. r.0.state ≢ MediumState.Shut →
+        r.0.gated ≡ gated_below (M.reads medium) (M.page_count medium)) }
+    ensures spoiled { IsTrue M.tells → IfOk result (λ r. r.0.state ≢ MediumState.Shut →
+        r.0.spoiled ≡ spoiled_below (M.reads medium) (M.page_count medium)) }
+    ensures name { IfOk result (λ r. (r.0.kind ≡ kind) × (r.0.number ≡ number) × (r.0.volume ≡ volume)) }
 {
     let pages = medium.pages();
     let mut seen = MediumLook {
@@ -118,7 +125,7 @@ pub fn look_at<M: Medium>(
         log: Items::of(Vec::new(alloc)),
     };
     match strip_of(alloc, &mut medium) {
-        Err(StripFault::Medium) => return Ok(seen),
+        Err(StripFault::Medium) => return Ok((seen, Some(medium))),
         Err(StripFault::NoMemory) => return Err(AllocError),
         Ok(strip) => {
             seen.gated = strip.gated;
@@ -129,13 +136,13 @@ pub fn look_at<M: Medium>(
         Ok((_, effects)) => {
             seen.state = MediumState::Whole;
             seen.log = Items::of(effects);
-            Ok(seen)
+            Ok((seen, None))
         }
         Err((_, OpenFault::Damaged { page })) => {
             seen.state = MediumState::Damaged { page };
-            Ok(seen)
+            Ok((seen, None))
         }
-        Err((_, OpenFault::Medium)) => Ok(seen),
+        Err((medium, OpenFault::Medium)) => Ok((seen, Some(medium))),
         Err((_, OpenFault::NoMemory)) => Err(AllocError),
     }
 }

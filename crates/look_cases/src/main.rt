@@ -26,7 +26,7 @@ fn show(rt: &HostRuntime, folder: &str) -> Result<(), u8> {
     let Ok(media) = media_of(alloc, rt, folder) else {
         return Err(NO_WORDS);
     };
-    let Ok(page) = page_of(alloc, &choice, media.as_slice()) else {
+    let Ok(page) = page_of(alloc, folder.as_bytes(), &choice, media.as_slice()) else {
         return Err(NO_WORDS);
     };
     let mut out = io::writer(rt);

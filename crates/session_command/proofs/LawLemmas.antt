@@ -1,6 +1,6 @@
 -- A batch is above the logs with which its nodes were opened.
 use Rattle.std.proofs.Common.{◌≡◌, ◌+◌, ◌<◌, ◌≤◌, ◌∙◌, ℕ, zero, suc, IsTrue, true, List, [], ◌∷◌, arith, refl, subst, sym}
-use Rattle.std.specs.Prelude.{Option, Some, None, Ok, slice_get}
+use Rattle.std.specs.Prelude.{Option, Some, None, Ok, Result, slice_get}
 use Rattle.std.specs.List.{AllZip}
 use Rattle.pseudo_time.specs.Lists.{Every}
 use Rattle.effect_form.specs.declared.effects.Effect.{Effect}
@@ -23,7 +23,7 @@ inner-some None m e = absurd (cc e)
 inner-some (Some None) m e = absurd (cc e)
 inner-some (Some (Some y)) m e = cc e
 
-same-log : (a b : List Effect) → Ok a ≡ Ok b → a ≡ b
+same-log : {E : Type 0} (a b : List Effect) → ◌≡◌ {A = Result (List Effect) E} (Ok a) (Ok b) → a ≡ b
 same-log a b e = cc e
 
 module _ {M : Type 0} (w : Media M) where

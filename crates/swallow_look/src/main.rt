@@ -57,7 +57,7 @@ fn show(rt: &HostRuntime, alloc: Global, folder: &str, choice: &Choice) -> Resul
         return Err(AllocError);
     };
     warn(rt, alloc, folder, media.as_slice())?;
-    let page = page_of(alloc, choice, media.as_slice())?;
+    let page = page_of(alloc, folder.as_bytes(), choice, media.as_slice())?;
     let mut out = io::writer(rt);
     match out.write_all(page.as_slice()) {
         Ok(()) => Ok(0),

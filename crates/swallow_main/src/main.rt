@@ -4,6 +4,7 @@
 
 mod full_sinks;
 mod plain_fates;
+mod plan_lines;
 mod progress;
 mod prompts;
 
@@ -11,6 +12,7 @@ use full_sinks::FullSink;
 use held_shelf::HeldShelf;
 use medium_port::{FileMedium, FileShelf, Medium, Shelf};
 use plain_fates::PlainFates;
+use plan_lines::{KeptSource, fault_text};
 use progress::ToldFates;
 use prompts::AskingSource;
 use session_command::session;
@@ -29,6 +31,9 @@ const NO_OUTPUT: u8 = 4;
 
 /// The status where memory runs out.
 const NO_MEMORY: u8 = 7;
+
+/// The status where what was given is refused.
+const REFUSED: u8 = 2;
 
 /// The folder of a command line that names none: no word follows, so nothing there is touched.
 const NO_FOLDER: &str = ".";
@@ -54,11 +59,30 @@ fn is_look(words: &[String]) -> bool {
     }
 }
 
+// Whether the command reads a plan.
+fn is_run(words: &[String]) -> bool {
+    match words.first() {
+        Some(word) => word.as_str() == "run",
+        None => false,
+    }
+}
+
 // Whether the words begin a session.
 fn is_session(words: &[String]) -> bool {
     match words.first() {
         Some(word) => word.as_str() == "session",
         None => false,
+    }
+}
+
+// Says which line of a refused plan is faulty, and what was expected there. Nothing is said of a plan that a
+// log refuses.
+fn tell_fault(rt: &HostRuntime, alloc: Global, plan: Option<&[u8]>) {
+    let Some(plan) = plan else {
+        return;
+    };
+    if let Some(text) = fault_text(alloc, plan) {
+        let _said = eprintln!(rt; "{}", text.as_str());
     }
 }
 
@@ -149,7 +173,7 @@ fn run<R: Threads + Wait + Sync>(
     if is_session(words) {
         return Ok(hold_session(threads, rt, alloc, shelf, shown.as_slice()));
     }
-    let mut source = ReadSource::new(rt.reader());
+    let mut source = KeptSource::new(alloc, ReadSource::new(rt.reader()));
     let mut sink = FullSink::new(WriteSink::new(io::writer(rt)));
     let ended = swallow(
         threads,
@@ -164,6 +188,9 @@ fn run<R: Threads + Wait + Sync>(
     let Finish { status, media, .. } = ended;
     if sink.is_full() {
         tell_growth(media.into_vec());
+    }
+    if status == REFUSED && is_run(words) {
+        tell_fault(rt, alloc, source.kept());
     }
     Ok(status)
 }

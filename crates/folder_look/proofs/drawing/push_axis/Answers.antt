@@ -5,6 +5,5 @@ pub returns : goal.returns
 returns c =
     let r = c.extend_from_slice-2.result in
     before r c.args.out.now.items c.extend_from_slice.new.self.items _ _ _ c.in_ok-extend_from_slice.ensures.items
-    (before r c.extend_from_slice.new.self.items c.push_svg.new.out.items _ _ _ c.in_ok-push_svg.ensures
-    (before r c.push_svg.new.out.items c.push_marks.new.out.items _ _ _ c.in_ok-push_marks.ensures
-    (slice r c.push_marks.new.out.items _ _ c.extend_from_slice-2.ensures.items)))
+    (before r c.extend_from_slice.new.self.items c.push_marks.new.out.items _ _ _ c.in_ok-push_marks.ensures
+    (slice r c.push_marks.new.out.items _ _ c.extend_from_slice-2.ensures.items))

@@ -1,10 +1,12 @@
-use Rattle.folder_look.proofs.Names.{◌∙◌, ◌++◌, ◌+◌, ◌*◌, ap, rect_text}
-use Rattle.folder_look.proofs.Appends.{before}
+use Rattle.folder_look.proofs.Appends.{before, slice}
 use Rattle.folder_look.proofs.drawing.push_bar.Goals as goal
 
 pub returns : goal.returns
 returns c =
-    let r = c.push_label.result in
-    before r c.args.out.now.items c.push_rect.new.out.items _ _ _ (c.in_ok-push_rect.ensures ∙ ap (λ w. c.args.out.now.items ++ rect_text (64 * c.args.from + 30) w) c.bar_to.ensures)
-    (before r c.push_rect.new.out.items c.push_cross.new.out.items _ _ _ c.in_ok-push_cross.ensures
-    (c.push_label.ensures))
+    let r = c.extend_from_slice-2.result in
+    before r c.args.out.now.items c.extend_from_slice.new.self.items _ _ _ c.in_ok-extend_from_slice.ensures.items
+    (before r c.extend_from_slice.new.self.items c.push_state.new.out.items _ _ _ c.in_ok-push_state.ensures
+    (before r c.push_state.new.out.items c.push_older_class.new.out.items _ _ _ c.in_ok-push_older_class.ensures
+    (before r c.push_older_class.new.out.items c.push_version_place.new.out.items _ _ _ c.in_ok-push_version_place.ensures
+    (before r c.push_version_place.new.out.items c.push_value_cut.new.out.items _ _ _ c.in_ok-push_value_cut.ensures
+    (slice r c.push_value_cut.new.out.items _ _ c.extend_from_slice-2.ensures.items)))))

@@ -1,10 +1,12 @@
-use Rattle.folder_look.proofs.Names.{◌∙◌, ◌++◌, [], ◌∷◌, take, ap, sym, row_text}
+use Rattle.folder_look.proofs.Names.{◌∙◌, ◌++◌, [], ◌∷◌, take, ap, sym}
 use Rattle.folder_look.proofs.Appends.{each, take-one}
+use Rattle.folder_look.specs.Shown.{parts_of}
+use Rattle.folder_look.specs.Drawing.{row_text}
 use Rattle.folder_look.proofs.drawing.push_each.Goals as goal
 
 pub loop-row-preserved : goal.loop-row-preserved
 loop-row-preserved c =
     let i = c.loop-row.row-index in
     let x = c.row-item.result in
-    each (row_text c.args.axis.now.keys) c.args.rows.now i x c.args.out.now.items c.loop-row.out.items c.push_row.new.out.items
+    each (row_text (parts_of c.args.shown.now) c.args.axis.now.keys) c.args.rows.now i x c.args.out.now.items c.loop-row.out.items c.push_row.new.out.items
     (take-one c.args.rows.now i x c.loop-row-test.true ∙ ap (λ y. take i c.args.rows.now ++ y ∷ []) (sym c.row-item.is)) c.loop-row.invariant c.in_ok-push_row.ensures

@@ -3,8 +3,8 @@ use Rattle.folder_look.proofs.drawing.push_rows.Goals as goal
 
 pub returns : goal.returns
 returns c =
-    let r = c.extend_from_slice-2.result in
-    before r c.args.out.now.items c.extend_from_slice.new.self.items _ _ _ c.in_ok-extend_from_slice.ensures.items
-    (before r c.extend_from_slice.new.self.items c.push_axis.new.out.items _ _ _ c.in_ok-push_axis.ensures
+    let r = c.extend_from_slice.result in
+    before r c.args.out.now.items c.push_rows_head.new.out.items _ _ _ c.in_ok-push_rows_head.ensures
+    (before r c.push_rows_head.new.out.items c.push_axis.new.out.items _ _ _ c.in_ok-push_axis.ensures
     (before r c.push_axis.new.out.items c.push_each.new.out.items _ _ _ c.in_ok-push_each.ensures
-    (slice r c.push_each.new.out.items _ _ c.extend_from_slice-2.ensures.items)))
+    (slice r c.push_each.new.out.items _ _ c.extend_from_slice.ensures.items)))

@@ -1,5 +1,6 @@
-use Rattle.folder_look.proofs.Names.{◌∙◌, ◌++◌, [], ◌∷◌, take, ap, sym, medium_text}
+use Rattle.folder_look.proofs.Names.{◌∙◌, ◌++◌, [], ◌∷◌, take, ap, sym}
 use Rattle.folder_look.proofs.Appends.{each, take-one}
+use Rattle.folder_look.specs.MediaText.{medium_text}
 use Rattle.folder_look.proofs.media_text.push_media.Goals as goal
 
 pub loop-medium-preserved : goal.loop-medium-preserved

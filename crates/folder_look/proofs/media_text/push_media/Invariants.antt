@@ -1,4 +1,5 @@
-use Rattle.folder_look.proofs.Names.{flat_map, medium_text, ◌≡◌, ◌++◌, take}
+use Rattle.folder_look.proofs.Names.{flat_map, ◌≡◌, ◌++◌, take}
+use Rattle.folder_look.specs.MediaText.{medium_text}
 use Rattle.folder_look.proofs.media_text.push_media.Given as goal
 
 -- those so far are written

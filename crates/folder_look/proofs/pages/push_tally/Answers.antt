@@ -5,7 +5,6 @@ pub returns : goal.returns
 returns c =
     let r = c.extend_from_slice-2.result in
     before r c.args.out.now.items c.extend_from_slice.new.self.items _ _ _ c.in_ok-extend_from_slice.ensures.items
-    (before r c.extend_from_slice.new.self.items c.push_folder_cells.new.out.items _ _ _ c.in_ok-push_folder_cells.ensures
-    (before r c.push_folder_cells.new.out.items c.push_act_cells.new.out.items _ _ _ c.in_ok-push_act_cells.ensures
-    (before r c.push_act_cells.new.out.items c.push_end_cells.new.out.items _ _ _ c.in_ok-push_end_cells.ensures
-    (slice r c.push_end_cells.new.out.items _ _ c.extend_from_slice-2.ensures.items))))
+    (before r c.extend_from_slice.new.self.items c.push_cell.new.out.items _ _ _ c.in_ok-push_cell.ensures
+    (before r c.push_cell.new.out.items c.push_act_cells.new.out.items _ _ _ c.in_ok-push_act_cells.ensures
+    (slice r c.push_act_cells.new.out.items _ _ c.extend_from_slice-2.ensures.items)))

@@ -22,7 +22,6 @@ returns c =
     c.in_ok-push_versions.ensures
     ∙ ap (λ vs. c.push_given_up.new.rows.items ++ map (told_row None t.settles c.floor_of-floor.result) (filter (is_told_in choice none) vs)) (c.as_slice.ensures.value ∙ c.reverse.ensures.items)
     ∙ ap (λ l. c.push_given_up.new.rows.items ++ l) (new ∙ ap (rows_with choice None [] o) same) ∙ ap (λ l. l ++ rows_with choice None [] o (current_marks logs)) older in
-    let shown : c.len.result ≡ length c.push_versions.new.rows.items = search rules in
-    row-is o c.latest-origin.result (reach (current_marks logs) o None) c.floor_of-floor.result (floor_of (current_marks logs)) c.of.result (take c.args.most (rows_of choice o logs)) c.saturating_sub-hidden.result (length (rows_of choice o logs) - c.args.most)
-    (origin-is o m t.origin c.floor_of-floor.result c.latest-origin.result t.versions.items t.settles h floors c.latest-origin.ensures ∙ ap (λ z. reach z o None) same) (floors ∙ ap floor_of same)
-    (c.of.ensures ∙ c.truncate.ensures.items ∙ ap (take c.args.most) rows) (c.saturating_sub-hidden.ensures ∙ ap (λ n. n - c.args.most) (shown ∙ ap length rows))
+    c.in_ok-row.ensures
+    ∙ row-is c.args.most o c.latest-origin.result (reach (current_marks logs) o None) c.floor_of-floor.result (floor_of (current_marks logs)) c.push_versions.new.rows.items (rows_of choice o logs)
+    (origin-is o m t.origin c.floor_of-floor.result c.latest-origin.result t.versions.items t.settles h floors c.latest-origin.ensures ∙ ap (λ z. reach z o None) same) (floors ∙ ap floor_of same) rows

@@ -1,4 +1,5 @@
 use Rattle.std.proofs.Common.{◌∙◌}
+use Rattle.std.proofs.Math.Nat.{le_trans}
 use Rattle.folder_reader.specs.Strips.{is_gated}
 use Rattle.folder_reader.proofs.StripLemmas.{few-next, gated-next, spoiled-next}
 use Rattle.folder_reader.proofs.readings.strip_of.Goals as goal
@@ -15,6 +16,7 @@ loop-page-preserved g c =
       open_now = c.in-Ok.ensures.failed;
       size = c.in-Ok.ensures.size ∙ so.size;
       reads = λ told. c.in-Ok.ensures.reads told ∙ so.reads told;
+      later = le_trans so.later c.in-Ok.ensures.cause.later;
       few = few-next (is_gated s) n c.loop-page.strip.gated c.add_page.new.strip.gated so.few more.gated;
       gated = λ told. gated-next image read n c.loop-page.strip.gated c.add_page.new.strip.gated s (so.reads told) (c.in-Ok.ensures.found told) (so.gated told) more.gated;
       spoiled = λ told. spoiled-next image read n c.loop-page.strip.spoiled.items c.add_page.new.strip.spoiled.items s (so.reads told) (c.in-Ok.ensures.found told) (so.spoiled told) more.spoiled;

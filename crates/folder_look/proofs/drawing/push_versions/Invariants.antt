@@ -1,6 +1,0 @@
-use Rattle.folder_look.proofs.Names.{flat_map, version_text, ◌≡◌, ◌++◌, take}
-use Rattle.folder_look.proofs.drawing.push_versions.Given as goal
-
--- those so far are written
-abbrev pub invariant-loop-version : goal.invariant-loop-version
-invariant-loop-version l = l.out.items ≡ l.fn.out.items ++ flat_map (version_text l.axis.keys) (take l.version-index l.versions)

@@ -1,0 +1,10 @@
+use Rattle.folder_look.proofs.Appends.{before, slice}
+use Rattle.folder_look.proofs.media_text.push_wrong.Goals as goal
+
+pub returns : goal.returns
+returns c =
+    let r = c.extend_from_slice-2.result in
+    before r c.args.out.now.items c.extend_from_slice.new.self.items _ _ _ c.in_ok-extend_from_slice.ensures.items
+    (before r c.extend_from_slice.new.self.items c.push_name.new.out.items _ _ _ c.in_ok-push_name.ensures
+    (before r c.push_name.new.out.items c.push_fault.new.out.items _ _ _ c.in_ok-push_fault.ensures
+    (slice r c.push_fault.new.out.items _ _ c.extend_from_slice-2.ensures.items)))
