@@ -12,13 +12,26 @@ const MOST_BYTES: usize = 4_194_304;
 /// The most bytes of a line that are shown.
 const MOST_SHOWN: usize = 200;
 
+// What a source gave.
+#[derive(Drop)]
+struct Given {
+    bytes: Vec<u8>,
+    // Whether all that was given is kept.
+    whole: bool,
+}
+
+impl Given {
+    fn keep(&mut self, bytes: &[u8]) {
+        let fits = self.bytes.len().saturating_add(bytes.len()) <= MOST_BYTES;
+        self.whole = self.whole && fits && self.bytes.extend_from_slice(bytes).is_ok();
+    }
+}
+
 /// A source that keeps what it gave. It tells the bytes that the other tells.
 #[derive(Drop)]
 pub struct KeptSource<S> {
     source: S,
-    kept: Vec<u8>,
-    // Whether all that was given is kept.
-    whole: bool,
+    given: Given,
 }
 
 impl<S> KeptSource<S> {
@@ -26,23 +39,20 @@ impl<S> KeptSource<S> {
     pub fn new(alloc: Global, source: S) -> KeptSource<S> {
         KeptSource {
             source,
-            kept: Vec::new(alloc),
-            whole: true,
+            given: Given {
+                bytes: Vec::new(alloc),
+                whole: true,
+            },
         }
     }
 
     /// What it gave. None if that was longer than a plan may be, or memory ran out for it.
     pub fn kept(&self) -> Option<&[u8]> {
-        if self.whole {
-            Some(self.kept.as_slice())
+        if self.given.whole {
+            Some(self.given.bytes.as_slice())
         } else {
             None
         }
-    }
-
-    fn keep(&mut self, bytes: &[u8]) {
-        let fits = self.kept.len().saturating_add(bytes.len()) <= MOST_BYTES;
-        self.whole = self.whole && fits && self.kept.extend_from_slice(bytes).is_ok();
     }
 }
 
@@ -53,7 +63,7 @@ impl<S: Source> Source for KeptSource<S> {
 
     fn read(&mut self, into: &mut [u8]) -> Result<usize, SourceFault> {
         let count = self.source.read(into)?;
-        self.keep(into.get(..count).unwrap_or(&[]));
+        self.given.keep(into.get(..count).unwrap_or(&[]));
         Ok(count)
     }
 }
