@@ -40,12 +40,16 @@ module _ {H M : Type 0} (g : Ghosts H M) (w : Media M) (c : Call H) where
   pub promise-held : (o : Options) → AreSession o c.words → (left : Option (List ℕ)) (s : SessionInput) → HasHead c.input left (Ok s) → (faults_mid : ℕ) → c.faults_before ≤ faults_mid
       → ((repositories brokers : List ℕ) → s.head.items ≡ batch_text repositories brokers [] → Held g w o repositories brokers (prepend_known (ahead s.reader) left) faults_mid c.faults 3 c.status c.before c.after) → Promise g w c
   promise-held o are left s (head, repositories, brokers, is_head, read, head_is, lines) faults_mid later held =
-      inr (inr (o, are, inr (inr (record {
-        head = head;
-        repositories = repositories;
-        brokers = brokers;
-        is_head = is_head;
-        ahead = prepend_known (ahead s.reader) left;
-        read = read;
-        held = held-before g w o repositories brokers (prepend_known (ahead s.reader) left) c.faults_before faults_mid c.faults 3 c.status c.before c.after later (held repositories brokers head_is);
-      }))))
+      inr (inr (
+        o,
+        are,
+        inr (inr (record {
+          head = head;
+          repositories = repositories;
+          brokers = brokers;
+          is_head = is_head;
+          ahead = prepend_known (ahead s.reader) left;
+          read = read;
+          held = held-before g w o repositories brokers (prepend_known (ahead s.reader) left) c.faults_before faults_mid c.faults 3 c.status c.before c.after later (held repositories brokers head_is);
+        })),
+      ))

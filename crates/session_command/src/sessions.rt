@@ -183,9 +183,7 @@ where
 {
     match options_of(alloc, words) {
         Ok(Some(options)) => match SessionInput::begin(alloc, source) {
-            Ok(input) => hold(
-                rt, alloc, input, source, options, sink, shelf, fates, clock,
-            ),
+            Ok(input) => hold(rt, alloc, input, source, options, sink, shelf, fates, clock),
             Err(stop) => refuse(alloc, stop, sink, fates, clock),
         },
         Ok(None) => refuse(alloc, Stop::Words, sink, fates, clock),
