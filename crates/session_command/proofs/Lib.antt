@@ -4,6 +4,7 @@ pub mod HeightLemmas
 pub mod InputLemmas
 pub mod KeptLemmas
 pub mod LawLemmas
+pub mod PromiseLemmas
 pub mod RetiredLemmas
 pub mod SessionLemmas
 pub mod TurnLemmas

@@ -41,6 +41,33 @@ module _ {H M : Type 0} (g : Ghosts H M) (w : Media M) (o : Options) (repositori
       let same : k + ((length c + 1) + lines_in bs) ≡ (k + (length c + 1)) + lines_in bs = omega arith in
       (v, one, chain-more (k + (length c + 1)) bs ns b n v t u more (subst (λ (x : ℕ). Answered g w o repositories brokers (counted x) b n t u) same a))
 
+  -- the source may have failed earlier, too
+  stops-before : (input : Option (List ℕ)) (faults_before faults_mid faults lines last : ℕ) (t u : Standing H) → faults_before ≤ faults_mid → Stops g w o repositories brokers input faults_mid faults lines last t u
+      → Stops g w o repositories brokers input faults_before faults lines last t u
+  stops-before input faults_before faults_mid faults lines last t u later (inl e) = inl e
+  stops-before input faults_before faults_mid faults lines last t u later (inr (inl e)) = let r = e.rose in inr (inl (record { status_is = e.status_is; rose = omega (arith, r, later); still = e.still; line = e.line }))
+  stops-before input faults_before faults_mid faults lines last t u later (inr (inr e)) = inr (inr e)
+
+  pub held-before : (input : Option (List ℕ)) (faults_before faults_mid faults before status : ℕ) (s t : Standing H) → faults_before ≤ faults_mid → Held g w o repositories brokers input faults_mid faults before status s t
+      → Held g w o repositories brokers input faults_before faults before status s t
+  held-before input faults_before faults_mid faults before status s t later h = record {
+    text = h.text;
+    batches = h.batches;
+    are = h.are;
+    ahead = h.ahead;
+    read = h.read;
+    statuses = h.statuses;
+    go_on = h.go_on;
+    middle = h.middle;
+    chain = h.chain;
+    ends = by h.ends;
+  }
+    where
+      by : ((status ≡ gravest h.statuses) × (EndsWell h.middle t h.ahead ⊎ ((length h.batches ≡ 2 ^ 64 - 1) × (t ≡ h.middle)))) ⊎ Stops g w o repositories brokers h.ahead faults_mid faults (counted (before + lines_in h.batches)) status h.middle t
+          → ((status ≡ gravest h.statuses) × (EndsWell h.middle t h.ahead ⊎ ((length h.batches ≡ 2 ^ 64 - 1) × (t ≡ h.middle)))) ⊎ Stops g w o repositories brokers h.ahead faults_before faults (counted (before + lines_in h.batches)) status h.middle t
+      by (inl e) = inl e
+      by (inr e) = inr (stops-before h.ahead faults_before faults_mid faults (counted (before + lines_in h.batches)) status h.middle t later e)
+
   -- the batches so far
   pub record SoHeld (input now : Option (List ℕ)) (before lines status count : ℕ) (s t : Standing H) : Type 0 where
     pub text : List ℕ
@@ -106,14 +133,6 @@ module _ {H M : Type 0} (g : Ghosts H M) (w : Media M) (o : Options) (repositori
       ends = inl (so.gravest_is, inl ends);
     }
 
-    source-rose : (last : ℕ) (u : Standing H) → faults_before ≤ faults_mid → EndsAtSource t u faults_mid faults last → EndsAtSource t u faults_before faults last
-    source-rose last u later e = let r = e.rose in record { status_is = e.status_is; rose = omega (arith, r, later); still = e.still; line = e.line }
-
-    rose-before : (last : ℕ) (u : Standing H) → faults_before ≤ faults_mid → Stops g w o repositories brokers mid faults_mid faults lines last t u → Stops g w o repositories brokers mid faults_before faults lines last t u
-    rose-before last u later (inl e) = inl e
-    rose-before last u later (inr (inl e)) = inr (inl (source-rose last u later e))
-    rose-before last u later (inr (inr e)) = inr (inr e)
-
     -- the session ends for another cause
     pub held-stopped : (u : Standing H) (last : ℕ) → faults_before ≤ faults_mid → Stops g w o repositories brokers mid faults_mid faults lines last t u → Held g w o repositories brokers input faults_before faults before last s u
     held-stopped u last later ends = record {
@@ -126,7 +145,7 @@ module _ {H M : Type 0} (g : Ghosts H M) (w : Media M) (o : Options) (repositori
       go_on = so.go_on;
       middle = t;
       chain = so.chain;
-      ends = inr (subst (λ (x : ℕ). Stops g w o repositories brokers mid faults_before faults x last t u) so.lines_are (rose-before last u later ends));
+      ends = inr (subst (λ (x : ℕ). Stops g w o repositories brokers mid faults_before faults x last t u) so.lines_are (stops-before mid faults_before faults_mid faults lines last t u later ends));
     }
 
     -- no more batches could be counted

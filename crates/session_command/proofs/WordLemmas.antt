@@ -1,12 +1,14 @@
 -- The words of a session.
-use Rattle.std.proofs.Common.{◌≡◌, ◌≢◌, ◌↔◌, ◌-◌, ◌<◌, ◌≤◌, ◌∙◌, ℕ, List, [], ◌∷◌, ap, arith, get_or, length, refl, subst, sym, take}
+use Rattle.std.proofs.Common.{◌≡◌, ◌≢◌, ◌↔◌, ◌-◌, ◌<◌, ◌≤◌, ◌∙◌, ℕ, List, [], ◌∷◌, ap, arith, get_or, inl, inr, length, refl, subst, sym, take}
 use Rattle.std.specs.Prelude.{Option, Some, None, IfSome, codes}
 use Rattle.std.specs.Borrow.{Bor}
+use Rattle.std.specs.Option.{unwrap_or}
 use Rattle.std.proofs.Math.Seq.{take-length}
 use Rattle.command_words.specs.declared.commands.Options.{Options}
 use Rattle.command_words.specs.declared.commands.Command.{Command}
 use Rattle.command_words.specs.declared.commands.Command.TheVariants.{Run, Load, History, Retire, Votes, Watch, AsOf, Audit, Snapshot, Settle}
-use Rattle.command_words.specs.Words.{AreNone, AreOptions, AreWords, said}
+use Rattle.command_words.specs.Words.{AreGiven, AreNone, AreOptions, AreWords, IsWith, said}
+use Rattle.command_words.specs.declared.options.Given.{Given}
 use Rattle.command_words.proofs.WordLemmas.{behind-one, word-at}
 use Rattle.session_command.specs.Words.{GivesMore, GivesOptions}
 
@@ -76,3 +78,19 @@ other-words (a ∷ ws) some other o (more, e, options) = other (first-is a.now (
 pub no-words : (ws : Words) → length ws < 1 → GivesOptions (said ws) None
 no-words [] few o (more, e, options) = absurd (cc e)
 no-words (a ∷ ws) few o given = absurd (omega (arith, few))
+
+-- ---- options
+
+with-workers : (rest g : Given) (name word : List ℕ) → 1 ≤ unwrap_or rest.workers 1 → IsWith rest name word g → 1 ≤ unwrap_or g.workers 1
+with-workers rest g name word before (inl h) = subst (λ (x : Given). 1 ≤ unwrap_or x.workers 1) (sym h.4) h.2.low
+with-workers rest g name word before (inr (inl h)) = subst (λ (x : Given). 1 ≤ unwrap_or x.workers 1) (sym h.4) before
+with-workers rest g name word before (inr (inr h)) = subst (λ (x : Given). 1 ≤ unwrap_or x.workers 1) (sym h.4) before
+
+given-workers : (words : List (List ℕ)) (g : Given) → AreGiven g words → 1 ≤ unwrap_or g.workers 1
+given-workers [] g h = subst (λ (x : Given). 1 ≤ unwrap_or x.workers 1) (sym h) (omega arith)
+given-workers (name ∷ []) g h = absurd h
+given-workers (name ∷ word ∷ more) g h = with-workers h.0 g name word (given-workers more h.0 h.1) h.2
+
+-- there is a worker
+pub some-workers : (o : Options) (words : List (List ℕ)) → AreOptions o words → 1 ≤ o.workers
+some-workers o words h = subst (λ (x : Options). 1 ≤ x.workers) (sym h.2) (given-workers words h.0 h.1)

@@ -113,6 +113,26 @@ fn tell_stop<O: Sink>(alloc: Global, stop: Stop, sink: &mut O) -> u8
     }
 }
 
+// Holds no session, and writes why.
+fn refuse<O: Sink, F: Fates, C: Clock>(
+    alloc: Global,
+    stop: Stop,
+    sink: &mut O,
+    fates: F,
+    clock: C,
+) -> Answer<F, C>
+    ensures told { ToldOf stop result.status (sinking (O.taken sink.old) (O.taken sink.new) (O.faults sink.old)
+        (O.faults sink.new)) }
+    ensures still { (result.fates ≡ fates) × (result.clock ≡ clock) }
+{
+    let status = tell_stop(alloc, stop, sink);
+    Answer {
+        status,
+        fates,
+        clock,
+    }
+}
+
 /// Does what the batches of a session say, one after another. The words are `session` and the options of
 /// `run`.
 ///
@@ -161,20 +181,12 @@ where
       after = (standing shelf.new (O.taken sink.new) (O.faults sink.new) (F.asked result.fates) (C.answers result.clock));
     }) }
 {
-    let begun = match options_of(alloc, words) {
+    match options_of(alloc, words) {
         Ok(Some(options)) => match SessionInput::begin(alloc, source) {
-            Ok(input) => {
-                return hold(rt, alloc, input, source, options, sink, shelf, fates, clock);
-            }
-            Err(stop) => stop,
+            Ok(input) => hold(rt, alloc, input, source, options, sink, shelf, fates, clock),
+            Err(stop) => refuse(alloc, stop, sink, fates, clock),
         },
-        Ok(None) => Stop::Words,
-        Err(_) => Stop::NoMemory,
-    };
-    let status = tell_stop(alloc, begun, sink);
-    Answer {
-        status,
-        fates,
-        clock,
+        Ok(None) => refuse(alloc, Stop::Words, sink, fates, clock),
+        Err(_) => refuse(alloc, Stop::NoMemory, sink, fates, clock),
     }
 }

@@ -1,5 +1,6 @@
 use Rattle.std.proofs.Common.{Err, refl, inl, inr, subst, ap, ◌∙◌}
 use Rattle.plan_form.specs.PlanFaults.{Parses}
+use Rattle.plan_form.proofs.PlanTextLemmas.{plan_can_run}
 use Rattle.run_command.specs.Written.{EndsIfAny, sinking}
 use Rattle.session_form.specs.Sessions.{line_of}
 use Rattle.session_command.specs.Lines.{fault_line}
@@ -19,3 +20,6 @@ returns-in-Err-Fault g c whole kept =
       record { shelf = refl; asked = refl; answers = refl },
       subst (λ n. EndsIfAny c.tell_fault.result sunk 2 (fault_line n c.in-Err-Fault.kind)) at told,
     ))
+
+pub run_held-requires-clause-plan : goal.run_held-requires-clause-plan
+run_held-requires-clause-plan g c κs within = plan_can_run c.args.text.now c.in-Ok.plan c.in-Ok.ensures
