@@ -7,7 +7,7 @@
 # ./swallow, ./swallow_lab, ./swallow_look and examples/.
 #   `$ COMMAND` as first line    a session: what each command prints on both outputs is compared with the lines after it
 #   `./swallow` as first line    a list of commands, each with what it does after some spaces: run in order in a folder of
-#                                its own, each with status 0, but for `./swallow build` and `./swallow test`
+#                                its own, each with status 0, but for `build`, `test` and a `session` without input
 #   plan FILE                    the text of a plan, or of polls: compared with FILE, or written to it if there is none
 #   part FILE                    lines that are in FILE one after another
 #   script, then transcript      a script, run alone as one act; the lines of its attempt
@@ -104,7 +104,7 @@ list() {
   new_place
   while IFS= read -r line; do
     command=${line%%   *}
-    case "$command" in "./swallow build" | "./swallow test") continue ;; esac
+    case "$command" in "./swallow build" | "./swallow test" | "./swallow data session") continue ;; esac
     run "$place" "$command"
     if [ "$code" -eq 0 ]; then right=$((right + 1)); else failed "$page: $command" "its status is $code"; fi
   done < "$1"
@@ -255,7 +255,7 @@ calls() {
 
 if [ "$#" -eq 0 ]; then
   plans
-  for folder in retire audit snapshot settle votes; do calls "$folder"; done
+  for folder in retire audit snapshot settle votes sessions; do calls "$folder"; done
   set -- README.md docs/TUTORIAL.md docs/LANGUAGE.md docs/COMMANDS.md docs/OPERATIONS.md
 fi
 for page in "$@"; do read_page "$page"; done

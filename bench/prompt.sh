@@ -58,6 +58,8 @@ if command -v script > /dev/null; then
   check terminal 'head -n 4 examples/first.plan | sed "s/run 1/run 2/" | ./swallow data run && ./swallow data run < examples/first.plan' 2 "raise the number of 'run'"
   check terminal './swallow fresh run' 2 "'run' reads from the terminal"
   check terminal './swallow fresh votes' 2 "'votes' reads from the terminal"
+  check terminal './swallow fresh session' 2 'swallow> '
+  check terminal './swallow fresh session < examples/sessions/first.session' 2 'swallow> ' not
   check terminal './swallow five run --messages 3 < examples/first.plan' 5 'run the same again'
   check terminal './swallow five run < examples/first.plan' 0 'committed 1'
   check terminal './swallow five settle' 1 './swallow FOLDER settle N'

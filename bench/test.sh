@@ -2,8 +2,8 @@
 # What `./swallow test` runs, with no toolchain: the sums of release/, all examples and what the pages show (docs.sh), whether
 # docs/CRATES.md is what the sources give (crates.sh) and what the pages cite is there (names.sh), the remedies that they give
 # (remedies.sh), what the starter prints (prompt.sh), the system's mistakes (real.sh), 20 kills (kills.sh), 200 power cuts
-# (cuts.sh) and kills and cuts of settles (settles.sh), some of them side by side. What can't be run here is skipped, with
-# the reason. Its last line is `N passed, M failed`, and its status 0 if nothing failed.
+# (cuts.sh), kills and cuts of settles (settles.sh), and sessions with kills (session.sh), some of them side by side. What
+# can't be run here is skipped, with the reason. Its last line is `N passed, M failed`, and its status 0 if nothing failed.
 top="$(cd "$(dirname "${BASH_SOURCE[0]}")/.." && pwd)" || exit 1
 . "$top/release/start.sh" || exit 70
 work=$(mktemp -d) || exit 1
@@ -48,7 +48,8 @@ for crate in swallow_main swallow_lab swallow_look; do
   exit 70
 done
 
-kills="" cuts=""
+kills="" cuts="" sessions=""
+has python3 "sessions, and kills of them" && sessions=50
 has perl "the system's mistakes, and 20 kills" && kills=20
 if has strace "power cuts" && has python3 "power cuts"; then
   if strace -o /dev/null true 2> /dev/null; then cuts=100; else echo "skipped: power cuts (strace may not trace here)"; fi
@@ -63,6 +64,7 @@ begin prompt "$top/bench/prompt.sh"
 [ -z "$cuts" ] || begin cuts "$top/bench/cuts.sh" "$cuts"
 [ -z "$cuts" ] || begin settles "$top/bench/settles.sh" 20
 [ -z "$kills" ] || begin kills "$top/bench/kills.sh" "$kills"
+[ -z "$sessions" ] || begin sessions "$top/bench/session.sh" "$sessions" 20
 wait
 count sums 1
 count pages 1
@@ -78,5 +80,6 @@ if [ -n "$kills" ]; then
 fi
 [ -z "$cuts" ] || count cuts $((2 * cuts))
 [ -z "$cuts" ] || count settles 40
+[ -z "$sessions" ] || count sessions $((sessions + 20))
 echo "$passed passed, $failed failed"
 [ "$failed" -eq 0 ]

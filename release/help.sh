@@ -2,6 +2,7 @@
 help_swallow_main() {
   cat << 'TEXT'
 ./swallow FOLDER run [OPTIONS] < PLAN       runs a plan over the logs in FOLDER, and writes its report
+./swallow FOLDER session [OPTIONS]          keeps FOLDER open: runs acts batch by batch, and reports each batch
 ./swallow FOLDER history OBJECT             writes the history of an object, such as 1.7
 ./swallow FOLDER retire R CLOCK             copies what is current in repository R at a mark into a fresh volume
 ./swallow FOLDER watch R RULE               updates and writes totals of repository R's objects: count, sum or last

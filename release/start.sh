@@ -242,13 +242,16 @@ start_before_a_reader() {
   local status
   case "$crate ${2-}" in
   "swallow_main run" | "swallow_main votes") [ ! -t 0 ] || say "'$2' reads from the terminal. Control-D ends the input; '< FILE' takes a file" ;;
+  "swallow_main session") [ ! -t 0 ] || say "type 'swallow session 1', 'repositories 1' and 'brokers 1', then acts, and 'go' to run them. Control-D ends the session" ;;
   esac
   "$program" "$@"
   status=$?
   case "$status ${2-}" in
   1\ *) say_usage "${2-}" ;;
+  "2 session") say "each line 'swallow: session line L KIND' says at which line of the input, and what is wrong there (docs/COMMANDS.md)" ;;
   2\ *) say "for 'other plan' and 'old run': raise the number of 'run' in the plan's second line, or take another folder (docs/COMMANDS.md)" ;;
   "5 settle") say "each line 'open' says what it waits for: a deadline in seconds since 1970, or a home that isn't among these repositories (docs/COMMANDS.md)" ;;
+  "5 session") say "an act has no outcome: send it in a batch again; '--ticks' and '--messages' set when a batch ends without an outcome (docs/COMMANDS.md)" ;;
   5\ *) say "run the same again; '--ticks' and '--messages' set when a run ends without an outcome (docs/COMMANDS.md)" ;;
   6\ * | 8\ *) say "docs/COMMANDS.md says for each line what to do, docs/OPERATIONS.md for files that were lost or are full" ;;
   126\ *) return ;;

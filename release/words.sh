@@ -1,6 +1,6 @@
 # Says which word of a faulty command line is wrong, and what was expected there. The program decides which words are a command;
 # this is read only by people. What it says of words that are a command is nothing.
-commands="run load history retire watch asof audit snapshot settle votes"
+commands="run load session history retire watch asof audit snapshot settle votes"
 
 # The word of the list $2 that is nearest to $1, if one is near.
 nearest() {
@@ -102,7 +102,7 @@ words_fault() {
   fi
   shift
   case "$command" in
-  run) option_fault "$command" "--workers --ticks --messages" "$@" ;;
+  run | session) option_fault "$command" "--workers --ticks --messages" "$@" ;;
   votes) option_fault votes "--ticks --messages" "$@" ;;
   load)
     kinds_fault load "number number" "${@:1:2}"

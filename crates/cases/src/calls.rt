@@ -2,8 +2,10 @@
 
 use case_setups::{Left, Pace, Said, Setup};
 use case_words::CaseFault;
+use held_shelf::HeldShelf;
 use laboratory::{Kept, LabFates, lab, swallow};
 use medium_port::{MediumName, MeetShelf, MemoryMedium, MemoryShelf, Shelf};
+use session_command::session;
 use std::alloc::{AllocError, Global};
 use std::sync::Wait;
 use std::thread::Threads;
@@ -106,6 +108,38 @@ fn swallowed<R: Threads + Wait + Sync>(
     (finish.status, finish.media.into_vec())
 }
 
+// Whether the words begin a session.
+fn is_session(words: &[&str]) -> bool {
+    match words.first() {
+        Some(word) => *word == "session",
+        None => false,
+    }
+}
+
+// The status of a session, and no media: a session lets them go.
+fn held<R: Threads + Wait + Sync>(
+    rt: &R,
+    alloc: Global,
+    words: &[&str],
+    source: &mut MemorySource,
+    sink: &mut MemorySink,
+    shelf: MemoryShelf,
+    fates: MemoryFates,
+) -> u8 {
+    let mut shelf = HeldShelf::new(alloc, shelf);
+    session(
+        rt,
+        alloc,
+        words,
+        source,
+        sink,
+        &mut shelf,
+        fates,
+        FixedClock::new(0),
+    )
+    .status
+}
+
 /// The call with these words and this plan, over what was set up.
 pub fn call<R: Threads + Wait + Sync>(
     rt: &R,
@@ -120,6 +154,14 @@ pub fn call<R: Threads + Wait + Sync>(
     let fates = MemoryFates::new(alloc, setup.rules.to_vec(alloc)?);
     let names = names_of(alloc, left.as_slice())?;
     let mut shelf = setup.shelf(alloc, left)?;
+    if is_session(words) {
+        let status = held(rt, alloc, words, &mut source, &mut sink, shelf, fates);
+        let said = answered(alloc, status, &sink)?;
+        return Ok(Called {
+            said,
+            media: Vec::new(alloc),
+        });
+    }
     let (status, media) = swallowed(rt, alloc, words, &mut source, &mut sink, &mut shelf, fates);
     let said = answered(alloc, status, &sink)?;
     let media = all_left(alloc, shelf, names, media)?;

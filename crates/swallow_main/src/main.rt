@@ -3,16 +3,22 @@
 #![tactic(auto)]
 
 mod full_sinks;
+mod plain_fates;
 mod plan_lines;
 mod progress;
+mod prompts;
 
 use full_sinks::FullSink;
-use medium_port::{FileMedium, FileShelf};
+use held_shelf::HeldShelf;
+use medium_port::{FileMedium, FileShelf, Medium, Shelf};
+use plain_fates::PlainFates;
 use plan_lines::{KeptSource, fault_text};
 use progress::ToldFates;
+use prompts::AskingSource;
+use session_command::session;
 use std::alloc::{AllocError, Global};
 use std::fs::{self, File};
-use std::io::ErrorKind;
+use std::io::{ErrorKind, IsTerminal};
 use std::process::ExitCode;
 use std::sync::Wait;
 use std::thread::Threads;
@@ -57,6 +63,14 @@ fn is_look(words: &[String]) -> bool {
 fn is_run(words: &[String]) -> bool {
     match words.first() {
         Some(word) => word.as_str() == "run",
+        None => false,
+    }
+}
+
+// Whether the words begin a session.
+fn is_session(words: &[String]) -> bool {
+    match words.first() {
+        Some(word) => word.as_str() == "session",
         None => false,
     }
 }
@@ -107,8 +121,39 @@ fn tell_growth(media: Vec<Kept<FileMedium>>) {
     }
 }
 
-// The top call over the files of a folder. Gives its status. `threads` is the runtime too: the one that
-// may make threads and wait.
+// A session over the files of a folder. Gives its status. `threads` is the runtime too.
+fn hold_session<S: Shelf + Drop, R: Threads + Wait + Sync>(
+    threads: &R,
+    rt: &HostRuntime,
+    alloc: Global,
+    shelf: S,
+    words: &[&str],
+) -> u8
+where
+    S::Medium: Drop + Send,
+{
+    let mut shelf = HeldShelf::new(alloc, shelf);
+    let mut source = AskingSource::new(
+        ReadSource::new(rt.reader()),
+        rt.stderr(),
+        rt.stdin().is_terminal(),
+    );
+    let mut sink = WriteSink::new(io::writer(rt));
+    let ended = session(
+        threads,
+        alloc,
+        words,
+        &mut source,
+        &mut sink,
+        &mut shelf,
+        ToldFates::new(PlainFates::new(), rt, rt.stderr()),
+        SecondsClock::new(rt),
+    );
+    ended.status
+}
+
+// The top call over the files of a folder, or a session over them. Gives its status. `threads` is the
+// runtime too: the one that may make threads and wait.
 fn run<R: Threads + Wait + Sync>(
     threads: &R,
     rt: &HostRuntime,
@@ -125,6 +170,9 @@ fn run<R: Threads + Wait + Sync>(
     let Ok(mut shelf) = made else {
         return Err(AllocError);
     };
+    if is_session(words) {
+        return Ok(hold_session(threads, rt, alloc, shelf, shown.as_slice()));
+    }
     let mut source = KeptSource::new(alloc, ReadSource::new(rt.reader()));
     let mut sink = FullSink::new(WriteSink::new(io::writer(rt)));
     let ended = swallow(

@@ -2,7 +2,7 @@
 use std::alloc::AllocError;
 use std::io::{IsTerminal, Stderr, Write};
 use std::time::Clock;
-use stream_port::{Fate, Fates, MemoryFates};
+use stream_port::{Fate, Fates};
 
 /// The tag of the message that begins a try.
 const BEGIN: u8 = 1;
@@ -62,17 +62,17 @@ impl<R: Clock> Teller<R> {
     }
 }
 
-/// The fates of a real run, by no rule: each message has one copy, which isn't held. While a run goes
-/// on they tell on standard error, where that is a terminal, once a second how far it is.
+/// The fates of a real run. While a run goes on they tell on standard error, where that is a terminal, once
+/// a second how far it is.
 #[derive(Drop)]
-pub struct ToldFates<R> {
-    fates: MemoryFates,
+pub struct ToldFates<R, G> {
+    fates: G,
     teller: Teller<R>,
 }
 
-impl<R: Clock> ToldFates<R> {
+impl<R: Clock, G> ToldFates<R, G> {
     /// Fates of which none was asked for yet. `system` tells when a second has passed.
-    pub fn new(fates: MemoryFates, system: R, errors: Stderr) -> ToldFates<R> {
+    pub fn new(fates: G, system: R, errors: Stderr) -> ToldFates<R, G> {
         ToldFates {
             fates,
             teller: Teller::new(system, errors),
@@ -80,8 +80,8 @@ impl<R: Clock> ToldFates<R> {
     }
 }
 
-impl<R: Clock> Fates for ToldFates<R> {
-    ghost asked = { λ f. f.fates.asked };
+impl<R: Clock, G: Fates> Fates for ToldFates<R, G> {
+    ghost asked = { λ f. G.asked f.fates };
 
     fn fate(&mut self, number: u32, tag: u8) -> Result<Fate, AllocError> {
         let fate = self.fates.fate(number, tag)?;

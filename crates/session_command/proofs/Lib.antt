@@ -1,0 +1,11 @@
+pub mod BatchLemmas
+pub mod HeadLemmas
+pub mod HeightLemmas
+pub mod InputLemmas
+pub mod KeptLemmas
+pub mod LawLemmas
+pub mod PromiseLemmas
+pub mod RetiredLemmas
+pub mod SessionLemmas
+pub mod TurnLemmas
+pub mod WordLemmas

@@ -1,0 +1,10 @@
+use Rattle.run_command.specs.Written.{sinking}
+use Rattle.run_command.proofs.TextLemmas.{tells-text}
+use Rattle.session_command.specs.Lines.{line_with}
+use Rattle.session_command.proofs.lines.tell_words.Goals as goal
+
+pub returns : goal.returns
+returns g c =
+    let k = g.O.Sink in
+    tells-text c.line_with.result (line_with c.args.line c.args.words.now) 2 c.tell_text.result (sinking (k.taken c.args.sink.now) (k.taken c.tell_text.new.sink) (k.faults c.args.sink.now) (k.faults c.tell_text.new.sink))
+    c.line_with.ensures c.tell_text.ensures

@@ -1,0 +1,13 @@
+pub mod Above
+pub mod Ahead
+pub mod Chains
+pub mod Inputs
+pub mod Judged
+pub mod Kept
+pub mod Laws
+pub mod Lines
+pub mod Sessions
+pub mod Standings
+pub mod Texts
+pub mod Turns
+pub mod Words
