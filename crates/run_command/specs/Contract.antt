@@ -31,7 +31,7 @@ use Rattle.run_command.specs.Smooth.{AskAtMost, WentSmoothly, messages_for, page
 use Rattle.run_command.specs.declared.reports.Wanted.{Wanted}
 use Rattle.run_command.specs.Lines.{resume_line}
 use Rattle.run_command.specs.Tellings.{status_of, wanted_text}
-use Rattle.run_command.specs.Written.{Sinking, EndsIfAny, GotLine}
+use Rattle.run_command.specs.Written.{Sinking, EndsIfAny, GotLine, HasNoMemory}
 
 -- no run began: nothing was asked, and the trace names no node
 pub record HasNoRun (told : Account) : Type 0 where
@@ -101,9 +101,9 @@ module _ {M : Type 0} (w : Media M) (old new : ShelfSight) (kept : List (Kept M)
       pub safe : Every (LosesNothing w old) kept
       pub past : IsTrue w.tells → AllZip (IsLeftAlone w) (map work_taken volumes) left ⊎ (HadMemory w volumes × RanUntold w plan told.asked_before (map work_taken volumes) left)
 
-    -- What came of running the plan: memory ran out; or a broker's log refuses it; or it ran, and is reported unless memory ran out for that.
+    -- What came of running the plan: memory ran out, and nothing was written; or a broker's log refuses it; or it ran, and is reported unless memory ran out for that.
     abbrev pub CameOf : Wanted → Options → Account → Sinking → ℕ → Type 0
-    CameOf wanted o told s status = ((status ≡ 7) × (TookNothing told ⊎ WantedMemory told))
+    CameOf wanted o told s status = (HasNoMemory status s × (TookNothing told ⊎ WantedMemory told))
         ⊎ (((status ≡ 2) × IsRefusedByLog s × HasNoRun told)
         ⊎ (RanOver o told × EndsIfAny status s (status_of plan told.trace) (wanted_text wanted plan told.trace)))
 

@@ -9,7 +9,7 @@ ghost use Rattle.run_rounds.specs.Ends as ends;
 ghost use Rattle.run_rounds.specs.Runs.{HasRanges};
 ghost use Rattle.run_command.specs.Lines as lines;
 ghost use Rattle.run_command.specs.Tellings.{OfRun, TellsEnd, status_of, status_with, wanted_text};
-ghost use Rattle.run_command.specs.Written.{EndsIfAny, GotLine, sinking};
+ghost use Rattle.run_command.specs.Written.{EndsIfAny, GotLine, HasNoMemory, sinking};
 
 use crate::lines::resume_line;
 use crate::streams::write_all;
@@ -97,8 +97,8 @@ fn tell_run<O: Sink>(alloc: Global, plan: &Plan, wanted: Wanted, trace: &Trace, 
 
 // Writes why a broker's log refuses the plan. The answer is the status.
 fn tell_refusal<O: Sink>(alloc: Global, fault: ResumeFault, sink: &mut O) -> u8
-    ensures { (result ≡ 7) ⊎ ((result ≡ 2) ×
-        GotLine (sinking (O.taken sink.old) (O.taken sink.new) (O.faults sink.old) (O.faults sink.new))
+    ensures { HasNoMemory result (sinking (O.taken sink.old) (O.taken sink.new) (O.faults sink.old) (O.faults sink.new))
+        ⊎ ((result ≡ 2) × GotLine (sinking (O.taken sink.old) (O.taken sink.new) (O.faults sink.old) (O.faults sink.new))
         (lines.resume_line fault)) }
 {
     match resume_line(alloc, fault) {
