@@ -1,8 +1,10 @@
 pub mod CompleteLemmas
 pub mod DownLemmas
+pub mod FinalLemmas
 pub mod PageLemmas
 pub mod RunLemmas
 pub mod ShelfLemmas
+pub mod SightLemmas
 pub mod SmoothLemmas
 pub mod StandingLemmas
 pub mod StreamLemmas

@@ -3,6 +3,7 @@ use Rattle.run_command.proofs.Names.{AllZip, AllZip-long, Plan, CanRun, Trace, I
 use Rattle.run_rounds.specs.declared.ends.End.{End}
 use Rattle.run_rounds.specs.declared.ends.End.TheVariants as end
 use Rattle.run_command.proofs.CompleteLemmas.{complete-status, run-complete, unrefused}
+use Rattle.run_command.proofs.FinalLemmas.{finals-of-opened}
 use Rattle.run_command.proofs.ShelfLemmas.{all-kept, alone-whole, none-lost}
 
 module _ {M : Type 0} (w : Media M) (ticks messages : ℕ) (plan : Plan) (told : Tellers) (media left : List (Option M)) where
@@ -45,7 +46,9 @@ module _ {M : Type 0} (w : Media M) (old new : ShelfSight) (plan : Plan) (o : Op
       ran = ran;
       serial = λ tells. laws.serial plan told.asked t language (ran.is_told tells).legal;
       late = λ tells. laws.late plan told.asked t language (ran.is_told tells).legal;
+      sees = λ tells. laws.sees plan told.asked t language (ran.is_told tells).legal;
       finals = λ tells. laws.finals plan told.asked t language (ran.is_told tells).legal;
+      opened = finals-of-opened plan t ran.logs.empty;
       answers = λ tells. laws.answers plan told.asked t language (ran.is_told tells).legal;
       reasons = λ tells. laws.reasons plan told.asked t language (ran.is_told tells).legal;
       spent = λ tells. laws.spent plan told.asked t language (ran.is_told tells).legal;
