@@ -2,6 +2,7 @@ pub mod CompleteLemmas
 pub mod DownLemmas
 pub mod FinalLemmas
 pub mod PageLemmas
+pub mod PartLemmas
 pub mod RunLemmas
 pub mod ShelfLemmas
 pub mod SightLemmas

@@ -1,7 +1,6 @@
 //! What came of a run is written, and its status found.
 ghost use Rattle.std.specs.Prelude.{◌≡◌, ◌≢◌, ◌==◌, ◌⊎◌, ℕ, IfOk, if◌then◌else◌};
 ghost use Rattle.plan_form.specs.PlanTexts.{CanRun};
-ghost use Rattle.world_core.specs.Walks as walks;
 ghost use Rattle.world_core.specs.Legal.{JustNodes};
 ghost use Rattle.run_rounds.specs.Reports.{open_acts};
 ghost use Rattle.broker_core.specs.ResumeFault.TheVariants as resuming;
@@ -12,6 +11,7 @@ ghost use Rattle.run_command.specs.Tellings.{OfRun, TellsEnd, status_of, status_
 ghost use Rattle.run_command.specs.Written.{EndsIfAny, GotLine, HasNoMemory, sinking};
 
 use crate::lines::resume_line;
+use crate::parts::is_down;
 use crate::streams::write_all;
 use broker_core::ResumeFault;
 use plan_form::Plan;
@@ -26,16 +26,6 @@ pub enum Wanted {
     Report,
     /// The summary of a load with this seed.
     Summary { seed: u64 },
-}
-
-// Whether a node goes down.
-fn is_down(entry: &Entry) -> bool
-    ensures { result ≡ walks.is_down entry.now }
-{
-    match entry {
-        Entry::Down { node: _, cause: _ } => true,
-        _ => false,
-    }
 }
 
 // Whether a node is down.
