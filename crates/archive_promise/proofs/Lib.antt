@@ -1,4 +1,5 @@
 pub mod AnsweredLemmas
+pub mod OpenLemmas
 pub mod SnappedLemmas
 pub mod WatchedLemmas
 pub use Rattle.snapshot_command.proofs.KeptLemmas
