@@ -115,6 +115,6 @@ pub is-lawful : (q : Question) (logs : List (List Effect)) (r : Outcome) → IsO
 is-lawful (AsOf r at) logs (Told text) first is = plain-map r at.stamp logs text (subst (λ z. IsAsOf r z (newest_first logs) text) first is)
 is-lawful (Audit o) logs (Told text) first is = subst (TellsWholeAudit o logs) (sym is) (whole-audit o logs)
 is-lawful (AsOf r at) logs (Refused line) first is = record { object = is.first.object; start = is.first.start; first = first-is (newest_first logs) at is.first is.is_first; is_line = is.is_line }
-is-lawful (Audit o) logs (Refused line) first is = tt
+is-lawful (Audit o) logs (Refused line) first is = is
 is-lawful q logs (Fallen line) first is = tt
 is-lawful q logs NoMemory first is = tt

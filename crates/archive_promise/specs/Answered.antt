@@ -87,7 +87,7 @@ abbrev pub IsLawful : Question → List (List Effect) → Outcome → Type 0
 IsLawful (AsOf r at) logs (Told text) = TellsPlainMap r at.stamp logs text
 IsLawful (Audit o) logs (Told text) = TellsWholeAudit o logs text
 IsLawful (AsOf r at) logs (Refused line) = NamesFirstOpen at (newest_first logs) line
-IsLawful (Audit o) logs (Refused line) = Unit {0}
+IsLawful (Audit o) logs (Refused line) = ⊥
 IsLawful q logs (Fallen line) = Unit {0}
 IsLawful q logs NoMemory = Unit {0}
 
