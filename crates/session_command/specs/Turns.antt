@@ -21,9 +21,9 @@ abbrev pub ToldOf : Stop → ℕ → Sinking → Type 0
 ToldOf stop.Words status s = (status ≡ 1) × GotLine s words_line
 ToldOf (stop.Fault line kind) status s = EndsIfAny status s 2 (fault_line line kind)
 ToldOf stop.Source status s = (status ≡ 3) × GotLine s source_line
-ToldOf stop.NoMemory status s = status ≡ 7
-ToldOf (stop.Votes line) status s = status ≡ 7
-ToldOf stop.Sink status s = status ≡ 7
+ToldOf stop.NoMemory status s = HasNoMemory status s
+ToldOf (stop.Votes line) status s = HasNoMemory status s
+ToldOf stop.Sink status s = HasNoMemory status s
 
 -- the status and the line that tell why no more is read
 abbrev pub StoppedAs : Stop → ℕ → Sinking → Type 0
