@@ -95,7 +95,7 @@ module _ {M : Type 0} (w : Media M) where
       fresh-log logs h =
           let z = zip-last (LeavesLog w) wrote.others (Some wrote.medium) logs (subst (λ (l : List (Option M)). AllZip (LeavesLog w) l logs) wrote.is_left h) in
           let all : Every IsOpen (wrote.front ++ Open wrote.store wrote.effects ∷ []) = subst (λ (l : List (Opening M w)). Every IsOpen l) wrote.is opened in
-          let front : z.0 ≡ logs_of wrote.front = keeps-logs wrote.front wrote.others z.0 (every-left wrote.front (Open wrote.store wrote.effects ∷ []) all) wrote.keep z.3 in
+          let front : z.0 ≡ logs_of wrote.front = keeps-logs wrote.front wrote.others z.0 (every-left (λ (o : Opening M w). IsOpen o) wrote.front (Open wrote.store wrote.effects ∷ []) all) wrote.keep z.3 in
           let there : P z.4.0 = wrote.images tells z.4.0 z.4.1 in
           let some = not-first os wrote.front wrote.store wrote.effects wrote.is wrote.empty ends in (
             z.1,
