@@ -26,7 +26,7 @@ fn push_state(out: &mut Vec<u8>, state: Option<bool>) -> Result<(), AllocError>
 
 // Appends the class of a version whose repository doesn't know its state, or that an older volume
 // alone has.
-fn push_mark(out: &mut Vec<u8>, settled: bool, older: Option<u64>) -> Result<(), AllocError>
+fn push_version_mark(out: &mut Vec<u8>, settled: bool, older: Option<u64>) -> Result<(), AllocError>
     ensures { OnOk result (out.new.items ≡ out.old.items ++ spec.mark_class settled older) }
 {
     match (settled, older) {
@@ -90,7 +90,7 @@ fn push_bar(
 {
     out.extend_from_slice(b"<i class=\"")?;
     push_state(out, version.state)?;
-    push_mark(out, version.settled, version.older)?;
+    push_version_mark(out, version.settled, version.older)?;
     push_version_place(alloc, out, axis, version)?;
     push_value_cut(alloc, out, 20, &version.value)?;
     out.extend_from_slice(b"</i>\n")
