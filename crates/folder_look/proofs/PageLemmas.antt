@@ -82,13 +82,16 @@ state None = refl
 state (Some true) = refl
 state (Some false) = refl
 
-bar-open : (s : Option Bool) (n : Option ℕ) (c w : ℕ) → T (codes "<i class=\"" ++ (draw.state_word s ++ (draw.older_class n ++ draw.place_text c w)))
-bar-open None None c w = pieces InText (Words (codes "<i class=\"undecided") ∷ Words (codes "\" style=\"--a:") ∷ Number c ∷ Words (codes ";--w:") ∷ Number w ∷ Words (codes "\">") ∷ []) refl
-bar-open None (Some n) c w = pieces InText (Words (codes "<i class=\"undecided older") ∷ Words (codes "\" style=\"--a:") ∷ Number c ∷ Words (codes ";--w:") ∷ Number w ∷ Words (codes "\">") ∷ []) refl
-bar-open (Some true) None c w = pieces InText (Words (codes "<i class=\"committed") ∷ Words (codes "\" style=\"--a:") ∷ Number c ∷ Words (codes ";--w:") ∷ Number w ∷ Words (codes "\">") ∷ []) refl
-bar-open (Some true) (Some n) c w = pieces InText (Words (codes "<i class=\"committed older") ∷ Words (codes "\" style=\"--a:") ∷ Number c ∷ Words (codes ";--w:") ∷ Number w ∷ Words (codes "\">") ∷ []) refl
-bar-open (Some false) None c w = pieces InText (Words (codes "<i class=\"aborted") ∷ Words (codes "\" style=\"--a:") ∷ Number c ∷ Words (codes ";--w:") ∷ Number w ∷ Words (codes "\">") ∷ []) refl
-bar-open (Some false) (Some n) c w = pieces InText (Words (codes "<i class=\"aborted older") ∷ Words (codes "\" style=\"--a:") ∷ Number c ∷ Words (codes ";--w:") ∷ Number w ∷ Words (codes "\">") ∷ []) refl
+bar-open : (s : Option Bool) (b : Bool) (n : Option ℕ) (c w : ℕ) → T (codes "<i class=\"" ++ (draw.state_word s ++ (draw.mark_class b n ++ draw.place_text c w)))
+bar-open None false n c w = pieces InText (Words (codes "<i class=\"undecided unsettled") ∷ Words (codes "\" style=\"--a:") ∷ Number c ∷ Words (codes ";--w:") ∷ Number w ∷ Words (codes "\">") ∷ []) refl
+bar-open None true None c w = pieces InText (Words (codes "<i class=\"undecided") ∷ Words (codes "\" style=\"--a:") ∷ Number c ∷ Words (codes ";--w:") ∷ Number w ∷ Words (codes "\">") ∷ []) refl
+bar-open None true (Some n) c w = pieces InText (Words (codes "<i class=\"undecided older") ∷ Words (codes "\" style=\"--a:") ∷ Number c ∷ Words (codes ";--w:") ∷ Number w ∷ Words (codes "\">") ∷ []) refl
+bar-open (Some true) false n c w = pieces InText (Words (codes "<i class=\"committed unsettled") ∷ Words (codes "\" style=\"--a:") ∷ Number c ∷ Words (codes ";--w:") ∷ Number w ∷ Words (codes "\">") ∷ []) refl
+bar-open (Some true) true None c w = pieces InText (Words (codes "<i class=\"committed") ∷ Words (codes "\" style=\"--a:") ∷ Number c ∷ Words (codes ";--w:") ∷ Number w ∷ Words (codes "\">") ∷ []) refl
+bar-open (Some true) true (Some n) c w = pieces InText (Words (codes "<i class=\"committed older") ∷ Words (codes "\" style=\"--a:") ∷ Number c ∷ Words (codes ";--w:") ∷ Number w ∷ Words (codes "\">") ∷ []) refl
+bar-open (Some false) false n c w = pieces InText (Words (codes "<i class=\"aborted unsettled") ∷ Words (codes "\" style=\"--a:") ∷ Number c ∷ Words (codes ";--w:") ∷ Number w ∷ Words (codes "\">") ∷ []) refl
+bar-open (Some false) true None c w = pieces InText (Words (codes "<i class=\"aborted") ∷ Words (codes "\" style=\"--a:") ∷ Number c ∷ Words (codes ";--w:") ∷ Number w ∷ Words (codes "\">") ∷ []) refl
+bar-open (Some false) true (Some n) c w = pieces InText (Words (codes "<i class=\"aborted older") ∷ Words (codes "\" style=\"--a:") ∷ Number c ∷ Words (codes ";--w:") ∷ Number w ∷ Words (codes "\">") ∷ []) refl
 
 assoc-bar : (a b c d e : List ℕ) → spot_behind frame_tags InText (a ++ (b ++ (c ++ (d ++ e)))) ≡ spot_behind frame_tags InText ((a ++ (b ++ (c ++ d))) ++ e)
 assoc-bar a b c d e = ap (spot_behind frame_tags InText) (sym (append_assoc a (b ++ (c ++ d)) e ∙ ap (λ t. a ++ t) (append_assoc b (c ++ d) e ∙ ap (λ t. b ++ t) (append_assoc c d e))))
@@ -98,8 +101,8 @@ bar axis v =
     let c = column axis v.start.stamp in
     let place = draw.place_text c (draw.bar_to axis c v.end) in
     let rest = values.value_cut 20 v.value ++ codes "</i>\n" in
-    assoc-bar (codes "<i class=\"") (draw.state_word v.state) (draw.older_class v.older) place rest
-    ∙ on (codes "<i class=\"" ++ (draw.state_word v.state ++ (draw.older_class v.older ++ place))) rest (bar-open v.state v.older c (draw.bar_to axis c v.end))
+    assoc-bar (codes "<i class=\"") (draw.state_word v.state) (draw.mark_class v.settled v.older) place rest
+    ∙ on (codes "<i class=\"" ++ (draw.state_word v.state ++ (draw.mark_class v.settled v.older ++ place))) rest (bar-open v.state v.settled v.older c (draw.bar_to axis c v.end))
     ∙ on (values.value_cut 20 v.value) _ (value-cut 20 v.value) ∙ refl
 
 origin-bar : (axis : List StampParts) (e : Option TimeParts) → T (draw.origin_bar axis e)
@@ -117,8 +120,12 @@ older : (n : Option ℕ) → T (draw.older_word n)
 older None = refl
 older (Some n) = pieces InText (Words (codes ", only in volume ") ∷ Number n ∷ []) refl
 
+settled : (b : Bool) → T (draw.settled_word b)
+settled true = refl
+settled false = refl
+
 version-end : (v : VersionRow) → T (draw.version_end v)
-version-end v = on (draw.state_word v.state) _ (state v.state) ∙ on (draw.older_word v.older) _ (older v.older) ∙ pieces InText (Words (codes "</td><td>") ∷ Printed v.value ∷ Words (codes "</td></tr>\n") ∷ []) refl
+version-end v = on (draw.state_word v.state) _ (state v.state) ∙ on (draw.older_word v.older) _ (older v.older) ∙ on (draw.settled_word v.settled) _ (settled v.settled) ∙ pieces InText (Words (codes "</td><td>") ∷ Printed v.value ∷ Words (codes "</td></tr>\n") ∷ []) refl
 
 version : (p : ShownParts) (v : VersionRow) → T (draw.version_text p v)
 version p v = on (shown.time_ref p v.start) _ (time-ref p v.start) ∙ on (values.time_or_none v.end) _ (time-or-none v.end) ∙ version-end v
