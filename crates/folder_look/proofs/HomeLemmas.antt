@@ -1,5 +1,5 @@
 -- Versions that are told as their homes decided them.
-use Rattle.folder_look.proofs.Names.{TimeParts, VersionRow, told_as, told_at_home, ◌≡◌, ◌⊎◌, ℕ, zero, suc, ◌+◌, Bool, true, false, List, [], ◌∷◌, ◌++◌, map, take, drop, get_or, Option, Some, None, if◌then◌else◌, inl, inr, refl, ◌∙◌, ap, arith}
+use Rattle.folder_look.proofs.Names.{TimeParts, VersionRow, told_as, told_at_home, ◌≡◌, ℕ, zero, suc, ◌+◌, Bool, true, false, List, [], ◌∷◌, ◌++◌, map, take, drop, get_or, Option, Some, None, if◌then◌else◌, inl, inr, refl, ◌∙◌, ap, arith}
 use Rattle.std.proofs.Common.{slice_set}
 use Rattle.std.specs.FinMap as finite
 use Rattle.object_history.specs.Kept.{Settled}

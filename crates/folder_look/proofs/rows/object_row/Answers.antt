@@ -1,4 +1,4 @@
-use Rattle.folder_look.proofs.Names.{filter, floor_of, marks, Holds, current, log_at, logs_of, given_up_by, rows_of, rows_with, told_at_home, told_row, is_told_in, ◌≡◌, ◌∙◌, ◌-◌, ◌++◌, [], None, length, map, take, reverse, ap, subst, rules, reach, current_marks}
+use Rattle.folder_look.proofs.Names.{filter, floor_of, marks, Holds, current, log_at, logs_of, given_up_by, rows_of, rows_with, told_at_home, told_row, is_told_in, ◌≡◌, ◌∙◌, ◌++◌, [], None, map, reverse, ap, subst, rules, reach, current_marks}
 use Rattle.folder_look.proofs.RowLemmas.{origin-is, row-is, rows-are}
 use Rattle.folder_look.proofs.StartLemmas.{none-start}
 use Rattle.folder_look.proofs.rows.object_row.Goals as goal
