@@ -134,7 +134,7 @@ module _ {M : Type 0} (w : Media M) where
     pub has-pasts : (r : ℕ) (at : TimeParts) (os : List (Opening M w)) (left : List (Option M)) (retired : Retired) → EndRightly Repository os → ComesTo w (named r) at os left retired → HasPasts w r at os left retired
     has-pasts r at os left (Done text) ends c = wrote-all r at os left _ c.opened ends c.may c.wrote (λ i log is e whole. ok-same log _ (sym e ∙ is)) (λ i is. is)
     has-pasts r at os left (Refused line) ends c = stays-so r at os left c.opened c.keep
-    has-pasts r at os left (Fallen line) ends (inl c) opened logs h cs past = inr (stays-so r at os left opened c.keep logs h cs past)
-    has-pasts r at os left (Fallen line) ends (inr c) opened = wrote-some r at os left _ c.opened ends c.may c.wrote (λ i log is e whole. is.all log e whole)
-    has-pasts r at os left NoMemory ends (inl c) opened logs h cs past = inr (stays-so r at os left opened c logs h cs past)
-    has-pasts r at os left NoMemory ends (inr c) opened = wrote-some r at os left _ c.0 ends c.1 c.2 (λ i log is e whole. is.all log e whole)
+    has-pasts r at os left (Fallen line) ends (inl c) = λ opened logs h cs past. inr (stays-so r at os left opened c.keep logs h cs past)
+    has-pasts r at os left (Fallen line) ends (inr c) = λ opened. wrote-some r at os left _ c.opened ends c.may c.wrote (λ i log is e whole. is.all log e whole)
+    has-pasts r at os left NoMemory ends (inl c) = λ opened logs h cs past. inr (stays-so r at os left opened c logs h cs past)
+    has-pasts r at os left NoMemory ends (inr c) = λ opened. wrote-some r at os left _ c.0 ends c.1 c.2 (λ i log is e whole. is.all log e whole)
