@@ -1,6 +1,6 @@
 use Rattle.std.proofs.Common.{rules, ◌≡◌, ◌∙◌, ap, refl, subst, sym}
 use Rattle.plan_volumes.specs.Shelves.{shelf_sight}
-use Rattle.run_command.specs.Takings.{AreHanded, AreTaken}
+use Rattle.run_command.specs.Takings.{AreTaken}
 use Rattle.run_command.specs.Written.{EndsIfAny, sinking}
 use Rattle.run_rounds.specs.Finishes.{account_of, tellers}
 use Rattle.session_form.specs.Heights.{HasRoom, raised}

@@ -1,4 +1,4 @@
-use Rattle.std.proofs.Common.{rules, codes, ◌≡◌, ◌++◌, ◌∷◌, [], List, ℕ}
+use Rattle.std.proofs.Common.{rules}
 use Rattle.session_command.proofs.HeadLemmas.{head-kept}
 use Rattle.session_command.proofs.inputs.head_text.Goals as goal
 

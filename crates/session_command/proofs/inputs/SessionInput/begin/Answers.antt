@@ -1,6 +1,6 @@
-use Rattle.std.proofs.Common.{Err, Ok, refl, sym, subst, ap, ◌∙◌, ◌++◌, [], ◌∷◌, ◌≡◌}
+use Rattle.std.proofs.Common.{Err, Ok, sym, subst}
 use Rattle.std.specs.Io.KnownBytes.{prepend_known}
-use Rattle.session_form.specs.Sessions.{IsTitle, batch_text}
+use Rattle.session_form.specs.Sessions.{IsTitle}
 use Rattle.session_command.specs.Ahead.{ahead}
 use Rattle.session_command.specs.Kept.{IsKept}
 use Rattle.session_command.specs.Inputs.{IsJudged}

@@ -1,4 +1,4 @@
-use Rattle.std.proofs.Common.{arith, refl, sym, subst, ap, ◌∙◌, ◌↔◌, ◌++◌, ◌&&◌, [], ◌∷◌, ◌≡◌, IsTrue}
+use Rattle.std.proofs.Common.{arith, refl, sym, subst, ap, ◌∙◌, ◌↔◌, ◌++◌, [], IsTrue}
 use Rattle.std.specs.Io.KnownBytes.{prepend_known}
 use Rattle.session_form.specs.Sessions.{IsGo}
 use Rattle.session_command.specs.Ahead.{ahead}

@@ -1,4 +1,4 @@
-use Rattle.std.proofs.Common.{arith, append_assoc, ap, sym, subst, ◌∙◌, ◌++◌, ◌∷◌, []}
+use Rattle.std.proofs.Common.{arith, subst, ◌++◌, ◌∷◌, []}
 use Rattle.std.specs.Io.KnownBytes.{Consumes, prepend_known}
 use Rattle.std.proofs.KnownBytes.{Consumes-trans}
 use Rattle.pseudo_time.proofs.ListLemmas.{every-append}
