@@ -1,5 +1,5 @@
 -- From how a run ended to what comes of its plan.
-use Rattle.run_command.proofs.Names.{AllZip, AllZip-long, Plan, CanRun, Trace, IsLegal, no_trace, Options, Media, AreBack, IsBack, IsLeftAlone, Ran, IsKeptWhole, Tellers, account_of, AllKept, ShelfSight, Kept, HasVolumes, NodeVolumes, work_taken, Wanted, CameOf, HoldsOfRuns, AreVolumesOf, RunsOver, EndsOver, status_of, Sinking, ◌≡◌, ◌⊎◌, inl, inr, ℕ, Bool, true, false, IsTrue, List, length, map, Option, refl, ap, sym, subst, ◌∙◌, RanUntold, HasRanges, EndsAs, HadMemory, Completes, RanOver, WantedMemory, OfRun, TellsEnd, JustNodes}
+use Rattle.run_command.proofs.Names.{AllZip, AllZip-long, Plan, CanRun, Trace, no_trace, Options, Media, AreBack, IsBack, IsLeftAlone, Ran, IsKeptWhole, Tellers, account_of, AllKept, ShelfSight, Kept, HasVolumes, NodeVolumes, work_taken, Wanted, CameOf, HoldsOfRuns, AreVolumesOf, RunsOver, EndsOver, status_of, Sinking, ◌≡◌, ◌⊎◌, inl, inr, ℕ, Bool, true, false, IsTrue, List, length, map, Option, refl, ap, sym, subst, ◌∙◌, RanUntold, HasRanges, EndsAs, HadMemory, Completes, RanOver, WantedMemory, OfRun, TellsEnd, JustNodes}
 use Rattle.run_rounds.specs.declared.ends.End.{End}
 use Rattle.run_rounds.specs.declared.ends.End.TheVariants as end
 use Rattle.run_command.proofs.CompleteLemmas.{complete-status, run-complete, unrefused}

@@ -1,12 +1,11 @@
 -- What attempts see of finished runs, by the laws of serial order.
-use Rattle.std.proofs.Common.{◌≡◌, ◌∙◌, ◌<◌, ◌≤◌, ◌&&◌, ◌++◌, Bool, true, false, ℕ, List, [], ◌∷◌, ap, arith, refl, reverse, subst, sym, nat_le}
+use Rattle.std.proofs.Common.{◌≡◌, ◌∙◌, ◌<◌, ◌&&◌, ◌++◌, Bool, true, false, ℕ, List, [], ◌∷◌, ap, arith, refl, reverse, subst, sym, nat_le}
 use Rattle.std.proofs.lemmas.Bool.{or_right}
 use Rattle.std.proofs.lemmas.List.{reverse-append}
 use Rattle.std.specs.Prelude.{Option, Some, None, is_some, not, if◌then◌else◌}
 use Rattle.std.specs.Cmp.{nat_cmp_is}
 use Rattle.std.specs.Ordering.{is_lt, nat_cmp, ordering_then}
 use Rattle.std.specs.declared.cmp.Ordering.TheVariants.{Less}
-use Rattle.pseudo_time.specs.Lists.{Has}
 use Rattle.pseudo_time.specs.Nodes.{repository}
 use Rattle.pseudo_time.specs.Order.{same_stamp, stamp_lt}
 use Rattle.pseudo_time.specs.StampParts.{StampParts}
@@ -24,11 +23,11 @@ use Rattle.plan_form.specs.declared.plans.Plan.{Plan}
 use Rattle.broker_core.specs.Readings.{reading}
 use Rattle.world_core.specs.declared.traces.Trace.{Trace}
 use Rattle.world_core.specs.Deeds.{RunLogs, Try, before, committed, has_commit, in_run, log_of, marks_at}
-use Rattle.world_core.specs.Legal.{base_of, in_plan}
+use Rattle.world_core.specs.Legal.{base_of}
 use Rattle.world_core.specs.Pasts.{OpenedWith}
 use Rattle.world_core.specs.Readings.{IsLegal, gated_log}
 use Rattle.world_core.specs.Walks.{opened_log}
-use Rattle.world_facts.specs.Earlier.{Earlier, WereLeftOrRetired}
+use Rattle.world_facts.specs.Earlier.{Earlier}
 use Rattle.repository_log.specs.Logs.{knows, marks}
 use Rattle.serial_law.proofs.SameRuns.{before-same, committed-same}
 use Rattle.serial_law.proofs.SerialRuns.{Placed, placed}
@@ -36,7 +35,7 @@ use Rattle.serial_law.proofs.WholeLemmas.{committed-whole}
 use Rattle.serial_law.specs.Runs.{Position, log_at, olds_at, run_at, whole_at}
 use Rattle.serial_law.specs.Serial.{HasValue, HoldsBefore}
 use Rattle.serial_law.specs.Serials.{AreLate, olds_in, run_in, whole_in}
-use Rattle.serial_law.specs.Wholes.{whole_log, whole_run}
+use Rattle.serial_law.specs.Wholes.{whole_log}
 use Rattle.run_rounds.proofs.KeptLemmas.{log-begins}
 use Rattle.run_command.specs.Sights.{SeeFinishedRuns, WasCommitted}
 

@@ -1,5 +1,5 @@
 -- What the finals of a report are if a node of the plan couldn't be opened, or an attempt's home isn't of the plan.
-use Rattle.std.specs.Prelude.{◌≡◌, ℕ, true, false, List, [], reverse}
+use Rattle.std.specs.Prelude.{◌≡◌, ℕ, true, false, [], reverse}
 use Rattle.pseudo_time.specs.Nodes.{repository}
 use Rattle.pseudo_time.specs.StampParts.{StampParts}
 use Rattle.value_form.specs.declared.objects.ObjectId.{ObjectId}
