@@ -69,7 +69,7 @@ if command -v script > /dev/null; then
   check terminal './swallow data retire 1 9' 70 "Nothing was done: add '--yes' if this is wanted"
   check terminal './swallow data retire 1 9 --yes && ./swallow data retire 1 9 --yes' 8 "'old mark': take a greater clock"
   check terminal './swallow data retire 1 9 < /dev/null' 8 'swallow: warning: clock 9 is above all'
-  check terminal './swallow doubt asof 2 99' 8 "'undecided': 'settle' the repositories"
+  check terminal './swallow doubt asof 1 99' 8 "'undecided': 'settle' the repositories"
 else
   echo "skipped: a terminal (script isn't here)"
 fi

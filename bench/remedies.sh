@@ -7,6 +7,7 @@ work=$(mktemp -d -p /dev/shm 2> /dev/null || mktemp -d) || exit 1
 trap 'rm -rf "$work"' EXIT
 cd "$work" || exit 1
 right=0 wrong=0
+shopt -s lastpipe # so that a check at the end of a pipe counts
 
 # Runs `swallow WORD ..` with standard input: it has to have this status, and to print this text on one of its outputs.
 check() {
