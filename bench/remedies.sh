@@ -122,7 +122,7 @@ unset="swallow: warning: line 7: 'balanse' is set nowhere in its script, so its 
 plan 1 1 'broker 1 home 1 timeout 5 tries 3; read balance 1.1; write 1.1 balanse' | says "a misspelt name" 0 "$unset" warned run
 plan 1 1 'broker 1 home 1 timeout 5 tries 3; read balance 1.1; write 1.1 balanse' | says "the same with --quiet" 0 "" warned run --quiet
 plan 2 1 'broker 1 home 1 timeout 5 tries 3; read balance 1.1; write 1.1 balance' | says "the name as it is" 0 "" warned run
-plan 3 1 'broker 1 home 1 timeout 5 tries 3; write 1.1 given(balanse, nothing)' | says "a name that is meant to be nothing" 0 "" warned run
+plan 3 1 'broker 1 home 1 timeout 5 tries 3; write 1.1 given(given(balanse, nothing), nothing)' | says "a name that is meant to be nothing" 0 "" warned run
 plan 4 1 'broker 1 home 1 timeout 5 tries 3; let a = "balanse" & "\""; repeat len(a); let b1 = given(b1, 0) + 1; end; write 1[b1] a' |
   says "texts, words of the language and names that are set" 0 "" warned run
 opens='home 1 timeout 5 tries 3; write 1.1 100' adds='home 1 timeout 5 tries 3; read a 1.1; write 1.1 given(a, 0) + 1'

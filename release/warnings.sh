@@ -12,7 +12,8 @@ plan_warnings() {
     }
     # The names that an expression uses, but for those that `given` has a default for.
     function use(text) {
-      gsub(/given *\( *[a-z][a-z0-9_]*/, "given(", text)
+      gsub(/given *\( */, "?(", text)
+      gsub(/[?]\([a-z][a-z0-9_]*/, "?(", text)
       while (match(text, /[a-z][a-z0-9_]*/)) {
         name = substr(text, RSTART, RLENGTH)
         text = substr(text, RSTART + RLENGTH)
