@@ -71,12 +71,12 @@ module _ (settled : StampParts → Option Bool) (t : TimeParts) where
   all-settled : (m : List Mark) → first_among settled t m ≡ None → AllSettled m
   unfolding first_among
   all-settled [] e o x v h = absurd h
-  all-settled (Put a y w ∷ m) e o x v h = by (is_unsettled settled t y) refl e h
+  all-settled (Put a y w ∷ m) e o x v h = by (λ n j. all-settled m n o x v j) (is_unsettled settled t y) refl e h
     where
-      by : (b : Bool) → is_unsettled settled t y ≡ b → (if b then Some (lesser (start-at a y) (first_among settled t m)) else first_among settled t m) ≡ None → Has (Put o x v) (Put a y w ∷ m) → is_unsettled settled t x ≡ false
-      by true k n j = absurd (false≢true (none-some (lesser (start-at a y) (first_among settled t m)) n))
-      by false k n (inl i) = let same : y ≡ x = cc i in ap (is_unsettled settled t) (sym same) ∙ k
-      by false k n (inr j) = all-settled m n o x v j
+      by : (first_among settled t m ≡ None → Has (Put o x v) m → is_unsettled settled t x ≡ false) → (b : Bool) → is_unsettled settled t y ≡ b → (if b then Some (lesser (start-at a y) (first_among settled t m)) else first_among settled t m) ≡ None → Has (Put o x v) (Put a y w ∷ m) → is_unsettled settled t x ≡ false
+      by later true k n j = absurd (false≢true (none-some (lesser (start-at a y) (first_among settled t m)) n))
+      by later false k n (inl i) = let same : y ≡ x = cc i in ap (is_unsettled settled t) (sym same) ∙ k
+      by later false k n (inr j) = later n j
   all-settled (Stretch a y ∷ m) e o x v (inl i) = absurd (cc i)
   all-settled (Stretch a y ∷ m) e o x v (inr h) = all-settled m e o x v h
   all-settled (Settle s c ∷ m) e o x v (inl i) = absurd (cc i)
@@ -101,6 +101,10 @@ module _ (settled : StampParts → Option Bool) (t : TimeParts) where
       ap (λ (q : Start). is_lt (start_cmp q s)) (λ j. start-at (object j) (start j)) ∙ low
   with-head a y w s m low rest o x v (inr h) u = rest o x v h u
 
+  unmet : (a : ObjectId) (y : TimeParts) (w : Value) (s : Start) (m : List Mark) → is_unsettled settled t y ≡ false → NoneBefore s m → NoneBefore s (Put a y w ∷ m)
+  unmet a y w s m k rest o x v (inl i) u = let same : y ≡ x = cc i in absurd (true≢false (sym u ∙ (ap (is_unsettled settled t) (sym same) ∙ k)))
+  unmet a y w s m k rest o x v (inr h) u = rest o x v h u
+
   skip : (f : Mark) (s : Start) (m : List Mark) → ((o : ObjectId) (x : TimeParts) (v : Value) → f ≡ Put o x v → ⊥) → IsLeast s m → IsLeast s (f ∷ m)
   skip f s m other l = record { value = l.value; has = inr l.has; bad = l.bad; least = rest }
     where
@@ -111,18 +115,15 @@ module _ (settled : StampParts → Option Bool) (t : TimeParts) where
   is-least : (m : List Mark) (s : Start) → first_among settled t m ≡ Some s → IsLeast s m
   unfolding first_among
   is-least [] s e = absurd (false≢true (none-some s (sym e)))
-  is-least (Put a y w ∷ m) s e = by (is_unsettled settled t y) refl e
+  is-least (Put a y w ∷ m) s e = by (λ z q. is-least m z q) (is_unsettled settled t y) refl e
     where
-      p : Start
-      p = start-at a y
-
-      pick : (z : Start) → first_among settled t m ≡ Some z → is_unsettled settled t y ≡ true → (c : Bool) → is_lt (start_cmp z (start-at a y)) ≡ c → Some (if c then z else start-at a y) ≡ Some s → IsLeast s (Put a y w ∷ m)
-      pick z q k true c e =
-          let l = is-least m z q in
+      pick : ((z : Start) → first_among settled t m ≡ Some z → IsLeast z m) → (z : Start) → first_among settled t m ≡ Some z → is_unsettled settled t y ≡ true → (c : Bool) → is_lt (start_cmp z (start-at a y)) ≡ c → Some (if c then z else start-at a y) ≡ Some s → IsLeast s (Put a y w ∷ m)
+      pick rest z q k true c e =
+          let l = rest z q in
           subst (λ (x : Start). IsLeast x (Put a y w ∷ m)) (some-one _ _ e)
           (record { value = l.value; has = inr l.has; bad = l.bad; least = with-head a y w z m (not-back start_cmp start-total (start-at a y) z c) l.least })
-      pick z q k false c e =
-          let l = is-least m z q in
+      pick rest z q k false c e =
+          let l = rest z q in
           subst (λ (x : Start). IsLeast x (Put a y w ∷ m)) (some-one _ _ e)
           (record {
             value = w;
@@ -131,8 +132,8 @@ module _ (settled : StampParts → Option Bool) (t : TimeParts) where
             least = with-head a y w (start-at a y) m (not-itself start_cmp start-total (start-at a y)) (λ o x v h u. not-below start_cmp start-total (start-at o x) z (start-at a y) (l.least o x v h u) c);
           })
 
-      on : is_unsettled settled t y ≡ true → (f : Option Start) → first_among settled t m ≡ f → Some (lesser (start-at a y) f) ≡ Some s → IsLeast s (Put a y w ∷ m)
-      on k None q e =
+      on : ((z : Start) → first_among settled t m ≡ Some z → IsLeast z m) → is_unsettled settled t y ≡ true → (f : Option Start) → first_among settled t m ≡ f → Some (lesser (start-at a y) f) ≡ Some s → IsLeast s (Put a y w ∷ m)
+      on rest k None q e =
           subst (λ (x : Start). IsLeast x (Put a y w ∷ m)) (some-one _ _ e)
           (record {
             value = w;
@@ -140,17 +141,11 @@ module _ (settled : StampParts → Option Bool) (t : TimeParts) where
             bad = k;
             least = with-head a y w (start-at a y) m (not-itself start_cmp start-total (start-at a y)) (λ o x v h u. absurd (true≢false (sym u ∙ all-settled m q o x v h)));
           })
-      on k (Some z) q e = pick z q k (is_lt (start_cmp z (start-at a y))) refl e
+      on rest k (Some z) q e = pick rest z q k (is_lt (start_cmp z (start-at a y))) refl e
 
-      by : (b : Bool) → is_unsettled settled t y ≡ b → (if b then Some (lesser (start-at a y) (first_among settled t m)) else first_among settled t m) ≡ Some s → IsLeast s (Put a y w ∷ m)
-      by true k e = on k (first_among settled t m) refl e
-      by false k e =
-          let l = is-least m s e in
-          record { value = l.value; has = inr l.has; bad = l.bad; least = unmet }
-        where
-          unmet : NoneBefore s (Put a y w ∷ m)
-          unmet o x v (inl i) u = let same : y ≡ x = cc i in absurd (true≢false (sym u ∙ (ap (is_unsettled settled t) (sym same) ∙ k)))
-          unmet o x v (inr h) u = (is-least m s e).least o x v h u
+      by : ((z : Start) → first_among settled t m ≡ Some z → IsLeast z m) → (b : Bool) → is_unsettled settled t y ≡ b → (if b then Some (lesser (start-at a y) (first_among settled t m)) else first_among settled t m) ≡ Some s → IsLeast s (Put a y w ∷ m)
+      by rest true k e = on rest k (first_among settled t m) refl e
+      by rest false k e = let l = rest s e in record { value = l.value; has = inr l.has; bad = l.bad; least = unmet a y w s m k l.least }
   is-least (Stretch a y ∷ m) s e = skip (Stretch a y) s m (λ o x v i. absurd (cc i)) (is-least m s e)
   is-least (Settle q c ∷ m) s e = skip (Settle q c) s m (λ o x v i. absurd (cc i)) (is-least m s e)
   is-least (Floor z ∷ m) s e = skip (Floor z) s m (λ o x v i. absurd (cc i)) (is-least m s e)
@@ -174,7 +169,7 @@ first-is m t s e = record { stands = stands (some_put here s.object m) refl; fir
 
     stands : (b : Bool) → some_put here s.object m ≡ b → some_put here s.object m ≡ true
     stands true k = k
-    stands false k = absurd (true≢false (sym (and-both l.bad (ap (λ (c : Bool). not (c || c)) (lt-irreflexive s.start))) ∙ passes-none here s.object m s.start l.value k l.has))
+    stands false k = absurd (true≢false (sym (and-both (is_unsettled (settle_of m) t s.start) (not (lt s.start s.start || lt s.start s.start)) l.bad (ap (λ (c : Bool). not (c || c)) (lt-irreflexive s.start))) ∙ passes-none here s.object m s.start l.value k l.has))
 
     first : some_put (λ x. is_unsettled (settle_of m) t x && lt x s.start) s.object m ≡ false
     first =

@@ -37,7 +37,7 @@ logs-in cs = map (λ (c : Complete). c.log) cs
 current-last : (rest pre : List (List Effect)) (u found : ℕ) → length pre ≡ suc u →
     log_at (pre ++ rest) (current_from found (suc u) rest) ≡ last-of (log_at (pre ++ rest) found) (logs-in (complete_from (suc u) rest))
 current-last [] pre u found e = refl
-current-last (log ∷ rest) pre u found e = by (has_whole log)
+current-last (log ∷ rest) pre u found e = by (λ f long. current-last rest (pre ++ log ∷ []) (suc u) f long) (has_whole log)
   where
     all : (pre ++ log ∷ []) ++ rest ≡ pre ++ log ∷ rest
     all = append_assoc pre (log ∷ []) rest
@@ -45,18 +45,19 @@ current-last (log ∷ rest) pre u found e = by (has_whole log)
     long : length (pre ++ log ∷ []) ≡ suc (suc u)
     long = let n = length-append pre (log ∷ []) in omega (arith, n, e)
 
-    next : (f : ℕ) → log_at (pre ++ log ∷ rest) (current_from f (suc (suc u)) rest) ≡ last-of (log_at (pre ++ log ∷ rest) f) (logs-in (complete_from (suc (suc u)) rest))
-    next f =
+    next-at : ((f : ℕ) → length (pre ++ log ∷ []) ≡ suc (suc u) → log_at ((pre ++ log ∷ []) ++ rest) (current_from f (suc (suc u)) rest) ≡ last-of (log_at ((pre ++ log ∷ []) ++ rest) f) (logs-in (complete_from (suc (suc u)) rest))) → (f : ℕ) → log_at (pre ++ log ∷ rest) (current_from f (suc (suc u)) rest) ≡ last-of (log_at (pre ++ log ∷ rest) f) (logs-in (complete_from (suc (suc u)) rest))
+    next-at later f =
         subst (λ (l : List (List Effect)). log_at l (current_from f (suc (suc u)) rest) ≡ last-of (log_at l f) (logs-in (complete_from (suc (suc u)) rest))) all
-        (current-last rest (pre ++ log ∷ []) (suc u) f long)
+        (later f long)
 
     here : log_at (pre ++ log ∷ rest) (suc u) ≡ log
     here = subst (λ (n : ℕ). log_at (pre ++ log ∷ rest) n ≡ log) e (at-end pre log rest)
 
-    by : (b : Bool) → log_at (pre ++ log ∷ rest) (current_from (if b then suc u else found) (suc (suc u)) rest)
+    by : ((f : ℕ) → length (pre ++ log ∷ []) ≡ suc (suc u) → log_at ((pre ++ log ∷ []) ++ rest) (current_from f (suc (suc u)) rest) ≡ last-of (log_at ((pre ++ log ∷ []) ++ rest) f) (logs-in (complete_from (suc (suc u)) rest)))
+        → (b : Bool) → log_at (pre ++ log ∷ rest) (current_from (if b then suc u else found) (suc (suc u)) rest)
         ≡ last-of (log_at (pre ++ log ∷ rest) found) (logs-in (if b then record { volume = suc u; log = log } ∷ complete_from (suc (suc u)) rest else complete_from (suc (suc u)) rest))
-    by true = next (suc u) ∙ ap (λ (l : List Effect). last-of l (logs-in (complete_from (suc (suc u)) rest))) here
-    by false = next found
+    by later true = next-at later (suc u) ∙ ap (λ (l : List Effect). last-of l (logs-in (complete_from (suc (suc u)) rest))) here
+    by later false = next-at later found
 
 -- the log of the current volume is that of the last complete one
 node-last : (first : List Effect) (rest : List (List Effect)) → node_log (first ∷ rest) ≡ last-of first (logs-in (complete (first ∷ rest)))
@@ -81,15 +82,12 @@ more-complete (suc v) [] log some = by (has_whole log)
     by : (b : Bool) → logs-in (if b then record { volume = suc v; log = log } ∷ [] else []) ≡ if-whole b log
     by true = refl
     by false = refl
-more-complete v (x ∷ xs) log some = by (is_complete v x)
+more-complete v (x ∷ xs) log some = by (more-complete (suc v) xs log (omega arith)) (is_complete v x)
   where
-    next : logs-in (complete_from (suc v) (xs ++ log ∷ [])) ≡ logs-in (complete_from (suc v) xs) ++ if-whole (has_whole log) log
-    next = more-complete (suc v) xs log (omega arith)
-
-    by : (b : Bool) → logs-in (if b then record { volume = v; log = x } ∷ complete_from (suc v) (xs ++ log ∷ []) else complete_from (suc v) (xs ++ log ∷ []))
+    by : logs-in (complete_from (suc v) (xs ++ log ∷ [])) ≡ logs-in (complete_from (suc v) xs) ++ if-whole (has_whole log) log → (b : Bool) → logs-in (if b then record { volume = v; log = x } ∷ complete_from (suc v) (xs ++ log ∷ []) else complete_from (suc v) (xs ++ log ∷ []))
         ≡ logs-in (if b then record { volume = v; log = x } ∷ complete_from (suc v) xs else complete_from (suc v) xs) ++ if-whole (has_whole log) log
-    by true = ap (λ (l : List (List Effect)). x ∷ l) next
-    by false = next
+    by next true = ap (λ (l : List (List Effect)). x ∷ l) next
+    by next false = next
 
 module _ (cs : List Earlier) (r : ℕ) (at : TimeParts) (front : List (List Effect)) (log : List Effect) (some : 1 ≤ length front) (left : WereLeft cs r (front ++ [] ∷ [])) where
   -- the complete ones so far

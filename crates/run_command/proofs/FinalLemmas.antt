@@ -9,7 +9,7 @@ use Rattle.pseudo_time.specs.declared.nodes.NodeId.{NodeId}
 use Rattle.effect_form.specs.declared.effects.Effect.{Effect}
 use Rattle.plan_form.specs.declared.plans.Plan.{Plan}
 use Rattle.broker_core.specs.Readings.{reading}
-use Rattle.broker_laws.proofs.TestLemmas.{and-both}
+use Rattle.object_history.proofs.BoolLemmas.{and-both}
 use Rattle.world_core.specs.declared.traces.Trace.{Trace}
 use Rattle.world_core.specs.Deeds.{committed, has_commit, has_learned, in_run, log_of, some_of}
 use Rattle.world_core.specs.Legal.{base_of, in_plan}
@@ -48,7 +48,7 @@ module _ (plan : Plan) (t : Trace) (empty : (n : NodeId) → in_plan plan n ≡ 
   some-learned s away is =
       let some = if-not (in_run (run_in plan t) s.home) (has_commit s (log_of (run_in plan t) s.home)) (some_of plan.repositories (λ r. has_learned s (log_of (run_in plan t) r))) true away is in
       let r = some-is plan.repositories (λ r. has_learned s (log_of (run_in plan t) r)) some in
-      (r.0, and-both (le-leb 1 r.0 r.1) (le-leb r.0 plan.repositories r.2), r.3)
+      (r.0, and-both _ _ (le-leb 1 r.0 r.1) (le-leb r.0 plan.repositories r.2), r.3)
 
   pub finals-of-opened : AreFinalsOfOpened plan t
   finals-of-opened = record {

@@ -26,11 +26,11 @@ falls-is n (Tick moment) h = absurd (false≢true h)
 
 some-down : (n : NodeId) (es : List Entry) → list_any (falls n) es ≡ true → (cause : DownCause) × Has (Down n cause) es
 some-down n [] h = absurd (false≢true h)
-some-down n (e ∷ es) h = by (or_cases (falls n e) (list_any (falls n) es) h)
+some-down n (e ∷ es) h = by (λ k. some-down n es k) (or_cases (falls n e) (list_any (falls n) es) h)
   where
-    by : (falls n e ≡ true) ⊎ (list_any (falls n) es ≡ true) → (cause : DownCause) × Has (Down n cause) (e ∷ es)
-    by (inl k) = let f = falls-is n e k in (f.0, inl f.1)
-    by (inr k) = let f = some-down n es k in (f.0, inr f.1)
+    by : (list_any (falls n) es ≡ true → (cause : DownCause) × Has (Down n cause) es) → (falls n e ≡ true) ⊎ (list_any (falls n) es ≡ true) → (cause : DownCause) × Has (Down n cause) (e ∷ es)
+    by later (inl k) = let f = falls-is n e k in (f.0, inl f.1)
+    by later (inr k) = let f = later k in (f.0, inr f.1)
 
 every-down : (es : List Entry) → list_all is_down es ≡ true → Every (λ e. is_down e ≡ true) es
 every-down [] h = tt
@@ -38,11 +38,11 @@ every-down (e ∷ es) h = (and-left (is_down e) (list_all is_down es) h, every-d
 
 all-down : (es : List Entry) → Every (λ e. is_down e ≡ true) es → list_all is_down es ≡ true
 all-down [] h = refl
-all-down (e ∷ es) h = and-both h.0 (all-down es h.1)
+all-down (e ∷ es) h = and-both (is_down e) (list_all is_down es) h.0 (all-down es h.1)
 
 -- the test holds just if the node wasn't opened
 pub unopened-is : (es : List Entry) (n : NodeId) → tells_unopened n es ≡ true → WasNotOpened es n
 unopened-is es n h = (some-down n es (and-right (list_all is_down es) (list_any (falls n) es) h), every-down es (and-left (list_all is_down es) (list_any (falls n) es) h))
 
 pub unopened-of : (es : List Entry) (n : NodeId) → WasNotOpened es n → tells_unopened n es ≡ true
-unopened-of es n h = and-both (all-down es h.1) (any-has (falls n) es (Down n h.0.0) h.0.1 (same_node-refl n))
+unopened-of es n h = and-both (list_all is_down es) (list_any (falls n) es) (all-down es h.1) (any-has (falls n) es (Down n h.0.0) h.0.1 (same_node-refl n))

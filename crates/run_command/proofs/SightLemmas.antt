@@ -29,7 +29,7 @@ use Rattle.world_core.specs.Pasts.{OpenedWith}
 use Rattle.world_core.specs.Readings.{IsLegal, gated_log}
 use Rattle.world_core.specs.Walks.{opened_log}
 use Rattle.world_facts.specs.Earlier.{Earlier, WereLeftOrRetired}
-use Rattle.repository_core.specs.Logs.{knows, marks}
+use Rattle.repository_log.specs.Logs.{knows, marks}
 use Rattle.serial_law.proofs.SameRuns.{before-same, committed-same}
 use Rattle.serial_law.proofs.SerialRuns.{Placed, placed}
 use Rattle.serial_law.proofs.WholeLemmas.{committed-whole}

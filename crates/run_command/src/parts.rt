@@ -70,11 +70,17 @@ pub fn takes_part(trace: &Trace, number: u8) -> bool
     is_among(trace.opened.as_slice(), NodeId::repository(number))
 }
 
+// Whether nothing but Downs happened, and one is the node's.
+fn tells_unopened(entries: &[Entry], node: NodeId) -> bool
+    ensures { result ≡ spec.tells_unopened node entries.now }
+{
+    all_down(entries) && some_falls(entries, node)
+}
+
 /// Whether the repository of this number is a node of the run that couldn't be opened, so that no act was
 /// run.
 pub fn was_not_opened(trace: &Trace, number: u8) -> bool
     ensures { IsTrue result ↔ WasNotOpened trace.now.entries (repository number) }
 {
-    let entries = trace.entries.as_slice();
-    all_down(entries) && some_falls(entries, NodeId::repository(number))
+    tells_unopened(trace.entries.as_slice(), NodeId::repository(number))
 }
