@@ -8,7 +8,7 @@ export LC_ALL=C
 work=$(mktemp -d) || exit 1
 trap 'rm -rf "$work"' EXIT
 right=0 wrong=0
-pages=(README.md docs/*.md bench/README.md edits/README.md examples/README.md examples/*/README.md release/README.md)
+pages=(README.md docs/*.md crates/*/data/README.md bench/README.md edits/README.md examples/README.md examples/*/README.md release/README.md)
 
 check() {
   if [ "$1" -eq 0 ]; then right=$((right + 1)); else wrong=$((wrong + 1)); echo "WRONG $2"; fi

@@ -66,7 +66,10 @@ if command -v script > /dev/null; then
   check terminal 'sed "s/timeout 1 /timeout 1000 /" examples/settle/two.plan | ./swallow doubt run --messages 17; ./swallow doubt settle 2' 5 "each line 'open' says"
   check terminal './swallow doubt settle 2' 5 'run the same again' not
   check terminal 'mkdir -p six/broker-1-0 && ./swallow six run < examples/first.plan' 6 'docs/OPERATIONS.md'
-  check terminal './swallow data retire 1 9 && ./swallow data retire 1 9' 8 'says for each line what to do'
+  check terminal './swallow data retire 1 9' 70 "Nothing was done: add '--yes' if this is wanted"
+  check terminal './swallow data retire 1 9 --yes && ./swallow data retire 1 9 --yes' 8 "'old mark': take a greater clock"
+  check terminal './swallow data retire 1 9 < /dev/null' 8 'swallow: warning: clock 9 is above all'
+  check terminal './swallow doubt asof 1 99' 8 "'undecided': 'settle' the repositories"
 else
   echo "skipped: a terminal (script isn't here)"
 fi
@@ -124,6 +127,9 @@ data retire 1 2 3|'3': 'retire' takes no more words
 data watch 1 average|'average': expected a rule: count, sum or last
 data snapshot now|'now': $clock
 data settle 17|'17': expected how many repositories, 1 to 16
+data run --yes|'--yes' is no option of 'run'
+data history 17.1 --quiet|'17.1': $object
+data --quiet|'--quiet' is no command: expected one of run load session history retire watch asof audit snapshot settle votes
 TABLE
 
 # Faulty plans: the first faulty line, and what was expected there. It stands in the place of line 6 of this plan, or of another.

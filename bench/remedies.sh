@@ -7,6 +7,7 @@ work=$(mktemp -d -p /dev/shm 2> /dev/null || mktemp -d) || exit 1
 trap 'rm -rf "$work"' EXIT
 cd "$work" || exit 1
 right=0 wrong=0
+shopt -s lastpipe # so that a check at the end of a pipe counts
 
 # Runs `swallow WORD ..` with standard input: it has to have this status, and to print this text on one of its outputs.
 check() {
@@ -101,6 +102,51 @@ plan 1 1 "$write" | check "a run whose broker is lost" 0 "final 1.1 10" broker r
 rm broker/broker-1-0
 plan 2 1 "$other" | check "its acts stay open" 5 "open 1" broker run --ticks 5
 plan 3 1 "broker 1 home 1 timeout 5 tries 3 clock 9; write 1.1 20" | check "an act with a greater clock" 0 "final 1.1 20" broker run
+
+# Warnings, each of a plan in a file, and what to do so that there is none. Runs `swallow WORD ..` with the plan of the lines
+# on standard input: its status, and all that standard error has.
+says() {
+  local what=$1 status=$2 text=$3 got
+  cat > given.plan
+  timeout 120 "$top/swallow" "${@:4}" < given.plan > said 2> error
+  got=$?
+  if [ "$got" -eq "$status" ] && [ "$(cat error)" = "$text" ]; then
+    right=$((right + 1))
+  else
+    echo "WRONG $what: status $got, and not $status; says '$(cat error)', and not '$text'"
+    wrong=$((wrong + 1))
+  fi
+}
+
+unset="swallow: warning: line 7: 'balanse' is set nowhere in its script, so its value is nothing"
+plan 1 1 'broker 1 home 1 timeout 5 tries 3; read balance 1.1; write 1.1 balanse' | says "a misspelt name" 0 "$unset" warned run
+plan 1 1 'broker 1 home 1 timeout 5 tries 3; read balance 1.1; write 1.1 balanse' | says "the same with --quiet" 0 "" warned run --quiet
+plan 2 1 'broker 1 home 1 timeout 5 tries 3; read balance 1.1; write 1.1 balance' | says "the name as it is" 0 "" warned run
+plan 3 1 'broker 1 home 1 timeout 5 tries 3; write 1.1 given(given(balanse, nothing), nothing)' | says "a name that is meant to be nothing" 0 "" warned run
+plan 4 1 'broker 1 home 1 timeout 5 tries 3; let a = "balanse" & "\""; repeat len(a); let b1 = given(b1, 0) + 1; end; write 1[b1] a' |
+  says "texts, words of the language and names that are set" 0 "" warned run
+opens='home 1 timeout 5 tries 3; write 1.1 100' adds='home 1 timeout 5 tries 3; read a 1.1; write 1.1 given(a, 0) + 1'
+order="swallow: warning: act 1 (broker 1) writes 1.1, and act 2 (broker 2) reads it: they run at the same time. For an order, give both to one broker, or take two runs"
+plan 1 1 "broker 1 $opens" "broker 2 $adds" | says "an order that isn't kept" 0 "$order" order run
+plan 2 1 "broker 1 $opens" "broker 1 $adds" | says "one broker" 0 "" order run
+check "its order" 0 "final 1.1 101" order run < given.plan
+plan 3 1 "broker 1 $opens" | says "two runs: the first" 0 "" order run
+plan 4 1 "broker 2 ${adds/tries 3/tries 3 clock 9}" | says "two runs: the second" 0 "" order run
+check "their order" 0 "final 1.1 101" order run < given.plan
+plan 5 1 "broker 1 $adds" "broker 2 $adds" | says "acts that read what they write" 0 "" order run
+plan 1 1 "broker 1 $opens" | says "a folder to retire" 0 "" mark run
+: | says "a retirement above all clocks" 0 "swallow: warning: clock 9 is above all that the folder has (2 is enough). Each try below it will be refused at repository 1" mark retire 1 9
+plan 1 1 "broker 1 $opens" | says "another folder to retire" 0 "" enough run
+: | says "a retirement at the clock that is enough" 0 "" enough retire 1 2
+plan 2 1 "broker 1 $adds" | says "a run after it" 0 "" enough run
+check "it isn't refused" 0 "committed 1 withdrawn 0 failed 0 refused 0" enough run < given.plan
+
+# An overflow: other rules still work.
+plan 1 1 'broker 1 home 1 timeout 5 tries 3; write 1.1 9223372036854775807' 'broker 1 home 1 timeout 5 tries 3; write 1.1 1' |
+  check "two large versions" 0 "committed 2" large run
+check "their sum" 8 "swallow: overflow 1.1 2.1.1/1" large watch 1 sum
+check "their count" 0 "total 1.1 2.1.1/1 2" large watch 1 count
+check "the last one" 0 "total 1.1 2.1.1/1 1" large watch 1 last
 
 # Votes: two members down, and back.
 echo "swallow votes 1

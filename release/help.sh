@@ -18,12 +18,14 @@ help_swallow_main() {
 --workers W    how many threads, 1 to 16; default 1; votes has one and refuses this option
 --ticks T      the run ends after this many Ticks, when nothing is due, 0 to 1,000,000; default 10,000
 --messages N   the run ends after this many messages, 1 to 1,000,000; default 200,000
+--quiet        as last word of any command: no warnings
+--yes          as last word of 'retire': also at a clock above all that the folder has
 
 Status 0: each act has its outcome, each poll a decision. 1: no command. 2: no plan, no polls, or a run
 that the folder refuses. 3: standard input failed. 4: standard output failed. 5: an act has no outcome,
 a poll no decision, or a settle left a version in doubt. 6: a node is down (for votes: and a poll has no
 decision). 7: out of memory. 8: no retirement, total or map can be made. 70: the program couldn't be
-built or started.
+built or started, or 'retire' needs '--yes'.
 
 docs/COMMANDS.md has examples and says what to do; docs/FORMATS.md has the texts of plans and reports.
 TEXT

@@ -196,7 +196,7 @@ find_program() {
   fi
   program=$built
   is_built && remember built && return
-  [ ! -e "$shipped" ] || say "$differs, so the program has to be built"
+  [ ! -e "$shipped" ] || say "$differs, so the program has to be built ('git status' shows what was changed here, 'git checkout .' takes it back)"
   build
 }
 
@@ -248,21 +248,41 @@ start_before_a_reader() {
   status=$?
   case "$status ${2-}" in
   1\ *) say_usage "${2-}" ;;
+  "2 votes") say "'votes line L': the first line that isn't in the format (docs/COMMANDS.md, Votes)" ;;
   "2 session") say "each line 'swallow: session line L KIND' says at which line of the input, and what is wrong there (docs/COMMANDS.md)" ;;
   2\ *) say "for 'other plan' and 'old run': raise the number of 'run' in the plan's second line, or take another folder (docs/COMMANDS.md)" ;;
   "5 settle") say "each line 'open' says what it waits for: a deadline in seconds since 1970, or a home that isn't among these repositories (docs/COMMANDS.md)" ;;
   "5 session") say "an act has no outcome: send it in a batch again; '--ticks' and '--messages' set when a batch ends without an outcome (docs/COMMANDS.md)" ;;
   5\ *) say "run the same again; '--ticks' and '--messages' set when a run ends without an outcome (docs/COMMANDS.md)" ;;
-  6\ * | 8\ *) say "docs/COMMANDS.md says for each line what to do, docs/OPERATIONS.md for files that were lost or are full" ;;
+  6\ *)
+    say "'medium': see the file's own line, and run the same again. 'damaged': put back a copy of the folder. 'full': run the same again, or give the file pages by 'truncate -s' (docs/OPERATIONS.md)"
+    ;;
+  "8 retire") say "'undecided': 'settle' the repositories, or take a clock that isn't above the attempt's. 'old mark': take a greater clock. 'last volume': this repository can't be retired any more" ;;
+  "8 asof" | "8 snapshot") say "'undecided': 'settle' the repositories, or take a clock that isn't above the attempt's. 'last clock': give a clock" ;;
+  "8 watch") say "'overflow': the sum isn't a number of 64 bits. Other rules still work" ;;
+  8\ *) say "docs/COMMANDS.md says for each line what to do" ;;
   126\ *) return ;;
   esac
   exit "$status"
 }
 
-# Starts the program of a crate with the words after it. Some words are the starter's: those that ask for help, and `build` or
-# `--version` alone.
+# Takes the starter's own words off the end of `words`: `--quiet`, and `--yes` of a retirement.
+take_own_words() {
+  quiet="" yes=""
+  while [ "${#words[@]}" -gt 2 ]; do
+    case "${words[-1]} ${words[1]}" in
+    "--quiet "*) quiet=1 ;;
+    "--yes retire") yes=1 ;;
+    *) return ;;
+    esac
+    unset 'words[-1]'
+  done
+}
+
+# Starts the program of a crate with the words after it. Some words are the starter's: those that ask for help, `build` or
+# `--version` alone, and `--quiet` and `--yes` at the end.
 start() {
-  local words=("${@:2}")
+  local words=("${@:2}") quiet yes
   if asks_for_help "${words[@]}"; then
     name_program "$1"
     . "$top/release/help.sh" && "help_$1"
@@ -276,9 +296,16 @@ start() {
   fi
   find_program "$1" || exit 70
   if [ "$1" = swallow_main ]; then
+    take_own_words
     . "$top/release/words.sh"
     words_fault "${words[@]}"
-    [ -z "$fault" ] || say "$fault"
+    if [ -n "$fault" ]; then
+      say "$fault"
+    elif [ -z "$quiet" ]; then
+      case "${words[1]}" in
+      run | retire) . "$top/release/warnings.sh" && { warn_of "${words[@]}" || exit 70; } ;;
+      esac
+    fi
   fi
   trap '' XFSZ # the program gets a limit on the size of files as an error of its write
   [ ! -t 2 ] || start_before_a_reader "${words[@]}"
