@@ -1,4 +1,11 @@
 pub mod AttemptLemmas
+pub mod CommitLemmas
+pub mod DraftLemmas
+pub mod GiftLemmas
+pub mod ListLemmas
+pub mod PutLemmas
 pub mod StampLemmas
+pub mod TellLemmas
 pub mod ToldLemmas
 pub mod WorkedFolder
+pub mod WrittenLemmas

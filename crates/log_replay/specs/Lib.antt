@@ -1,2 +1,7 @@
+pub mod Commits
+pub mod Drafts
 pub mod Folders
+pub mod Puts
+pub mod Tellers
+pub mod Telling
 pub mod Tells

@@ -1,6 +1,14 @@
-//! When what is told of the stamps of a folder is what its logs say; it replays just where the run is serial.
+//! What the logs of a folder tell of each stamp: attempts with their scripts and answers, how they were decided, and their versions.
 #![tactic(auto)]
 
+mod commits;
+mod drafts;
+mod faults;
+mod gifts;
 mod laws;
+mod puts;
+mod tells;
 
+pub use faults::ToldFault;
 pub use laws::law_of_told;
+pub use tells::told_of;

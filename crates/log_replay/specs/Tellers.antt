@@ -1,0 +1,13 @@
+-- What the code has told so far, as a fact of the run.
+use Rattle.std.specs.Prelude.{List}
+use Rattle.world_core.specs.Deeds.{RunLogs, Try}
+use Rattle.log_replay.specs.declared.tells.Teller.{Teller}
+use Rattle.log_replay.specs.Telling.{AreDecided, AreTold, left_at, told_at}
+
+-- it knows which attempts are committed
+abbrev pub Knows : RunLogs → Teller → Type 0
+Knows k t = AreDecided k t.commits.items
+
+-- it has told of these tries
+abbrev pub HasTold : RunLogs → List Try → Teller → Type 0
+HasTold k ts t = AreTold k ts (told_at t.told) (left_at t.puts)

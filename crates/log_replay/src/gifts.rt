@@ -1,0 +1,77 @@
+//! Versions whose broker has no log.
+ghost use Rattle.std.specs.Prelude.{◌≡◌, ◌≤◌, [], true, Option, Some, None, length, IfOk, OnOk, cond};
+ghost use Rattle.std.specs.BTreeMap.{is_at};
+ghost use Rattle.std.specs.Global.{Vec};
+ghost use Rattle.pseudo_time.specs.StampParts.{StampParts, stamp_cmp};
+ghost use Rattle.world_core.specs.Deeds.{RunLogs};
+ghost use Rattle.script_replay.specs.declared.attempts.Put.{Put};
+ghost use Rattle.log_replay.specs.Folders.{items_of, log_at, HaveBrokers};
+ghost use Rattle.log_replay.specs.Telling as spec;
+
+use crate::commits::is_committed;
+use crate::faults::ToldFault;
+use effect_form::Effect;
+use object_history::Settles;
+use pseudo_time::Stamp;
+use script_replay::{Put, Told};
+use std::alloc::{AllocError, Global};
+use std::collections::BTreeMap;
+use value_form::Items;
+
+// Whether the broker with this number has no log.
+fn has_none(brokers: &[Vec<Effect>], number: u8) -> bool
+    requires low { 1 ≤ number }
+    requires within { number ≤ length brokers.now }
+    ensures { result ≡ true → log_at (items_of brokers.now) number ≡ [] }
+{
+    let place = usize::from(number) - 1;
+    brokers[place].as_slice().is_empty()
+}
+
+// Gives these versions, if their stamp is committed.
+fn give(
+    told: &mut BTreeMap<Stamp, Told>,
+    commits: &[Settles],
+    brokers: &[Vec<Effect>],
+    stamp: Stamp,
+    own: Vec<Put>,
+) -> Result<(), ToldFault>
+    requires { length brokers.now ≡ 16 }
+    ensures { (k : RunLogs) (old new : StampParts → Option (Vec Put)) → spec.AreDecided k commits.now →
+        HaveBrokers k (items_of brokers.now) → old stamp ≡ Some own →
+        ((s : StampParts) → new s ≡ cond (is_at (stamp_cmp stamp) s) None (old s)) →
+        spec.AreGiven k (spec.told_at told.old) old → OnOk result (spec.AreGiven k (spec.told_at told.new) new) }
+{
+    if own.as_slice().is_empty() {
+        return Ok(());
+    }
+    let _in_range = stamp.clock();
+    if !has_none(brokers, stamp.broker()) {
+        return Err(ToldFault::Untried(stamp));
+    }
+    if !is_committed(commits, stamp) {
+        return Ok(());
+    }
+    told.insert(stamp, Told::Given(stamp, Items::of(own)))?;
+    Ok(())
+}
+
+/// What is told, with the committed versions that are left.
+pub(crate) fn give_rest(
+    told: BTreeMap<Stamp, Told>,
+    puts: BTreeMap<Stamp, Vec<Put>>,
+    commits: &[Settles],
+    brokers: &[Vec<Effect>],
+) -> Result<BTreeMap<Stamp, Told>, ToldFault>
+    requires { length brokers.now ≡ 16 }
+    ensures { (k : RunLogs) → spec.AreDecided k commits.now → HaveBrokers k (items_of brokers.now) →
+        spec.AreGiven k (spec.told_at told) (spec.left_at puts) →
+        IfOk result (λ all. spec.AreGiven k (spec.told_at all) (λ s. None)) }
+{
+    let mut told = told;
+    let mut puts = puts;
+    while let Some((stamp, own)) = puts.pop_first() {
+        give(&mut told, commits, brokers, stamp, own)?;
+    }
+    Ok(told)
+}
