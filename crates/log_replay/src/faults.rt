@@ -1,5 +1,4 @@
 //! Why logs can't be told.
-use pseudo_time::Stamp;
 use std::alloc::{AllocError, AllocFailed};
 
 /// Why logs can't be told.
@@ -7,12 +6,9 @@ use std::alloc::{AllocError, AllocFailed};
 pub enum ToldFault {
     /// Memory for it ran out.
     NoMemory,
-    /// The text of this attempt's script is no script.
-    Script(Stamp),
-    /// Two attempts have this stamp.
-    Twice(Stamp),
-    /// A version has this stamp. The log of its broker isn't empty, and has no such attempt.
-    Untried(Stamp),
+    /// The log of the broker with this number has an attempt whose text is no script, or whose stamp an
+    /// attempt before it has, in this log or in that of a broker below.
+    Log(u8),
 }
 
 impl From<AllocError> for ToldFault {

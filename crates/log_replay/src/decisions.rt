@@ -1,0 +1,152 @@
+//! Attempts on whose decision the logs of repositories disagree.
+ghost use Rattle.std.specs.FinMap as finite;
+ghost use Rattle.std.specs.Prelude.{◌≡◌, ◌⊎◌, true, Some, IfOk, OnOk, List, ℕ, length, reverse};
+ghost use Rattle.pseudo_time.specs.Lists.{Every, Has};
+ghost use Rattle.effect_form.specs.declared.effects.Effect.{Effect as AnEffect};
+ghost use Rattle.effect_form.specs.declared.effects.Effect.TheVariants as effect;
+ghost use Rattle.pseudo_time.specs.declared.decisions.Decision.{Decision};
+ghost use Rattle.repository_log.specs.Logs as logs;
+ghost use Rattle.serial_model.specs.Questions.{Tree};
+ghost use Rattle.world_core.specs.Deeds.{RunLogs, in_run, log_of};
+ghost use Rattle.log_replay.specs.Decisions as spec;
+ghost use Rattle.log_replay.specs.Folders.{items_of, run_in};
+
+use effect_form::Effect;
+use object_history::Settles;
+use pseudo_time::Stamp;
+use repository_log::is_commit;
+use std::alloc::{AllocError, Global};
+
+/// What homes decided, as far as it was read.
+#[derive(Drop)]
+pub(crate) struct Rulings {
+    /// Whether they committed the attempt. What was decided first counts.
+    pub decided: Settles,
+    /// The least attempt on which logs disagree.
+    pub least: Option<Stamp>,
+}
+
+impl Rulings {
+    // The logs disagree on the attempt.
+    fn blame(&mut self, stamp: Stamp)
+        ensures decided { self.new.decided ≡ self.old.decided }
+        ensures there { spec.AtMost self.new.least stamp }
+        ensures least { (s : _) → spec.AtMost self.old.least s → spec.AtMost self.new.least s }
+        ensures one { (self.new.least ≡ Some stamp) ⊎ (self.new.least ≡ self.old.least) }
+    {
+        match self.least {
+            Some(least) if !(stamp < least) => {}
+            _ => self.least = Some(stamp),
+        }
+    }
+
+    // The log of this repository decides the attempt so.
+    fn decide(&mut self, repository: u8, stamp: Stamp, committed: bool) -> Result<(), AllocError>
+        ensures grown { OnOk result (spec.HasGrown self.old self.new) }
+        ensures kept { (k : RunLogs) (d : Decision) → in_run k repository ≡ true →
+            Has (effect.Decide stamp d) (log_of k repository) → committed ≡ logs.is_commit d →
+            spec.IsBased k self.old → OnOk result (spec.IsBased k self.new ×
+            spec.IsKept repository self.new.decided self.new.least (effect.Decide stamp d)) }
+    {
+        if stamp.home() != repository {
+            self.blame(stamp);
+            return Ok(());
+        }
+        match self.decided.get(stamp) {
+            None => self.decided.put(stamp, committed),
+            Some(before) => {
+                if before != committed {
+                    self.blame(stamp);
+                }
+                Ok(())
+            }
+        }
+    }
+
+    // The log of a repository says that the attempt was learned so.
+    fn learn(&mut self, stamp: Stamp, committed: bool)
+        ensures decided { self.new.decided ≡ self.old.decided }
+        ensures least { (s : _) → spec.AtMost self.old.least s → spec.AtMost self.new.least s }
+        ensures fits { spec.IsLearned self.new.decided self.new.least (effect.Learn stamp committed) }
+        ensures one { (self.new.least ≡ self.old.least) ⊎
+            ((self.new.least ≡ Some stamp) × (finite.get self.old.decided stamp ≡ Some committed → ⊥)) }
+    {
+        match self.decided.get(stamp) {
+            Some(before) if before == committed => {}
+            _ => self.blame(stamp),
+        }
+    }
+
+    // Reads what an effect of this repository's log decides.
+    fn read(&mut self, repository: u8, effect: &Effect) -> Result<(), AllocError>
+        ensures grown { OnOk result (spec.HasGrown self.old self.new) }
+        ensures based { (k : RunLogs) → in_run k repository ≡ true → Has effect.now (log_of k repository) →
+            spec.IsBased k self.old → OnOk result (spec.IsBased k self.new) }
+        ensures kept { OnOk result (spec.IsKept repository self.new.decided self.new.least effect.now) }
+    {
+        match effect {
+            Effect::Decide { stamp, decision } => {
+                self.decide(repository, *stamp, is_commit(*decision))
+            }
+            _ => Ok(()),
+        }
+    }
+
+    // Reads what the log of this repository decides.
+    fn read_log(&mut self, repository: u8, log: &[Effect]) -> Result<(), AllocError>
+        ensures grown { OnOk result (spec.HasGrown self.old self.new) }
+        ensures based { (k : RunLogs) → in_run k repository ≡ true → log_of k repository ≡ reverse log.now →
+            spec.IsBased k self.old → OnOk result (spec.IsBased k self.new) }
+        ensures kept { OnOk result (Every (spec.IsKept repository self.new.decided self.new.least) log.now) }
+    {
+        for effect in log {
+            self.read(repository, effect)?;
+        }
+        Ok(())
+    }
+
+    // Checks what the log of a repository learned.
+    fn check_log(&mut self, log: &[Effect])
+        ensures decided { self.new.decided ≡ self.old.decided }
+        ensures least { (s : _) → spec.AtMost self.old.least s → spec.AtMost self.new.least s }
+        ensures fits { Every (spec.IsLearned self.new.decided self.new.least) log.now }
+    {
+        for effect in log {
+            if let Effect::Learn { stamp, committed } = effect {
+                self.learn(*stamp, *committed);
+            }
+        }
+    }
+}
+
+// What the logs of repositories 1, 2 and so on decide. Each stands oldest first.
+fn rulings_of(alloc: Global, repositories: &[Vec<Effect>]) -> Result<Rulings, AllocError>
+    requires { length repositories.now ≡ 16 }
+{
+    let mut rulings = Rulings {
+        decided: Settles::new(alloc),
+        least: None,
+    };
+    for (place, log) in repositories.iter().enumerate() {
+        rulings.read_log(place as u8 + 1, log.as_slice())?;
+    }
+    Ok(rulings)
+}
+
+/// The least attempt on whose decision the logs of repositories 1 to 16 disagree: it was decided away from its home,
+/// or twice, as committed and as not, or it was learned as its home didn't decide it. None if there is none. Each log
+/// stands oldest first.
+pub fn first_misdecided(
+    alloc: Global,
+    repositories: &[Vec<Effect>],
+) -> Result<Option<Stamp>, AllocError>
+    requires { length repositories.now ≡ 16 }
+    ensures { IfOk result (λ first. (script : List ℕ → Tree) (brokers : List (List AnEffect)) →
+        spec.IsFirstMisdecided (run_in script (items_of repositories.now) brokers) first) }
+{
+    let mut rulings = rulings_of(alloc, repositories)?;
+    for log in repositories {
+        rulings.check_log(log.as_slice());
+    }
+    Ok(rulings.least)
+}
