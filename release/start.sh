@@ -250,6 +250,7 @@ start_before_a_reader() {
   2\ *) say "for 'other plan' and 'old run': raise the number of 'run' in the plan's second line, or take another folder (docs/COMMANDS.md)" ;;
   "5 settle") say "each line 'open' says what it waits for: a deadline in seconds since 1970, or a home that isn't among these repositories (docs/COMMANDS.md)" ;;
   5\ *) say "run the same again; '--ticks' and '--messages' set when a run ends without an outcome (docs/COMMANDS.md)" ;;
+  "8 replay") say "a file was damaged, lost or put in from elsewhere: docs/OPERATIONS.md, 'What replay finds', says what to do" ;;
   6\ * | 8\ *) say "docs/COMMANDS.md says for each line what to do, docs/OPERATIONS.md for files that were lost or are full" ;;
   126\ *) return ;;
   esac

@@ -1,16 +1,17 @@
 -- Versions that no attempt has are given, and all is told.
 use Rattle.std.proofs.Common.{◌≡◌, ◌⊎◌, inl, inr, ◌≤◌, ◌<◌, ◌-◌, ℕ, zero, suc, length, get_or, arith, Bool, true, false, List, [], ◌∷◌, ◌++◌, map, reverse, refl, sym, ◌∙◌, ap, subst, Option, Some, None}
-use Rattle.std.specs.Prelude.{cond, ◌==◌}
+use Rattle.std.specs.Prelude.{cond, IsSome, ◌==◌}
 use Rattle.std.proofs.lemmas.Bool.{eqb-true, false≢true, true≢false}
+use Rattle.std.proofs.lemmas.List.{length-append, reverse-append}
 use Rattle.std.specs.BTreeMap.{is_at}
 use Rattle.std.specs.Map.{lookup}
-use Rattle.std.specs.Ordering.{is_eq}
+use Rattle.std.specs.Ordering.{is_eq, is_gt, ordering_reverse}
 use Rattle.std.specs.Global.{Vec}
 use Rattle.pseudo_time.specs.Lists.{Every, Has}
 use Rattle.pseudo_time.specs.Nodes.{broker}
 use Rattle.pseudo_time.specs.StampParts.{StampParts, stamp_cmp}
-use Rattle.pseudo_time.proofs.OrderLemmas.{same_stamp-is, same_stamp-self}
-unfoldable use Rattle.pseudo_time.specs.Order.{same_stamp}
+use Rattle.pseudo_time.proofs.OrderLemmas.{is_less, same_stamp-is, same_stamp-self, stamp_cmp-total}
+unfoldable use Rattle.pseudo_time.specs.Order.{same_stamp, stamp_lt}
 use Rattle.effect_form.specs.declared.effects.Effect.{Effect}
 use Rattle.world_core.specs.Deeds.{RunLogs, Try, committed, find, written}
 use Rattle.log_replay.specs.Folders.{HaveBrokers, items_of, log_at}
@@ -23,6 +24,7 @@ use Rattle.script_replay.specs.declared.attempts.Told.TheVariants.{Given, Tried}
 use Rattle.log_replay.specs.Puts.{versions_in}
 use Rattle.log_replay.specs.Telling.{AreGiven, AreTold, IsTried}
 use Rattle.log_replay.specs.Tells.{HasPut, IsTold, Says}
+use Rattle.log_replay.specs.Untold.{IsFirstUntried, IsUntried}
 use Rattle.log_replay.proofs.WrittenLemmas.{find-none, none-has, put-written, written-put}
 
 -- ---- all attempts are told
@@ -99,6 +101,25 @@ module _ (k : RunLogs) (told : StampParts → Option Told) (puts rest : StampPar
   own-is : versions_of own.items ≡ written k stamp
   own-is = (before.left stamp own has).1
 
+  was-untold : told stamp ≡ None
+  was-untold = (before.left stamp own has).0
+
+  no-versions : (xs : List Put) → versions_of xs ≡ [] → xs ≡ []
+  no-versions [] e = refl
+  no-versions (x ∷ xs) e = absurd (cc e)
+
+  untried : find stamp k.tries ≡ None
+  untried = find-none stamp k.tries (λ u h e.
+      let w = before.tried u h in
+      let q : ◌≡◌ {A = Option Told} None (Some (Tried w.0)) = sym was-untold ∙ (ap told (sym e) ∙ w.1) in cc q)
+
+  some-put : (own.items ≡ [] → ⊥) → HasPut k stamp
+  some-put some = written-put k stamp (λ e. some (no-versions own.items (own-is ∙ e)))
+
+  -- its broker has a log
+  pub not-given : (own.items ≡ [] → ⊥) → (k.logs (broker stamp.broker) ≡ [] → ⊥) → IsUntried k stamp
+  not-given some there = record { put = some-put some; none = untried; there = there }
+
   -- it isn't told
   pub passed : (HasPut k stamp → (committed k stamp ≡ false) × (k.logs (broker stamp.broker) ≡ [])) → AreGiven k told rest
   passed h = record {
@@ -125,24 +146,12 @@ module _ (k : RunLogs) (told : StampParts → Option Told) (puts rest : StampPar
     abbrev gift : Told
     gift = Given stamp ps
 
-    was-untold : told stamp ≡ None
-    was-untold = (before.left stamp own has).0
-
-    no-versions : (xs : List Put) → versions_of xs ≡ [] → xs ≡ []
-    no-versions [] e = refl
-    no-versions (x ∷ xs) e = absurd (cc e)
-
-    untried : find stamp k.tries ≡ None
-    untried = find-none stamp k.tries (λ u h e.
-        let w = before.tried u h in
-        let q : ◌≡◌ {A = Option Told} None (Some (Tried w.0)) = sym was-untold ∙ (ap told (sym e) ∙ w.1) in cc q)
-
     is-gift : IsTold k gift
     is-gift = record {
       decided = c;
       untried = untried;
       lost = none;
-      some = written-put k stamp (λ e. some (no-versions own.items (own-is ∙ e)));
+      some = some-put some;
       puts = ap versions_of same ∙ own-is;
     }
 
@@ -214,6 +223,46 @@ empty-log logs n place log items b low high p is same e t =
 
 pub lost-log : (k : RunLogs) (logs : List (List Effect)) (n m : ℕ) → HaveBrokers k logs → m ≡ n → log_at logs m ≡ [] → k.logs (broker n) ≡ []
 lost-log k logs n m h e q = h n ∙ ap reverse (ap (log_at logs) (sym e) ∙ q)
+
+none-back : (xs : List Effect) → reverse xs ≡ [] → xs ≡ []
+none-back [] e = refl
+none-back (x ∷ xs) e =
+    let long = length-append (reverse xs) (x ∷ []) in
+    let none : length (reverse xs ++ x ∷ []) ≡ 0 = ap length (sym (reverse-append (x ∷ []) xs) ∙ e) in
+    absurd (omega (arith, long, none))
+
+pub there-log : (k : RunLogs) (logs : List (List Effect)) (n m : ℕ) → HaveBrokers k logs → m ≡ n → (log_at logs m ≡ [] → ⊥) → k.logs (broker n) ≡ [] → ⊥
+there-log k logs n m h e q z = q (ap (log_at logs) e ∙ none-back (log_at logs n) (sym (h n) ∙ z))
+
+pub some-log : (logs : List (Vec Effect)) (n place : ℕ) (log : Vec Effect) (items : List Effect) (b : Bool) → 1 ≤ n → n ≤ length logs → place ≡ n - 1 → log ≡ get_or logs place log → items ≡ log.items → b ≡ (length items == 0) → b ≡ false →
+    log_at (items_of logs) n ≡ [] → ⊥
+some-log logs n place log items b low high p is same e f z =
+    let next : n ≡ suc place = omega (arith, low, p) in
+    some items (sym e ∙ f) (same ∙ (sym (log-here logs place log (omega (arith, low, high, p)) is) ∙ (ap (log_at (items_of logs)) (sym next) ∙ z)))
+  where
+    some : (xs : List Effect) → (length xs == 0) ≡ false → xs ≡ [] → ⊥
+    some [] q w = true≢false q
+    some (x ∷ xs) q w = absurd (cc w)
+
+-- ---- the least of those that are left
+
+none-above : (k : RunLogs) (told : StampParts → Option Told) (puts : StampParts → Option (Vec Put)) → AreGiven k told puts → (t : StampParts) → puts t ≡ None → IsUntried k t → (o : Option Told) → told t ≡ o → ⊥
+none-above k told puts g t none v None e = v.there (g.done t e none v.put).1
+none-above k told puts g t none v (Some x) e = v.there (g.lost t x e v.none)
+
+pub first-untried : (k : RunLogs) (told : StampParts → Option Told) (puts : StampParts → Option (Vec Put)) → AreGiven k told puts → (s : StampParts) → ((t : StampParts) → stamp_lt t s ≡ true → puts t ≡ None) → IsUntried k s → IsFirstUntried k s
+first-untried k told puts g s below u = record { is = u; least = λ t low v. none-above k told puts g t (below t low) v (told t) refl }
+
+greater : (s t : StampParts) → stamp_lt t s ≡ true → is_gt (stamp_cmp s t) ≡ true
+unfolding stamp_lt
+greater s t low = ap is_gt (stamp_cmp-total.antisymm s t ∙ ap ordering_reverse (is_less (stamp_cmp t s) low))
+
+pub none-below : (get : StampParts → Option (Vec Put)) (s : StampParts) → ((q : StampParts) → IsSome (get q) → is_gt (stamp_cmp s q) ≡ false) → (t : StampParts) → stamp_lt t s ≡ true → get t ≡ None
+none-below get s bound t low = by (get t) refl
+  where
+    by : (o : Option (Vec Put)) → get t ≡ o → get t ≡ None
+    by None e = e
+    by (Some x) e = absurd (true≢false (sym (greater s t low) ∙ bound t (subst IsSome (sym e) refl)))
 
 -- nothing is left
 pub given-none : (k : RunLogs) (told : StampParts → Option Told) (puts : StampParts → Option (Vec Put)) → ((s : StampParts) → puts s ≡ None) → AreGiven k told puts → AreGiven k told (λ s. None)

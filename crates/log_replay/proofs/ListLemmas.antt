@@ -24,6 +24,7 @@ use Rattle.script_replay.specs.declared.attempts.Told.{Told}
 use Rattle.script_replay.specs.declared.attempts.Told.TheVariants.{Given, Tried}
 use Rattle.log_replay.specs.Telling.{AreGiven}
 use Rattle.log_replay.specs.Tells.{AreRising, HasPut, IsTold, Says, TellsAll}
+use Rattle.log_replay.specs.Untold.{GaveAll, Tells, TellsTries}
 
 abbrev Entry : Type 0
 Entry = StampParts × Told
@@ -97,21 +98,25 @@ rising (e ∷ es) h k = (
   rising es h.1 (λ f j. k f (inr j)),
 )
 
-module _ (k : RunLogs) (es : List Entry) (sorted : IsStrictlySortedBy stamp_cmp (keys_of es)) (given : AreGiven k (at_key es) (λ s. None)) where
+module _ (k : RunLogs) (es : List Entry) (sorted : IsStrictlySortedBy stamp_cmp (keys_of es)) where
   found : (e : Entry) → Has e es → at_key es e.0 ≡ Some e.1
   found e h = has-found es e sorted h
 
   listed : (s : StampParts) (x : Told) → at_key es s ≡ Some x → Has x (values_of es)
   listed s x h = value-has es s x (found-has es s x h)
 
-  pub all-told : TellsAll k (values_of es)
-  all-told = record {
+  pub all-tried : (puts : StampParts → Option (Vec Put)) → AreGiven k (at_key es) puts → TellsTries k (values_of es)
+  all-tried puts given = record {
     rising = rising es sorted (λ e h. (given.each e.0 e.1 (found e h)).0);
     each = every-value (IsTold k) es (λ e h. (given.each e.0 e.1 (found e h)).1);
     tried = λ t h. let w = given.tried t h in (w.0, listed t.stamp (Tried w.0) w.1, w.2);
-    given = gifts;
-    lost = gone;
   }
+
+  pub all-scripts : (puts : StampParts → Option (Vec Put)) → AreGiven k (at_key es) puts → HaveScripts (values_of es)
+  all-scripts puts given = every-value HasScript es (λ e h. given.scripts e.0 e.1 (found e h))
+
+  pub all-told : AreGiven k (at_key es) (λ s. None) → TellsAll k (values_of es)
+  all-told given = let tries = all-tried (λ s. None) given in record { rising = tries.rising; each = tries.each; tried = tries.tried; given = gifts; lost = gone }
     where
       gifts : (s : StampParts) → HasPut k s → committed k s ≡ true → (x : Told) × Has x (values_of es) × (stamp_of x ≡ s)
       gifts s p c = by (at_key es s) refl
@@ -127,5 +132,11 @@ module _ (k : RunLogs) (es : List Entry) (sorted : IsStrictlySortedBy stamp_cmp 
           by (Some x) e = given.lost s x e n
           by None e = (given.done s e refl p).1
 
-  pub all-scripts : HaveScripts (values_of es)
-  all-scripts = every-value HasScript es (λ e h. given.scripts e.0 e.1 (found e h))
+  -- what the code comes to
+  pub tells-so : (untried : Option StampParts) → GaveAll k (at_key es) untried → Tells k (values_of es) untried
+  tells-so None given = all-told given
+  tells-so (Some s) given = (given.1, all-tried given.0.0 given.0.1)
+
+  pub scripts-so : (untried : Option StampParts) → GaveAll k (at_key es) untried → HaveScripts (values_of es)
+  scripts-so None given = all-scripts (λ s. None) given
+  scripts-so (Some s) given = all-scripts given.0.0 given.0.1
