@@ -133,19 +133,11 @@ module _ (script : List ℕ → Tree) where
   mapped (x ∷ items) d (inl e) = inl (ap draft_parts e)
   mapped (x ∷ items) d (inr h) = inr (mapped items d h)
 
-  turned : (items : List Draft) (d : Draft) → Has d items → Has d (reverse items)
-  turned items d h = every-has-reverse items d h
-    where
-      every-has-reverse : (xs : List Draft) (x : Draft) → Has x xs → Has x (reverse xs)
-      every-has-reverse [] x h = h
-      every-has-reverse (y ∷ xs) x (inl e) = subst (Has x) (sym (reverse-append (y ∷ []) xs)) (has-right (reverse xs) (y ∷ []) x (inl e))
-      every-has-reverse (y ∷ xs) x (inr h) = subst (Has x) (sym (reverse-append (y ∷ []) xs)) (has-left (reverse xs) (y ∷ []) x (every-has-reverse xs x h))
+  pub reads-drafts : (ds : List Draft) (log : List Effect) → map draft_parts ds ≡ (read_off log).tries → ((t : books.Try) → Has t (tries (book log)) → Reads script t.task.script) → (d : Draft) → Has d ds → Reads script d.text
+  reads-drafts ds log e h d k = one-text (map draft_parts ds) (tries (book log)) (e ∙ read-tries log) h (draft_parts d) (mapped ds d k)
 
-  pub reads-drafts : (items : List Draft) (log : List Effect) → map draft_parts (reverse items) ≡ (read_off log).tries → ((t : books.Try) → Has t (tries (book log)) → Reads script t.task.script) → (d : Draft) → Has d items → Reads script d.text
-  reads-drafts items log e h d k = one-text (map draft_parts (reverse items)) (tries (book log)) (e ∙ read-tries log) h (draft_parts d) (mapped (reverse items) d (turned items d k))
-
-  pub drafts-are : (items : List Draft) (log : List Effect) → map draft_parts (reverse items) ≡ (read_off log).tries → map (draft_try script) (map draft_parts (reverse items)) ≡ map (attempt script) (tries (book log))
-  drafts-are items log e = ap (map (draft_try script)) (e ∙ read-tries log) ∙ try-attempts script (tries (book log))
+  pub drafts-are : (ds : List Draft) (log : List Effect) → map draft_parts ds ≡ (read_off log).tries → map (draft_try script) (map draft_parts ds) ≡ map (attempt script) (tries (book log))
+  drafts-are ds log e = ap (map (draft_try script)) (e ∙ read-tries log) ∙ try-attempts script (tries (book log))
 
 -- nothing is told of it
 pub not-told : {X : Type 0} (o : Option X) (b : Bool) → b ≡ is_some o → b ≡ false → o ≡ None
@@ -156,3 +148,26 @@ not-told (Some x) b e f = absurd (true≢false (sym e ∙ f))
 
 pub told-same : (k : RunLogs) (ts us : List Try) (told : StampParts → Option Told) (puts : StampParts → Option (Vec Put)) → ts ≡ us → AreTold k ts told puts → AreTold k us told puts
 told-same k ts us told puts e h = subst (λ (z : List Try). AreTold k z told puts) e h
+
+-- ---- which stamps are told
+
+-- one stamp more
+pub key-more : (ss : List StampParts) (told new : StampParts → Option Told) (stamp : StampParts) (y : Told) → ((s : StampParts) (x : Told) → told s ≡ Some x → Has s ss) →
+    ((s : StampParts) → new s ≡ cond (is_eq (stamp_cmp stamp s)) (Some y) (told s)) → (s : StampParts) (x : Told) → new s ≡ Some x → Has s (stamp ∷ ss)
+key-more ss told new stamp y keys news s x h = by (is_eq (stamp_cmp stamp s)) refl
+  where
+    is-stamp : is_eq (stamp_cmp stamp s) ≡ true → stamp ≡ s
+    unfolding same_stamp
+    is-stamp e = same_stamp-is stamp s e
+
+    by : (b : Bool) → is_eq (stamp_cmp stamp s) ≡ b → Has s (stamp ∷ ss)
+    by true e = inl (is-stamp e)
+    by false e = inr (keys s x (sym (off-stamp stamp s (Some y) (told s) e) ∙ (sym (news s) ∙ h)))
+
+-- something is told of it
+pub is-told : {X : Type 0} (o : Option X) (b : Bool) → b ≡ is_some o → b ≡ true → (x : X) × (o ≡ Some x)
+is-told None b e f = absurd (true≢false (sym f ∙ e))
+is-told (Some x) b e f = (x, refl)
+
+no-key : {X : Type 0} (o p : Option X) (x : X) → o ≡ p → o ≡ Some x → p ≡ Some x
+no-key o p x e f = sym e ∙ f

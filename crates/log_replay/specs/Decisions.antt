@@ -1,5 +1,5 @@
 -- Attempts on whose decision logs disagree.
-use Rattle.std.specs.Prelude.{◌≡◌, ◌⊎◌, ℕ, true, false, Bool, List, Option, Some, None}
+use Rattle.std.specs.Prelude.{◌≡◌, ◌⊎◌, ℕ, suc, true, false, Bool, List, [], ◌∷◌, reverse, Option, Some, None}
 use Rattle.std.specs.FinMap as finite
 use Rattle.pseudo_time.specs.Lists.{Every, Has}
 use Rattle.pseudo_time.specs.Order.{stamp_lt}
@@ -10,6 +10,7 @@ use Rattle.effect_form.specs.declared.effects.Effect.TheVariants.{Decide, Learn}
 use Rattle.object_history.specs.Kept.{Settled}
 use Rattle.repository_log.specs.Logs.{is_commit}
 use Rattle.world_core.specs.Deeds.{RunLogs, in_run, log_of}
+use Rattle.log_replay.specs.Folders.{log_at}
 use Rattle.log_replay.specs.declared.decisions.Rulings.{Rulings}
 
 -- it was decided away from its home
@@ -43,6 +44,11 @@ abbrev pub IsFirstMisdecided : RunLogs → Option StampParts → Type 0
 IsFirstMisdecided k None = (s : StampParts) → IsMisdecided k s → ⊥
 IsFirstMisdecided k (Some s) = IsMisdecided k s × ((t : StampParts) → stamp_lt t s ≡ true → IsMisdecided k t → ⊥)
 
+-- the run's sixteen repositories have these logs, oldest effect first
+pub record HaveLogs (k : RunLogs) (logs : List (List Effect)) : Type 0 where
+  pub count : k.repositories ≡ 16
+  pub are : (r : ℕ) → log_of k r ≡ reverse (log_at logs r)
+
 -- ---- on the way
 
 -- the least so far is at most this
@@ -65,7 +71,19 @@ pub record IsBased (k : RunLogs) (r : Rulings) : Type 0 where
   pub kept : (s : StampParts) (c : Bool) → finite.get r.decided s ≡ Some c → (d : Decision) × Has (Decide s d) (log_of k s.home) × (c ≡ is_commit d)
   pub least : (s : StampParts) → r.least ≡ Some s → IsMisdecided k s
 
+-- each decision of a home is kept, or the least so far is at most its stamp
+abbrev pub HasDecided : RunLogs → Rulings → Type 0
+HasDecided k r = (s : StampParts) (d : Decision) → Has (Decide s d) (log_of k s.home) → (AtMost r.least s → ⊥) → finite.get r.decided s ≡ Some (is_commit d)
+
 -- no decision was forgotten, and the least is no greater
 pub record HasGrown (old new : Rulings) : Type 0 where
   pub kept : (s : StampParts) (c : Bool) → finite.get old.decided s ≡ Some c → finite.get new.decided s ≡ Some c
   pub least : (s : StampParts) → AtMost old.least s → AtMost new.least s
+
+-- so of each of these logs, those of the repositories after this one
+abbrev pub AreKept : Settled → Option StampParts → ℕ → List (List Effect) → Type 0
+AreKept decided least n [] = Unit {0}
+AreKept decided least n (log ∷ logs) = Every (IsKept (suc n) decided least) log × AreKept decided least (suc n) logs
+
+abbrev pub AreLearned : Settled → Option StampParts → List (List Effect) → Type 0
+AreLearned decided least logs = Every (Every (IsLearned decided least)) logs

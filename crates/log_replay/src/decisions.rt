@@ -1,15 +1,15 @@
 //! Attempts on whose decision the logs of repositories disagree.
 ghost use Rattle.std.specs.FinMap as finite;
-ghost use Rattle.std.specs.Prelude.{◌≡◌, ◌⊎◌, true, Some, IfOk, OnOk, List, ℕ, length, reverse};
+ghost use Rattle.std.specs.Prelude.{◌≡◌, ◌⊎◌, true, false, Some, IfOk, OnOk, List, ℕ, length, reverse};
 ghost use Rattle.pseudo_time.specs.Lists.{Every, Has};
+ghost use Rattle.pseudo_time.specs.Order.{stamp_lt};
 ghost use Rattle.effect_form.specs.declared.effects.Effect.{Effect as AnEffect};
 ghost use Rattle.effect_form.specs.declared.effects.Effect.TheVariants as effect;
 ghost use Rattle.pseudo_time.specs.declared.decisions.Decision.{Decision};
 ghost use Rattle.repository_log.specs.Logs as logs;
-ghost use Rattle.serial_model.specs.Questions.{Tree};
 ghost use Rattle.world_core.specs.Deeds.{RunLogs, in_run, log_of};
 ghost use Rattle.log_replay.specs.Decisions as spec;
-ghost use Rattle.log_replay.specs.Folders.{items_of, run_in};
+ghost use Rattle.log_replay.specs.Folders.{items_of};
 
 use effect_form::Effect;
 use object_history::Settles;
@@ -26,18 +26,28 @@ pub(crate) struct Rulings {
     pub least: Option<Stamp>,
 }
 
+// The lesser of two stamps, if there are two.
+fn lesser(least: Option<Stamp>, stamp: Stamp) -> Stamp
+    ensures there { stamp_lt stamp result ≡ false }
+    ensures least { (s : _) → spec.AtMost least s → stamp_lt s result ≡ false }
+    ensures one { ((result ≡ stamp) × (spec.AtMost least stamp → ⊥)) ⊎ (least ≡ Some result) }
+{
+    match least {
+        Some(least) => { if stamp < least { stamp } else { least } }
+        None => stamp,
+    }
+}
+
 impl Rulings {
     // The logs disagree on the attempt.
     fn blame(&mut self, stamp: Stamp)
         ensures decided { self.new.decided ≡ self.old.decided }
         ensures there { spec.AtMost self.new.least stamp }
         ensures least { (s : _) → spec.AtMost self.old.least s → spec.AtMost self.new.least s }
-        ensures one { (self.new.least ≡ Some stamp) ⊎ (self.new.least ≡ self.old.least) }
+        ensures one { ((self.new.least ≡ Some stamp) × (spec.AtMost self.old.least stamp → ⊥)) ⊎
+            (self.new.least ≡ self.old.least) }
     {
-        match self.least {
-            Some(least) if !(stamp < least) => {}
-            _ => self.least = Some(stamp),
-        }
+        self.least = Some(lesser(self.least, stamp));
     }
 
     // The log of this repository decides the attempt so.
@@ -68,12 +78,27 @@ impl Rulings {
         ensures decided { self.new.decided ≡ self.old.decided }
         ensures least { (s : _) → spec.AtMost self.old.least s → spec.AtMost self.new.least s }
         ensures fits { spec.IsLearned self.new.decided self.new.least (effect.Learn stamp committed) }
-        ensures one { (self.new.least ≡ self.old.least) ⊎
-            ((self.new.least ≡ Some stamp) × (finite.get self.old.decided stamp ≡ Some committed → ⊥)) }
+        ensures based { (k : RunLogs) (r : ℕ) → in_run k r ≡ true →
+            Has (effect.Learn stamp committed) (log_of k r) → spec.HasDecided k self.old →
+            spec.IsBased k self.old → spec.IsBased k self.new }
     {
         match self.decided.get(stamp) {
             Some(before) if before == committed => {}
             _ => self.blame(stamp),
+        }
+    }
+
+    // Checks what an effect of a repository's log says was learned.
+    fn check(&mut self, effect: &Effect)
+        ensures decided { self.new.decided ≡ self.old.decided }
+        ensures least { (s : _) → spec.AtMost self.old.least s → spec.AtMost self.new.least s }
+        ensures fits { spec.IsLearned self.new.decided self.new.least effect.now }
+        ensures based { (k : RunLogs) (r : ℕ) → in_run k r ≡ true → Has effect.now (log_of k r) →
+            spec.HasDecided k self.old → spec.IsBased k self.old → spec.IsBased k self.new }
+    {
+        match effect {
+            Effect::Learn { stamp, committed } => self.learn(*stamp, *committed),
+            _ => {}
         }
     }
 
@@ -110,18 +135,20 @@ impl Rulings {
         ensures decided { self.new.decided ≡ self.old.decided }
         ensures least { (s : _) → spec.AtMost self.old.least s → spec.AtMost self.new.least s }
         ensures fits { Every (spec.IsLearned self.new.decided self.new.least) log.now }
+        ensures based { (k : RunLogs) (r : ℕ) → in_run k r ≡ true → log_of k r ≡ reverse log.now →
+            spec.HasDecided k self.old → spec.IsBased k self.old → spec.IsBased k self.new }
     {
         for effect in log {
-            if let Effect::Learn { stamp, committed } = effect {
-                self.learn(*stamp, *committed);
-            }
+            self.check(effect);
         }
     }
 }
 
-// What the logs of repositories 1, 2 and so on decide. Each stands oldest first.
+// What the logs of repositories 1 to 16 decide. Each stands oldest first.
 fn rulings_of(alloc: Global, repositories: &[Vec<Effect>]) -> Result<Rulings, AllocError>
     requires { length repositories.now ≡ 16 }
+    ensures kept { IfOk result (λ r. spec.AreKept r.decided r.least 0 (items_of repositories.now)) }
+    ensures based { (k : RunLogs) → spec.HaveLogs k (items_of repositories.now) → IfOk result (spec.IsBased k) }
 {
     let mut rulings = Rulings {
         decided: Settles::new(alloc),
@@ -133,6 +160,23 @@ fn rulings_of(alloc: Global, repositories: &[Vec<Effect>]) -> Result<Rulings, Al
     Ok(rulings)
 }
 
+// Checks what the logs of repositories 1 to 16 learned. Each stands oldest first.
+fn check_logs(rulings: Rulings, repositories: &[Vec<Effect>]) -> Rulings
+    requires length { length repositories.now ≡ 16 }
+    requires kept { spec.AreKept rulings.decided rulings.least 0 (items_of repositories.now) }
+    ensures decided { result.decided ≡ rulings.decided }
+    ensures least { (s : _) → spec.AtMost rulings.least s → spec.AtMost result.least s }
+    ensures learned { spec.AreLearned result.decided result.least (items_of repositories.now) }
+    ensures based { (k : RunLogs) → spec.HaveLogs k (items_of repositories.now) → spec.IsBased k rulings →
+        spec.IsBased k result }
+{
+    let mut rulings = rulings;
+    for log in repositories {
+        rulings.check_log(log.as_slice());
+    }
+    rulings
+}
+
 /// The least attempt on whose decision the logs of repositories 1 to 16 disagree: it was decided away from its home,
 /// or twice, as committed and as not, or it was learned as its home didn't decide it. None if there is none. Each log
 /// stands oldest first.
@@ -141,12 +185,10 @@ pub fn first_misdecided(
     repositories: &[Vec<Effect>],
 ) -> Result<Option<Stamp>, AllocError>
     requires { length repositories.now ≡ 16 }
-    ensures { IfOk result (λ first. (script : List ℕ → Tree) (brokers : List (List AnEffect)) →
-        spec.IsFirstMisdecided (run_in script (items_of repositories.now) brokers) first) }
+    ensures { IfOk result (λ first. (k : RunLogs) → spec.HaveLogs k (items_of repositories.now) →
+        spec.IsFirstMisdecided k first) }
 {
-    let mut rulings = rulings_of(alloc, repositories)?;
-    for log in repositories {
-        rulings.check_log(log.as_slice());
-    }
+    let rulings = rulings_of(alloc, repositories)?;
+    let rulings = check_logs(rulings, repositories);
     Ok(rulings.least)
 }

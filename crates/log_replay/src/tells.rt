@@ -126,7 +126,10 @@ impl Teller {
             text: _,
             live: _,
         } = drafts_of(alloc, log)?;
-        for draft in tries {
+        // From the last place on, so that each is moved out: the oldest first.
+        let mut tries = tries;
+        tries.reverse();
+        while let Some(draft) = tries.pop() {
             self.tell(alloc, number, draft)?;
         }
         Ok(())

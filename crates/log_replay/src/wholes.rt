@@ -110,7 +110,9 @@ fn whole(alloc: Global, log: Vec<Effect>) -> Result<Whole, AllocError>
     ensures { IfOk result (IsWhole (reverse log.items)) }
 {
     let mut whole = Whole::new(alloc);
-    for effect in log {
+    let mut left = log;
+    left.reverse();
+    while let Some(effect) = left.pop() {
         whole.add(effect)?;
     }
     Ok(whole)
@@ -139,6 +141,6 @@ pub fn whole_of(alloc: Global, logs: Vec<Vec<Effect>>) -> Result<Vec<Effect>, Al
     if olds.is_empty() {
         return Ok(log);
     }
-    let whole = with_olds(alloc, log, olds.as_slice())?;
-    Ok(whole.log)
+    let Whole { log, met: _ } = with_olds(alloc, log, olds.as_slice())?;
+    Ok(log)
 }

@@ -11,7 +11,7 @@ use Rattle.script_replay.specs.declared.attempts.Told.{Told}
 use Rattle.script_replay.specs.declared.replays.Difference.{Difference}
 use Rattle.script_replay.specs.declared.replays.Difference.TheVariants as difference
 use Rattle.script_replay.specs.declared.replays.Differs.{Differs}
-use Rattle.log_replay.specs.Decisions.{IsFirstMisdecided}
+use Rattle.log_replay.specs.Decisions.{HaveLogs, IsFirstMisdecided}
 use Rattle.log_replay.specs.Folders.{ReadsLogs, run_in}
 use Rattle.log_replay.specs.Unfit.{IsUnfitLog}
 use Rattle.log_replay.specs.Untold.{Tells}
@@ -77,7 +77,7 @@ pub record IsJudgedOf (repositories brokers : List (List Effect)) (v : Verdict) 
   pub untried : Option StampParts
   pub misdecided : Option StampParts
   pub tells : (script : List ℕ → Tree) → ReadsLogs script brokers → Tells (run_in script repositories brokers) told untried
-  pub decided : (script : List ℕ → Tree) → IsFirstMisdecided (run_in script repositories brokers) misdecided
+  pub decided : (k : _) → HaveLogs k repositories → IsFirstMisdecided k misdecided
   pub judged : IsJudged told untried misdecided v
 
 abbrev pub Judges : (repositories brokers : List (List Effect)) → Verdict → Type 0

@@ -1,10 +1,10 @@
 //! How many attempts and versions the logs of a folder have.
-ghost use Rattle.std.specs.Prelude.{◌≡◌, ◌≤◌, length, min};
+ghost use Rattle.std.specs.Prelude.{◌≡◌, ◌<◌, ◌≤◌, ◌+◌, ◌^◌};
 ghost use Rattle.log_replay.specs.Folders.{items_of};
 ghost use Rattle.replay_command.specs.Counts as spec;
 
-use effect_form::{Effect, Outcome};
-use script_replay::{Attempt, Told};
+use effect_form::Effect;
+use script_replay::Told;
 
 /// How many stamps were told so.
 #[derive(Clone, Copy, Debug, PartialEq, Eq)]

@@ -105,8 +105,14 @@ pub fn logs_of(alloc: Global, nodes: Vec<NodeLog>) -> Result<Vec<Vec<Effect>>, A
     ensures { IfOk result (λ logs. items_of logs.items ≡ map (λ n. n.effects) nodes.items) }
 {
     let mut logs = Vec::with_capacity(alloc, nodes.len())?;
-    for node in nodes {
-        logs.push(node.effects.into_vec())?;
+    let mut left = nodes;
+    while let Some(node) = left.pop() {
+        let NodeLog {
+            effects,
+            volumes: _,
+        } = node;
+        logs.push(effects.into_vec())?;
     }
+    logs.reverse();
     Ok(logs)
 }

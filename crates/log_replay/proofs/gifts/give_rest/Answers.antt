@@ -13,7 +13,7 @@ pub returns-then-untried : goal.returns-then-untried
 returns-then-untried c = λ k d b g.
     let now = c.loop-stamp.invariant k d b g in
     let w = subst (λ u. Gave k c.in-Some.stamp (told_at c.give.new.told) (λ s. left_at c.loop-stamp.puts s) (λ s. left_at c.pop_first.new.self s) u) c.if-untried.true
-        (c.in_ok-untried.ensures k (λ s. left_at c.loop-stamp.puts s) (λ s. left_at c.pop_first.new.self s) d b c.in-Some.ensures.value c.in-Some.ensures.updates.0 now) in
+    (c.in_ok-untried.ensures k (λ s. left_at c.loop-stamp.puts s) (λ s. left_at c.pop_first.new.self s) d b c.in-Some.ensures.value c.in-Some.ensures.updates.0 now) in
     (((λ s. left_at c.loop-stamp.puts s), w.0), first-untried k (told_at c.loop-stamp.told) (λ s. left_at c.loop-stamp.puts s) now c.in-Some.stamp (none-below (λ s. left_at c.loop-stamp.puts s) c.in-Some.stamp c.in-Some.ensures.least) w.1)
 
 pub returns : goal.returns
