@@ -154,14 +154,11 @@ told-same k ts us told puts e h = subst (λ (z : List Try). AreTold k z told put
 -- one stamp more
 pub key-more : (ss : List StampParts) (told new : StampParts → Option Told) (stamp : StampParts) (y : Told) → ((s : StampParts) (x : Told) → told s ≡ Some x → Has s ss) →
     ((s : StampParts) → new s ≡ cond (is_eq (stamp_cmp stamp s)) (Some y) (told s)) → (s : StampParts) (x : Told) → new s ≡ Some x → Has s (stamp ∷ ss)
+unfolding same_stamp
 key-more ss told new stamp y keys news s x h = by (is_eq (stamp_cmp stamp s)) refl
   where
-    is-stamp : is_eq (stamp_cmp stamp s) ≡ true → stamp ≡ s
-    unfolding same_stamp
-    is-stamp e = same_stamp-is stamp s e
-
     by : (b : Bool) → is_eq (stamp_cmp stamp s) ≡ b → Has s (stamp ∷ ss)
-    by true e = inl (is-stamp e)
+    by true e = inl (same_stamp-is stamp s e)
     by false e = inr (keys s x (sym (off-stamp stamp s (Some y) (told s) e) ∙ (sym (news s) ∙ h)))
 
 -- something is told of it
