@@ -7,6 +7,7 @@ pub mod ItemLemmas
 pub mod JoinLemmas
 pub mod ListLemmas
 pub mod PutLemmas
+pub mod RunLemmas
 pub mod StampLemmas
 pub mod TellLemmas
 pub mod ToldLemmas

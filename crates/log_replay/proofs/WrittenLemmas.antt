@@ -183,11 +183,11 @@ none-has s (u ∷ ts) t q (inr h) e = none-has s ts t (rest-none (same_stamp u.s
 -- ---- the tries of sixteen brokers
 
 module _ (script : List ℕ → Tree) (logs : ℕ → List Effect) where
-  abbrev of_log : List Effect → List Try
+  abbrev pub of_log : List Effect → List Try
   of_log log = map (attempt script) (tries (book log))
 
   -- the tries of brokers 1 to this number, as `all_tries` has them
-  abbrev up_to : ℕ → List Try
+  abbrev pub up_to : ℕ → List Try
   up_to zero = []
   up_to (suc b) = up_to b ++ of_log (logs (suc b))
 
