@@ -112,7 +112,7 @@ by-home : (logs : List (List Effect)) (commits : List Settled) → AreCommits lo
 by-home logs commits h zero s l m = absurd (omega (arith, l))
 by-home logs commits h (suc n) s l m = let e : suc n - 1 ≡ n = omega arith in ap (λ z. said_at (slice_get commits z) s) e ∙ said-by logs commits h n s m
 
-inside-run : (k : RunLogs) (r : ℕ) → 1 ≤ r → r ≤ k.repositories → in_run k r ≡ true
+pub inside-run : (k : RunLogs) (r : ℕ) → 1 ≤ r → r ≤ k.repositories → in_run k r ≡ true
 inside-run k r h j = and-both (nat_le 1 r) (nat_le r k.repositories) (le-leb 1 r h) (le-leb r k.repositories j)
 
 pub are-decided : (k : RunLogs) (logs : List (List Effect)) (commits : List Settled) → k.repositories ≡ 16 → length logs ≡ 16 → ((r : ℕ) → log_of k r ≡ reverse (log_at logs r)) → AreCommits logs commits → AreDecided k commits

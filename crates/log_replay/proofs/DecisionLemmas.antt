@@ -3,21 +3,46 @@ use Rattle.std.proofs.Common.{◌≡◌, ◌⊎◌, inl, inr, ℕ, zero, suc, �
 use Rattle.std.proofs.lemmas.Bool.{false≢true, true≢false}
 use Rattle.std.proofs.lemmas.List.{length-map, reverse-append}
 use Rattle.std.specs.FinMap as finite
+use Rattle.std.specs.FinMap.{get-empty, get-insert}
+use Rattle.std.specs.Ordering.{is_eq, is_lt}
+use Rattle.std.proofs.lemmas.Cmp.{tied_itself}
+use Rattle.std.specs.Prelude.{cond}
 use Rattle.std.specs.Global.{Vec}
 use Rattle.pseudo_time.specs.Lists.{Every, Has}
-use Rattle.pseudo_time.proofs.ListLemmas.{every-has, has-either, has-left, has-right}
-use Rattle.pseudo_time.specs.StampParts.{StampParts}
+use Rattle.pseudo_time.proofs.ListLemmas.{every-append, every-has, has-either, has-left, has-right}
+use Rattle.pseudo_time.proofs.OrderLemmas.{is_less, same_stamp-is, same_stamp-self, stamp_cmp-total}
+use Rattle.pseudo_time.specs.StampParts.{StampParts, stamp_cmp}
 use Rattle.pseudo_time.specs.declared.decisions.Decision.{Decision}
-unfoldable use Rattle.pseudo_time.specs.Order.{stamp_lt}
+unfoldable use Rattle.pseudo_time.specs.Order.{same_stamp, stamp_lt}
 use Rattle.effect_form.specs.declared.effects.Effect.{Effect}
 use Rattle.effect_form.specs.declared.effects.Effect.TheVariants as effect
 use Rattle.object_history.specs.Kept.{Settled}
 use Rattle.repository_log.specs.Logs.{is_commit}
 use Rattle.world_core.specs.Deeds.{RunLogs, in_run, log_of}
-use Rattle.log_replay.specs.Decisions.{AreKept, AreLearned, AtMost, HasGrown, IsBased, IsFirstMisdecided, IsKept, IsLearned, IsMisdecided}
+use Rattle.log_replay.specs.Decisions.{AreKept, AreLearned, AtMost, HasDecided, HasGrown, HaveLogs, IsBased, IsFirstMisdecided, IsKept, IsLearned, IsMisdecided}
 use Rattle.log_replay.specs.Folders.{items_of, log_at}
 use Rattle.log_replay.specs.declared.decisions.Rulings.{Rulings}
+use Rattle.log_replay.proofs.CommitLemmas.{inside-run}
+use Rattle.log_replay.proofs.GiftLemmas.{log-here}
 use Rattle.log_replay.proofs.ItemLemmas.{items-next, take-next}
+
+-- ---- stamps
+
+pub self-below : (s : StampParts) → stamp_lt s s ≡ false
+unfolding stamp_lt
+self-below s = ap is_lt (tied_itself stamp_cmp-total s)
+
+lt-trans : (s t u : StampParts) → stamp_lt s t ≡ true → stamp_lt t u ≡ true → stamp_lt s u ≡ true
+unfolding stamp_lt
+lt-trans s t u h k = ap is_lt (stamp_cmp-total.trans s t u (is_less (stamp_cmp s t) h) (is_less (stamp_cmp t u) k))
+
+-- what isn't below the greater one isn't below the lesser one
+pub not-below : (s t u : StampParts) → stamp_lt s u ≡ false → stamp_lt t u ≡ true → stamp_lt s t ≡ false
+not-below s t u h k = by (stamp_lt s t) refl
+  where
+    by : (b : Bool) → stamp_lt s t ≡ b → stamp_lt s t ≡ false
+    by true e = absurd (true≢false (sym (lt-trans s t u e k) ∙ h))
+    by false e = e
 
 -- ---- what was kept stays kept
 
@@ -61,11 +86,104 @@ pub all-learned-on : (decided : Settled) (old new : Option StampParts) → ((s :
 all-learned-on decided old new g [] h = tt
 all-learned-on decided old new g (f ∷ log) h = (learned-on decided old new g f h.0, all-learned-on decided old new g log h.1)
 
+pub same-grown : (old new : Rulings) → new.decided ≡ old.decided → ((s : StampParts) → AtMost old.least s → AtMost new.least s) → HasGrown old new
+same-grown old new same least = record { kept = λ s c e. ap (λ z. finite.get z s) same ∙ e; least = least }
+
 pub grown-same : (r : Rulings) → HasGrown r r
 grown-same r = record { kept = λ s c h. h; least = λ s h. h }
 
 pub grown-more : (a b c : Rulings) → HasGrown a b → HasGrown b c → HasGrown a c
 grown-more a b c g h = record { kept = λ s x e. h.kept s x (g.kept s x e); least = λ s e. h.least s (g.least s e) }
+
+-- ---- one decision more
+
+module _ (old new : Rulings) (stamp : StampParts) where
+  -- logs disagree on it
+  pub blamed : (k : RunLogs) → new.decided ≡ old.decided → ((new.least ≡ Some stamp) × (AtMost old.least stamp → ⊥)) ⊎ (new.least ≡ old.least) → ((AtMost old.least stamp → ⊥) → IsMisdecided k stamp) → IsBased k old → IsBased k new
+  blamed k same (inl one) wrong based = record {
+    kept = λ s c e. based.kept s c (ap (λ z. finite.get z s) (sym same) ∙ e);
+    least = λ s e. let f : Some stamp ≡ Some s = sym one.0 ∙ e in subst (IsMisdecided k) (cc f) (wrong one.1);
+  }
+  blamed k same (inr one) wrong based = record { kept = λ s c e. based.kept s c (ap (λ z. finite.get z s) (sym same) ∙ e); least = λ s e. based.least s (sym one ∙ e) }
+
+  -- it was kept
+  entry : (committed : Bool) → new.decided ≡ finite.insert old.decided stamp committed → (s : StampParts) → finite.get new.decided s ≡ cond (is_eq (stamp_cmp s stamp)) (Some committed) (finite.get old.decided s)
+  entry committed put s = ap (λ z. finite.get z s) put ∙ get-insert stamp_cmp-total old.decided stamp committed s
+
+  entry-by : (committed c : Bool) (s : StampParts) (b : Bool) → is_eq (stamp_cmp s stamp) ≡ b → cond b (Some committed) (finite.get old.decided s) ≡ Some c → ((s ≡ stamp) × (committed ≡ c)) ⊎ (finite.get old.decided s ≡ Some c)
+  unfolding same_stamp
+  entry-by committed c s true e h = inl (same_stamp-is s stamp e, cc h)
+  entry-by committed c s false e h = inr h
+
+  pub put-based : (k : RunLogs) (d : Decision) (committed : Bool) → new.decided ≡ finite.insert old.decided stamp committed → new.least ≡ old.least → Has (effect.Decide stamp d) (log_of k stamp.home) → committed ≡ is_commit d → IsBased k old → IsBased k new
+  put-based k d committed put same there is based = record {
+    kept = λ s c e. by s c (entry-by committed c s (is_eq (stamp_cmp s stamp)) refl (sym (entry committed put s) ∙ e));
+    least = λ s e. based.least s (sym same ∙ e);
+  }
+    where
+      by : (s : StampParts) (c : Bool) → ((s ≡ stamp) × (committed ≡ c)) ⊎ (finite.get old.decided s ≡ Some c) → (e : Decision) × Has (effect.Decide s e) (log_of k s.home) × (c ≡ is_commit e)
+      by s c (inl w) = (d, subst (λ z. Has (effect.Decide z d) (log_of k z.home)) (sym w.0) there, sym w.1 ∙ is)
+      by s c (inr e) = based.kept s c e
+
+  still : (committed c : Bool) (s : StampParts) (b : Bool) → is_eq (stamp_cmp s stamp) ≡ b → finite.get old.decided stamp ≡ None → finite.get old.decided s ≡ Some c → cond b (Some committed) (finite.get old.decided s) ≡ Some c
+  unfolding same_stamp
+  still committed c s true e none h = let f : ◌≡◌ {A = Option Bool} None (Some c) = sym none ∙ (ap (finite.get old.decided) (sym (same_stamp-is s stamp e)) ∙ h) in absurd (cc f)
+  still committed c s false e none h = h
+
+  pub put-grown : (committed : Bool) → new.decided ≡ finite.insert old.decided stamp committed → new.least ≡ old.least → finite.get old.decided stamp ≡ None → HasGrown old new
+  put-grown committed put same none = record {
+    kept = λ s c e. entry committed put s ∙ still committed c s (is_eq (stamp_cmp s stamp)) refl none e;
+    least = λ s m. subst (λ o. AtMost o s) (sym same) m;
+  }
+
+  pub put-kept : (committed : Bool) → new.decided ≡ finite.insert old.decided stamp committed → finite.get new.decided stamp ≡ Some committed
+  unfolding same_stamp
+  put-kept committed put = entry committed put stamp ∙ ap (λ b. cond b (Some committed) (finite.get old.decided stamp)) (same_stamp-self stamp)
+
+-- why logs disagree
+pub twofold : (k : RunLogs) (old : Rulings) (s : StampParts) (d : Decision) (before committed : Bool) → IsBased k old → finite.get old.decided s ≡ Some before → (before ≡ committed → ⊥) → Has (effect.Decide s d) (log_of k s.home) → committed ≡ is_commit d → IsMisdecided k s
+twofold k old s d before committed based e differ there is =
+    let w = based.kept s before e in inr (inl (record { one = w.0; other = d; there = (w.1, there); differ = λ q. differ (w.2 ∙ (q ∙ sym is)) }))
+
+pub mislearned : (k : RunLogs) (old : Rulings) (r : ℕ) (s : StampParts) (c : Bool) → HasDecided k old → (finite.get old.decided s ≡ Some c → ⊥) → in_run k r ≡ true → Has (effect.Learn s c) (log_of k r) → (AtMost old.least s → ⊥) → IsMisdecided k s
+mislearned k old r s c decided other inside there none =
+    inr (inr (record { repository = r; committed = c; inside = inside; there = there; none = λ d h q. other (decided s d h none ∙ ap Some (sym q)) }))
+
+-- ---- effects one after another
+
+pub item-has : {A : Type 0} (xs : List A) (i : ℕ) (x : A) → i < length xs → x ≡ get_or xs i x → Has x xs
+item-has [] i x low is = absurd (omega (arith, low))
+item-has (y ∷ xs) zero x low is = inl (sym is)
+item-has (y ∷ xs) (suc i) x low is = inr (item-has xs i x (omega (arith, low)) is)
+
+pub kept-more : (r : ℕ) (old new : Rulings) (log : List Effect) (i : ℕ) (f : Effect) → i < length log → f ≡ get_or log i f → HasGrown old new → Every (IsKept r old.decided old.least) (take i log) → IsKept r new.decided new.least f →
+    Every (IsKept r new.decided new.least) (take (i + 1) log)
+kept-more r old new log i f low is g h k =
+    subst (Every (IsKept r new.decided new.least)) (sym (take-next log i f low is)) (every-append (IsKept r new.decided new.least) (take i log) (f ∷ []) (all-kept-on r old new g (take i log) h) (k, tt))
+
+pub learned-more : (before decided : Settled) (old new : Option StampParts) (log : List Effect) (i : ℕ) (f : Effect) → i < length log → f ≡ get_or log i f → decided ≡ before → ((s : StampParts) → AtMost old s → AtMost new s) → Every (IsLearned before old) (take i log) →
+    IsLearned decided new f → Every (IsLearned decided new) (take (i + 1) log)
+learned-more before decided old new log i f low is same g h k =
+    subst (Every (IsLearned decided new)) (sym (take-next log i f low is))
+    (every-append (IsLearned decided new) (take i log) (f ∷ []) (all-learned-on decided old new g (take i log) (subst (λ d. Every (IsLearned d old) (take i log)) (sym same) h)) (k, tt))
+
+pub decided-on : (k : RunLogs) (old new : Rulings) → new.decided ≡ old.decided → ((s : StampParts) → AtMost old.least s → AtMost new.least s) → HasDecided k old → HasDecided k new
+decided-on k old new same g h s d there none = ap (λ z. finite.get z s) same ∙ h s d there (λ m. none (g s m))
+
+pub none-based : (k : RunLogs) (d : Settled) → d ≡ finite.empty → IsBased k (record { decided = d; least = None })
+none-based k d e = record {
+  kept = λ s c h. let f : ◌≡◌ {A = Option Bool} None (Some c) = sym (ap (λ z. finite.get z s) e ∙ get-empty stamp_cmp s) ∙ h in absurd (cc f);
+  least = λ s h. let f : ◌≡◌ {A = Option StampParts} None (Some s) = h in absurd (cc f);
+}
+
+-- repository r is one of the sixteen
+pub inside-logs : (k : RunLogs) (logs : List (List Effect)) (i r : ℕ) → HaveLogs k logs → i < 16 → r ≡ i + 1 → in_run k r ≡ true
+inside-logs k logs i r have low e = let many = have.count in inside-run k r (omega (arith, e)) (omega (arith, low, e, many))
+
+pub log-is : (k : RunLogs) (logs : List (Vec Effect)) (i r : ℕ) (log : Vec Effect) (effects : List Effect) → HaveLogs k (items_of logs) → i < length logs → log ≡ get_or logs i log → effects ≡ log.items → r ≡ i + 1 → log_of k r ≡ reverse effects
+log-is k logs i r log effects have low is same e =
+    let next : r ≡ suc i = omega (arith, e) in
+    have.are r ∙ ap (λ n. reverse (log_at (items_of logs) n)) next ∙ ap reverse (log-here logs i log low is ∙ sym same)
 
 -- ---- logs one after another
 
@@ -118,20 +236,27 @@ learned-at decided least (suc (suc r)) (log ∷ logs) f h k = learned-at decided
 
 has-turned : (xs : List Effect) (f : Effect) → Has f (reverse xs) → Has f xs
 has-turned [] f h = h
-has-turned (x ∷ xs) f h = by (has-either (reverse xs) (x ∷ []) f (subst (Has f) (reverse-append (x ∷ []) xs) h))
+has-turned (x ∷ xs) f h = by (λ k. has-turned xs f k) (has-either (reverse xs) (x ∷ []) f (subst (Has f) (reverse-append (x ∷ []) xs) h))
   where
-    by : Has f (reverse xs) ⊎ Has f (x ∷ []) → Has f (x ∷ xs)
-    by (inl k) = inr (has-turned xs f k)
-    by (inr (inl e)) = inl e
-    by (inr (inr k)) = absurd k
+    by : (Has f (reverse xs) → Has f xs) → Has f (reverse xs) ⊎ Has f (x ∷ []) → Has f (x ∷ xs)
+    by rest (inl k) = inr (rest k)
+    by rest (inr (inl e)) = inl e
+    by rest (inr (inr k)) = absurd k
 
 pub turned-has : (xs : List Effect) (f : Effect) → Has f xs → Has f (reverse xs)
 turned-has [] f h = h
-turned-has (x ∷ xs) f h = subst (Has f) (sym (reverse-append (x ∷ []) xs)) (by h)
+turned-has (x ∷ xs) f h = subst (Has f) (sym (reverse-append (x ∷ []) xs)) (by (λ k. turned-has xs f k) h)
   where
-    by : Has f (x ∷ xs) → Has f (reverse xs ++ x ∷ [])
-    by (inl e) = has-right (reverse xs) (x ∷ []) f (inl e)
-    by (inr k) = has-left (reverse xs) (x ∷ []) f (turned-has xs f k)
+    by : (Has f xs → Has f (reverse xs)) → Has f (x ∷ xs) → Has f (reverse xs ++ x ∷ [])
+    by rest (inl e) = has-right (reverse xs) (x ∷ []) f (inl e)
+    by rest (inr k) = has-left (reverse xs) (x ∷ []) f (rest k)
+
+pub has-decided : (k : RunLogs) (logs : List (List Effect)) → HaveLogs k logs → (rulings : Rulings) → AreKept rulings.decided rulings.least 0 logs → HasDecided k rulings
+has-decided k logs have rulings kept s d h none = by (kept-at rulings.decided rulings.least 0 s.home logs (effect.Decide s d) kept (has-turned (log_at logs s.home) (effect.Decide s d) (subst (Has (effect.Decide s d)) (have.are s.home) h)))
+  where
+    by : IsKept (0 + s.home) rulings.decided rulings.least (effect.Decide s d) → finite.get rulings.decided s ≡ Some (is_commit d)
+    by (inl w) = w.1
+    by (inr m) = absurd (none m)
 
 -- ---- the least
 

@@ -24,7 +24,7 @@ use Rattle.script_replay.specs.declared.attempts.Told.TheVariants.{Given, Tried}
 use Rattle.log_replay.specs.Puts.{versions_in}
 use Rattle.log_replay.specs.Telling.{AreGiven, AreTold, IsTried}
 use Rattle.log_replay.specs.Tells.{HasPut, IsTold, Says}
-use Rattle.log_replay.specs.Untold.{IsFirstUntried, IsUntried}
+use Rattle.log_replay.specs.Untold.{Gave, IsFirstUntried, IsUntried}
 use Rattle.log_replay.proofs.WrittenLemmas.{find-none, none-has, put-written, written-put}
 
 -- ---- all attempts are told
@@ -263,6 +263,15 @@ none-below get s bound t low = by (get t) refl
     by : (o : Option (Vec Put)) → get t ≡ o → get t ≡ None
     by None e = e
     by (Some x) e = absurd (true≢false (sym (greater s t low) ∙ bound t (subst IsSome (sym e) refl)))
+
+-- what was given of a stamp
+pub gave-none : (k : RunLogs) (stamp : StampParts) (told : StampParts → Option Told) (old new : StampParts → Option (Vec Put)) (untried : Bool) → untried ≡ false → Gave k stamp told old new untried → AreGiven k told new
+gave-none k stamp told old new true e h = absurd (true≢false e)
+gave-none k stamp told old new false e h = h
+
+pub gave-some : (k : RunLogs) (stamp : StampParts) (told : StampParts → Option Told) (old new : StampParts → Option (Vec Put)) (untried : Bool) → untried ≡ true → Gave k stamp told old new untried → AreGiven k told old × IsUntried k stamp
+gave-some k stamp told old new true e h = h
+gave-some k stamp told old new false e h = absurd (false≢true e)
 
 -- nothing is left
 pub given-none : (k : RunLogs) (told : StampParts → Option Told) (puts : StampParts → Option (Vec Put)) → ((s : StampParts) → puts s ≡ None) → AreGiven k told puts → AreGiven k told (λ s. None)

@@ -1,15 +1,14 @@
 -- Lists that are read item by item.
-use Rattle.std.proofs.Common.{map, ◌≡◌, ◌<◌, ◌+◌, ℕ, zero, suc, List, [], ◌∷◌, ◌++◌, length, get_or, reverse, take, arith, sym, ◌∙◌, ap, refl}
+use Rattle.std.proofs.Common.{map, ◌≡◌, ◌<◌, ◌+◌, ℕ, suc, List, [], ◌∷◌, ◌++◌, length, get_or, reverse, take, arith, sym, ◌∙◌, ap, refl}
 use Rattle.std.proofs.lemmas.List.{map-append, reverse-append}
+use Rattle.std.proofs.Math.Seq.{take-suc}
 use Rattle.std.specs.Global.{Vec}
 use Rattle.effect_form.specs.declared.effects.Effect.{Effect}
 use Rattle.log_replay.specs.Folders.{items_of}
 
 module _ {A : Type 0} where
   pub take-next : (xs : List A) (i : ℕ) (x : A) → i < length xs → x ≡ get_or xs i x → take (i + 1) xs ≡ take i xs ++ x ∷ []
-  take-next [] i x low is = absurd (omega (arith, low))
-  take-next (y ∷ xs) zero x low is = ap (λ z. z ∷ []) (sym is)
-  take-next (y ∷ xs) (suc i) x low is = ap (λ z. y ∷ z) (take-next xs i x (omega (arith, low)) is)
+  take-next xs i x low is = let one : i + 1 ≡ suc i = omega arith in ap (λ n. take n xs) one ∙ (take-suc xs i x low ∙ ap (λ z. take i xs ++ z ∷ []) (sym is))
 
   pub back-next : (xs : List A) (i : ℕ) (x : A) → i < length xs → x ≡ get_or xs i x → reverse (take (i + 1) xs) ≡ x ∷ reverse (take i xs)
   back-next xs i x low is = ap reverse (take-next xs i x low is) ∙ reverse-append (take i xs) (x ∷ [])

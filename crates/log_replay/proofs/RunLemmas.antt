@@ -1,5 +1,5 @@
 -- The run that sixteen logs of repositories and of brokers are.
-use Rattle.std.proofs.Common.{◌≡◌, ◌+◌, ℕ, zero, suc, List, [], ◌++◌, length, map, arith, refl, sym, ◌∙◌, ap, subst}
+use Rattle.std.proofs.Common.{◌≡◌, ◌+◌, ℕ, zero, suc, List, [], ◌++◌, length, map, reverse, arith, refl, sym, ◌∙◌, ap, subst}
 use Rattle.std.proofs.lemmas.List.{length-map}
 use Rattle.std.specs.BTreeMap.{BTreeMap}
 use Rattle.std.specs.Global.{Vec}
@@ -15,7 +15,7 @@ use Rattle.world_core.specs.Deeds.{RunLogs, Try, attempt, written}
 use Rattle.script_replay.specs.declared.attempts.Put.{Put}
 use Rattle.log_replay.specs.Commits.{AreCommits}
 unfoldable use Rattle.log_replay.specs.Folders.{all_tries}
-use Rattle.log_replay.specs.Folders.{HaveBrokers, items_of, run_in, tries_of}
+use Rattle.log_replay.specs.Folders.{HaveBrokers, items_of, log_at, run_in, tries_of}
 use Rattle.log_replay.specs.Puts.{puts_at, puts_by, versions_in}
 use Rattle.log_replay.specs.Telling.{AreDecided, left_at}
 use Rattle.log_replay.proofs.CommitLemmas.{are-decided}
@@ -46,8 +46,11 @@ module _ (script : List ℕ → Tree) (repositories brokers : List (Vec Effect))
     count : length (items_of brokers) + 0 ≡ 16
     count = let e = length-map brokers (λ (l : Vec Effect). l.items) in omega (arith, e, many)
 
+    from-first : (i : ℕ) → whole.logs (broker (0 + suc i)) ≡ reverse (log_at (items_of brokers) (suc i))
+    from-first i = let e : 0 + suc i ≡ suc i = omega arith in ap (λ b. whole.logs (broker b)) e
+
     pub to-run : (t : Try) → Has t (tries_of script (items_of brokers)) → Has t whole.tries
-    to-run t h = subst (Has t) (sym (all-up script whole.logs 16)) (onto-has script (λ b. whole.logs (broker b)) (items_of brokers) 0 16 [] (λ i. refl) count t h (λ u j. absurd j))
+    to-run t h = subst (Has t) (sym (all-up script whole.logs 16)) (onto-has script (λ b. whole.logs (broker b)) (items_of brokers) 0 16 [] from-first count t h (λ u j. absurd j))
 
     pub from-run : (t : Try) → Has t whole.tries → Has t (tries_of script (items_of brokers))
-    from-run t h = has-onto script (λ b. whole.logs (broker b)) (items_of brokers) 0 16 [] (λ i. refl) count t (subst (Has t) (all-up script whole.logs 16) h) (λ u j. j)
+    from-run t h = has-onto script (λ b. whole.logs (broker b)) (items_of brokers) 0 16 [] from-first count t (subst (Has t) (all-up script whole.logs 16) h) (λ u j. j)

@@ -1,5 +1,5 @@
 -- Why logs can't be told: a broker's log has a try whose text is no script, or whose stamp is that of a try before it. Logs stand oldest effect first, tries newest first.
-use Rattle.std.specs.Prelude.{◌≡◌, ◌⊎◌, ◌<◌, ℕ, suc, List, [], ◌∷◌, ◌++◌, length, map, reverse, take, ⊥}
+use Rattle.std.specs.Prelude.{◌≡◌, ◌⊎◌, ◌<◌, ℕ, suc, List, [], ◌∷◌, ◌++◌, length, map, reverse, take}
 use Rattle.pseudo_time.specs.Lists.{Has}
 use Rattle.pseudo_time.specs.StampParts.{StampParts}
 use Rattle.value_form.specs.Mirror.{Block}

@@ -1,6 +1,6 @@
 //! Attempts on whose decision the logs of repositories disagree.
 ghost use Rattle.std.specs.FinMap as finite;
-ghost use Rattle.std.specs.Prelude.{◌≡◌, ◌⊎◌, true, false, Some, IfOk, OnOk, List, ℕ, length, reverse};
+ghost use Rattle.std.specs.Prelude.{◌≡◌, ◌⊎◌, ◌↔◌, IsTrue, true, false, Some, IfOk, OnOk, List, ℕ, length, reverse};
 ghost use Rattle.pseudo_time.specs.Lists.{Every, Has};
 ghost use Rattle.pseudo_time.specs.Order.{stamp_lt};
 ghost use Rattle.effect_form.specs.declared.effects.Effect.{Effect as AnEffect};
@@ -26,6 +26,24 @@ pub(crate) struct Rulings {
     pub least: Option<Stamp>,
 }
 
+// Whether a stamp comes before another one.
+#[tactic(auto, unfolding(pseudo_time::specs::Order::stamp_lt))]
+fn is_less(stamp: Stamp, other: Stamp) -> bool
+    ensures { result ≡ stamp_lt stamp other }
+{
+    stamp < other
+}
+
+// Whether this is what is said.
+fn is_so(said: Option<bool>, committed: bool) -> bool
+    ensures { IsTrue result ↔ (said ≡ Some committed) }
+{
+    match said {
+        Some(before) => before == committed,
+        None => false,
+    }
+}
+
 // The lesser of two stamps, if there are two.
 fn lesser(least: Option<Stamp>, stamp: Stamp) -> Stamp
     ensures there { stamp_lt stamp result ≡ false }
@@ -33,7 +51,7 @@ fn lesser(least: Option<Stamp>, stamp: Stamp) -> Stamp
     ensures one { ((result ≡ stamp) × (spec.AtMost least stamp → ⊥)) ⊎ (least ≡ Some result) }
 {
     match least {
-        Some(least) => { if stamp < least { stamp } else { least } }
+        Some(least) => { if is_less(stamp, least) { stamp } else { least } }
         None => stamp,
     }
 }
@@ -50,20 +68,19 @@ impl Rulings {
         self.least = Some(lesser(self.least, stamp));
     }
 
-    // The log of this repository decides the attempt so.
-    fn decide(&mut self, repository: u8, stamp: Stamp, committed: bool) -> Result<(), AllocError>
+    // Its home decides the attempt so.
+    fn decide_home(&mut self, stamp: Stamp, committed: bool) -> Result<(), AllocError>
         ensures grown { OnOk result (spec.HasGrown self.old self.new) }
-        ensures kept { (k : RunLogs) (d : Decision) → in_run k repository ≡ true →
-            Has (effect.Decide stamp d) (log_of k repository) → committed ≡ logs.is_commit d →
-            spec.IsBased k self.old → OnOk result (spec.IsBased k self.new ×
-            spec.IsKept repository self.new.decided self.new.least (effect.Decide stamp d)) }
+        ensures kept { OnOk result ((finite.get self.new.decided stamp ≡ Some committed) ⊎
+            spec.AtMost self.new.least stamp) }
+        ensures based { (k : RunLogs) (d : Decision) → Has (effect.Decide stamp d) (log_of k stamp.home) →
+            committed ≡ logs.is_commit d → spec.IsBased k self.old → OnOk result (spec.IsBased k self.new) }
     {
-        if stamp.home() != repository {
-            self.blame(stamp);
-            return Ok(());
-        }
         match self.decided.get(stamp) {
-            None => self.decided.put(stamp, committed),
+            None => {
+                self.decided.put(stamp, committed)?;
+                Ok(())
+            }
             Some(before) => {
                 if before != committed {
                     self.blame(stamp);
@@ -71,6 +88,23 @@ impl Rulings {
                 Ok(())
             }
         }
+    }
+
+    // The log of this repository decides the attempt so.
+    fn decide(&mut self, repository: u8, stamp: Stamp, committed: bool) -> Result<(), AllocError>
+        ensures grown { OnOk result (spec.HasGrown self.old self.new) }
+        ensures kept { (d : Decision) → committed ≡ logs.is_commit d →
+            OnOk result (spec.IsKept repository self.new.decided self.new.least (effect.Decide stamp d)) }
+        ensures based { (k : RunLogs) (d : Decision) → in_run k repository ≡ true →
+            Has (effect.Decide stamp d) (log_of k repository) → committed ≡ logs.is_commit d →
+            spec.IsBased k self.old → OnOk result (spec.IsBased k self.new) }
+    {
+        if stamp.home() == repository {
+            self.decide_home(stamp, committed)?;
+            return Ok(());
+        }
+        self.blame(stamp);
+        Ok(())
     }
 
     // The log of a repository says that the attempt was learned so.
@@ -82,10 +116,10 @@ impl Rulings {
             Has (effect.Learn stamp committed) (log_of k r) → spec.HasDecided k self.old →
             spec.IsBased k self.old → spec.IsBased k self.new }
     {
-        match self.decided.get(stamp) {
-            Some(before) if before == committed => {}
-            _ => self.blame(stamp),
+        if is_so(self.decided.get(stamp), committed) {
+            return;
         }
+        self.blame(stamp);
     }
 
     // Checks what an effect of a repository's log says was learned.
@@ -111,7 +145,8 @@ impl Rulings {
     {
         match effect {
             Effect::Decide { stamp, decision } => {
-                self.decide(repository, *stamp, is_commit(*decision))
+                self.decide(repository, *stamp, is_commit(*decision))?;
+                Ok(())
             }
             _ => Ok(()),
         }

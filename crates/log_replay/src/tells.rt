@@ -130,7 +130,10 @@ impl Teller {
         let mut tries = tries;
         tries.reverse();
         while let Some(draft) = tries.pop() {
-            self.tell(alloc, number, draft)?;
+            match self.tell(alloc, number, draft) {
+                Ok(()) => {}
+                Err(fault) => return Err(fault),
+            }
         }
         Ok(())
     }
@@ -159,7 +162,10 @@ fn attempts_of(
         commits,
     };
     for (place, log) in brokers.iter().enumerate() {
-        teller.tell_log(alloc, place as u8 + 1, log.as_slice())?;
+        match teller.tell_log(alloc, place as u8 + 1, log.as_slice()) {
+            Ok(()) => {}
+            Err(fault) => return Err(fault),
+        }
     }
     Ok(teller)
 }

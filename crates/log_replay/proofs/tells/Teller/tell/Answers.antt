@@ -1,4 +1,4 @@
-use Rattle.std.proofs.Common.{List, ap, refl, sym, ◌∙◌}
+use Rattle.std.proofs.Common.{List, ap, inr, refl, sym, ◌∙◌}
 use Rattle.std.specs.Prelude.{option_copied}
 use Rattle.object_history.specs.Kept.{Settled}
 use Rattle.log_replay.specs.Drafts.{draft_parts, draft_try}
@@ -16,3 +16,8 @@ returns-clause-told c = λ script k ts reads knows told.
 
 pub returns-clause-keys : goal.returns-clause-keys
 returns-clause-keys c = λ ss keys. key-more ss (told_at c.args.self.now.told) (told_at c.insert.new.self) c.args.draft.stamp _ keys c.in_ok-insert.ensures.updates.0
+
+pub returns-then-is_some-clause-unfit : goal.returns-then-is_some-clause-unfit
+returns-then-is_some-clause-unfit c = λ ss keys.
+    let w = is-told c.get.result c.is_some.result c.is_some.ensures c.if-is_some.true in
+    inr (refl, inr (keys _ _ (sym c.get.ensures.value ∙ ap option_copied w.1)))
