@@ -358,13 +358,18 @@ def judge(folder, page):
     return None
 
 
-if len(sys.argv) == 4 and sys.argv[1] == "--cases":
-    text = open(sys.argv[2], encoding="latin-1").read()
-    parts = re.split(r"^folder (\w+)\n", text, flags=re.M)[1:]
-    heads = [judge(f"{sys.argv[3]}/{parts[i]}", parts[i + 1]) for i in range(0, len(parts), 2)]
-elif len(sys.argv) == 3:
-    heads = [judge(sys.argv[1], open(sys.argv[2], encoding="latin-1").read())]
-else:
-    sys.exit(__doc__)
-print(f"{sum(h is not None for h in heads)} pages of {len(heads)} are right")
-sys.exit(None in heads or len(set(heads)) != 1)
+def main():
+    if len(sys.argv) == 4 and sys.argv[1] == "--cases":
+        text = open(sys.argv[2], encoding="latin-1").read()
+        parts = re.split(r"^folder (\w+)\n", text, flags=re.M)[1:]
+        heads = [judge(f"{sys.argv[3]}/{parts[i]}", parts[i + 1]) for i in range(0, len(parts), 2)]
+    elif len(sys.argv) == 3:
+        heads = [judge(sys.argv[1], open(sys.argv[2], encoding="latin-1").read())]
+    else:
+        sys.exit(__doc__)
+    print(f"{sum(h is not None for h in heads)} pages of {len(heads)} are right")
+    sys.exit(None in heads or len(set(heads)) != 1)
+
+
+if __name__ == "__main__":
+    main()

@@ -23,6 +23,7 @@ use Rattle.script_replay.specs.declared.attempts.Put.{Put}
 use Rattle.script_replay.specs.declared.attempts.Told.{Told}
 use Rattle.script_replay.specs.declared.attempts.Told.TheVariants.{Given, Tried}
 use Rattle.log_replay.specs.Telling.{AreGiven}
+use Rattle.log_replay.specs.Tellers.{AllScripts}
 use Rattle.log_replay.specs.Tells.{AreRising, HasPut, IsTold, Says, TellsAll}
 use Rattle.log_replay.specs.Untold.{GaveAll, Tells, TellsTries}
 
@@ -112,9 +113,6 @@ module _ (k : RunLogs) (es : List Entry) (sorted : IsStrictlySortedBy stamp_cmp 
     tried = λ t h. let w = given.tried t h in (w.0, listed t.stamp (Tried w.0) w.1, w.2);
   }
 
-  pub all-scripts : (puts : StampParts → Option (Vec Put)) → AreGiven k (at_key es) puts → HaveScripts (values_of es)
-  all-scripts puts given = every-value HasScript es (λ e h. given.scripts e.0 e.1 (found e h))
-
   pub all-told : AreGiven k (at_key es) (λ s. None) → TellsAll k (values_of es)
   all-told given = let tries = all-tried (λ s. None) given in record { rising = tries.rising; each = tries.each; tried = tries.tried; given = gifts; lost = gone }
     where
@@ -137,6 +135,6 @@ module _ (k : RunLogs) (es : List Entry) (sorted : IsStrictlySortedBy stamp_cmp 
   tells-so None given = all-told given
   tells-so (Some s) given = (given.1, all-tried given.0.0 given.0.1)
 
-  pub scripts-so : (untried : Option StampParts) → GaveAll k (at_key es) untried → HaveScripts (values_of es)
-  scripts-so None given = all-scripts (λ s. None) given
-  scripts-so (Some s) given = all-scripts given.0.0 given.0.1
+-- all of them have scripts
+pub scripts-so : (es : List Entry) → IsStrictlySortedBy stamp_cmp (keys_of es) → AllScripts (at_key es) → HaveScripts (values_of es)
+scripts-so es sorted all = every-value HasScript es (λ e h. all e.0 e.1 (has-found es e sorted h))

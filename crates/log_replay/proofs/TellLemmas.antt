@@ -26,6 +26,7 @@ use Rattle.log_replay.specs.Folders.{Reads}
 use Rattle.log_replay.specs.Puts.{versions_in}
 use Rattle.log_replay.specs.declared.drafts.Draft.{Draft}
 use Rattle.log_replay.specs.Telling.{AreTold, IsTried}
+use Rattle.log_replay.specs.Tellers.{AllScripts}
 use Rattle.log_replay.specs.Tells.{Says}
 use Rattle.log_replay.proofs.DraftLemmas.{read-tries, try-attempts}
 
@@ -160,6 +161,17 @@ key-more ss told new stamp y keys news s x h = by (is_eq (stamp_cmp stamp s)) re
     by : (b : Bool) → is_eq (stamp_cmp stamp s) ≡ b → Has s (stamp ∷ ss)
     by true e = inl (same_stamp-is stamp s e)
     by false e = inr (keys s x (sym (off-stamp stamp s (Some y) (told s) e) ∙ (sym (news s) ∙ h)))
+
+-- and all have scripts
+pub scripts-more : (told new : StampParts → Option Told) (stamp : StampParts) (y : Told) → AllScripts told → HasScript y → ((s : StampParts) → new s ≡ cond (is_eq (stamp_cmp stamp s)) (Some y) (told s)) → AllScripts new
+scripts-more told new stamp y all has news s x h = by (is_eq (stamp_cmp stamp s)) refl
+  where
+    by : (b : Bool) → is_eq (stamp_cmp stamp s) ≡ b → HasScript x
+    by true e = let c : Some y ≡ Some x = sym (at-stamp stamp s (Some y) (told s) e) ∙ (sym (news s) ∙ h) in let d : y ≡ x = cc c in subst HasScript d has
+    by false e = all s x (sym (off-stamp stamp s (Some y) (told s) e) ∙ (sym (news s) ∙ h))
+
+pub scripts-none : (told : StampParts → Option Told) → ((s : StampParts) → told s ≡ None) → AllScripts told
+scripts-none told none s x h = absurd (let c : ◌≡◌ {A = Option Told} None (Some x) = sym (none s) ∙ h in cc c)
 
 -- something is told of it
 pub is-told : {X : Type 0} (o : Option X) (b : Bool) → b ≡ is_some o → b ≡ true → (x : X) × (o ≡ Some x)

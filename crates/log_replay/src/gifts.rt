@@ -7,6 +7,7 @@ ghost use Rattle.world_core.specs.Deeds.{RunLogs};
 ghost use Rattle.script_replay.specs.declared.attempts.Put.{Put};
 ghost use Rattle.log_replay.specs.Folders.{items_of, log_at, HaveBrokers};
 ghost use Rattle.log_replay.specs.Telling as spec;
+ghost use Rattle.log_replay.specs.Tellers.{AllScripts};
 ghost use Rattle.log_replay.specs.Untold.{Gave, GaveAll};
 
 use crate::commits::is_committed;
@@ -39,7 +40,9 @@ fn give(
     own: Vec<Put>,
 ) -> Result<bool, AllocError>
     requires { length brokers.now ≡ 16 }
-    ensures { (k : RunLogs) (old new : StampParts → Option (Vec Put)) → spec.AreDecided k commits.now →
+    ensures scripts { AllScripts (spec.told_at told.old) →
+        IfOk result (λ untried. AllScripts (spec.told_at told.new)) }
+    ensures gives { (k : RunLogs) (old new : StampParts → Option (Vec Put)) → spec.AreDecided k commits.now →
         HaveBrokers k (items_of brokers.now) → old stamp ≡ Some own →
         ((s : StampParts) → new s ≡ cond (is_at (stamp_cmp stamp) s) None (old s)) →
         spec.AreGiven k (spec.told_at told.old) old →
@@ -68,7 +71,8 @@ pub(crate) fn give_rest(
     brokers: &[Vec<Effect>],
 ) -> Result<(BTreeMap<Stamp, Told>, Option<Stamp>), AllocError>
     requires { length brokers.now ≡ 16 }
-    ensures { (k : RunLogs) → spec.AreDecided k commits.now → HaveBrokers k (items_of brokers.now) →
+    ensures scripts { AllScripts (spec.told_at told) → IfOk result (λ all. AllScripts (spec.told_at all.0)) }
+    ensures gives { (k : RunLogs) → spec.AreDecided k commits.now → HaveBrokers k (items_of brokers.now) →
         spec.AreGiven k (spec.told_at told) (spec.left_at puts) →
         IfOk result (λ all. GaveAll k (spec.told_at all.0) all.1) }
 {

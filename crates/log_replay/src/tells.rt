@@ -13,7 +13,8 @@ ghost use Rattle.script_replay.specs.Attempts.{versions_of};
 ghost use Rattle.script_replay.specs.Replays.{HaveScripts};
 ghost use Rattle.log_replay.specs.Drafts as drafts;
 ghost use Rattle.log_replay.specs.Folders as folders;
-ghost use Rattle.log_replay.specs.Tellers.{HasTold, KeysIn, Knows};
+ghost use Rattle.log_replay.specs.Tellers.{AllScripts, HasTold, KeysIn, Knows};
+ghost use Rattle.log_replay.specs.Telling.{told_at};
 ghost use Rattle.log_replay.specs.Tells.{Says};
 ghost use Rattle.log_replay.specs.Untold.{Tells};
 ghost use Rattle.log_replay.specs.Unfit.{HasUnfit, IsCause, IsFault, IsNoScript, IsUnfitAfter, stamps_of, tries_in};
@@ -93,6 +94,7 @@ impl Teller {
             Knows k self.old → HasTold k ts self.old →
             OnOk result (HasTold k (drafts.draft_try script (drafts.draft_parts draft) ∷ ts) self.new) }
         ensures commits { self.new.commits ≡ self.old.commits }
+        ensures scripts { AllScripts (told_at self.old.told) → OnOk result (AllScripts (told_at self.new.told)) }
         ensures keys { (ss : List StampParts) → KeysIn ss self.old →
             OnOk result (KeysIn (draft.stamp ∷ ss) self.new) }
         ensures unfit { (ss : List StampParts) → KeysIn ss self.old →
@@ -116,6 +118,7 @@ impl Teller {
             Knows k self.old → HasTold k ts self.old →
             OnOk result (HasTold k (map (attempt script) (books.tries (books.book (reverse log.now))) ++ ts) self.new) }
         ensures commits { self.new.commits ≡ self.old.commits }
+        ensures scripts { AllScripts (told_at self.old.told) → OnOk result (AllScripts (told_at self.new.told)) }
         ensures keys { (ss : List StampParts) → KeysIn ss self.old →
             OnOk result (KeysIn (stamps_of (tries_in log.now) ++ ss) self.new) }
         ensures unfit { (ss : List StampParts) → KeysIn ss self.old →
@@ -152,6 +155,7 @@ fn attempts_of(
     ensures told { (script : List ℕ → Tree) → folders.ReadsLogs script (folders.items_of brokers.now) →
         IfOk result (HasTold (folders.run_in script (folders.items_of repositories.now) (folders.items_of brokers.now))
         (folders.tries_of script (folders.items_of brokers.now))) }
+    ensures scripts { IfOk result (λ t. AllScripts (told_at t.told)) }
     ensures unfit { IfErr result (IsFault (folders.items_of brokers.now)) }
 {
     let puts = puts_of_all(alloc, repositories)?;

@@ -11,7 +11,7 @@ use Rattle.std.specs.BTreeMap.{is_at}
 use Rattle.std.specs.Map.{lookup}
 use Rattle.pseudo_time.specs.StampParts.{stamp_cmp}
 use Rattle.log_replay.proofs.RunLemmas.{all-decided, all-written, whole}
-use Rattle.log_replay.proofs.TellLemmas.{told-none, told-same}
+use Rattle.log_replay.proofs.TellLemmas.{scripts-none, told-none, told-same}
 use Rattle.log_replay.proofs.UnfitLemmas.{all-taken, fault-of, reads-next, stamps-next, tries-next, unfit-log}
 use Rattle.log_replay.proofs.tells.attempts_of.Goals as goal
 
@@ -37,12 +37,16 @@ loop-place-preserved c =
       commits = c.in-Ok.ensures.commits ∙ now.commits;
       keys = subst (λ z. KeysIn z new) (sym (stamps-next brokers i log low is))
           (subst (λ l. KeysIn (stamps_of (tries_in l) ++ stamps_onto (items_of (take i brokers)) []) new) same (c.in-Ok.ensures.keys (stamps_onto (items_of (take i brokers)) []) now.keys));
+      scripts = λ all. c.in-Ok.ensures.scripts (now.scripts all);
       told = λ script k reads knows told.
           let w = reads-next script brokers i log low is reads in
           let ts = tries_of script (items_of (take i brokers)) in
           let step = subst (λ l. ((t : books.Try) → Has t (tries (book (reverse l))) → Reads script t.task.script) → Knows k old → HasTold k ts old → HasTold k (map (attempt script) (tries (book (reverse l))) ++ ts) new) same (c.in-Ok.ensures.told script k ts) in
           told-same k _ _ (told_at new.told) (left_at new.puts) (sym (tries-next script brokers i log low is)) (step w.1 (subst (λ z. AreDecided k z.items) (sym now.commits) knows) (now.told script k w.0 knows told));
     }
+
+pub returns-clause-scripts : goal.returns-clause-scripts
+returns-clause-scripts c = c.loop-place.invariant.scripts (scripts-none (told_at c.new.result) (λ s. ap (λ es. lookup (is_at (stamp_cmp s)) es) c.new.ensures.empty))
 
 pub returns-clause-knows : goal.returns-clause-knows
 returns-clause-knows c = λ script s inside.

@@ -24,6 +24,7 @@ loop-draft-preserved c =
           c.in-Ok.ensures.told script k (map (draft_try script) (map draft_parts done) ++ ts) (reads d (has-right rest (d ∷ done) d (inl refl))) (subst (λ z. AreDecided k z.items) (sym now.2) knows)
           (now.3 script k ts (λ x h. reads x (subst (Has x) next h)) knows told),
       λ ss keys. c.in-Ok.ensures.keys (stamps_of (map draft_parts done) ++ ss) (now.4 ss keys),
+      λ all. c.in-Ok.ensures.scripts (now.5 all),
     )
 
 pub returns-in-Err-clause-unfit : goal.returns-in-Err-clause-unfit
@@ -39,6 +40,9 @@ returns-clause-told c = λ script k ts reads knows told.
     let parts = ap (λ z. map draft_parts (z ++ now.0)) (sym none) ∙ now.1 in
     told-same k _ _ (told_at c.loop-draft.self.told) (left_at c.loop-draft.self.puts) (ap (λ z. z ++ ts) (drafts-are script now.0 (reverse c.args.log.now) parts))
     (now.3 script k ts (λ d h. reads-drafts script now.0 (reverse c.args.log.now) parts reads d (subst (λ z. Has d (z ++ now.0)) none h)) knows told)
+
+pub returns-clause-scripts : goal.returns-clause-scripts
+returns-clause-scripts c = c.loop-draft.invariant.5
 
 pub returns-clause-keys : goal.returns-clause-keys
 returns-clause-keys c = λ ss keys.
