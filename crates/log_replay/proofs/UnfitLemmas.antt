@@ -30,7 +30,7 @@ use Rattle.log_replay.proofs.ItemLemmas.{items-next}
 -- ---- a log
 
 -- the last of those that are left is the next one
-pub next-draft : (old rest done : List Draft) (d : Draft) → old ≡ rest ++ d ∷ [] → old ++ done ≡ rest ++ d ∷ done
+pub next-draft : {A : Type 0} (old rest done : List A) (d : A) → old ≡ rest ++ d ∷ [] → old ++ done ≡ rest ++ d ∷ done
 next-draft old rest done d e = ap (λ z. z ++ done) e ∙ append_assoc rest (d ∷ []) done
 
 pub has-next : (old rest done : List Draft) (d : Draft) → old ≡ rest ++ d ∷ [] → Has d (old ++ done)
