@@ -253,6 +253,7 @@ start_before_a_reader() {
   "5 settle") say "each line 'open' says what it waits for: a deadline in seconds since 1970, or a home that isn't among these repositories (docs/COMMANDS.md)" ;;
   "5 session") say "an act has no outcome: send it in a batch again; '--ticks' and '--messages' set when a batch ends without an outcome (docs/COMMANDS.md)" ;;
   5\ *) say "run the same again; '--ticks' and '--messages' set when a run ends without an outcome (docs/COMMANDS.md)" ;;
+  "8 replay") say "a file was damaged, lost or put in from elsewhere: docs/OPERATIONS.md, 'What replay finds', says what to do" ;;
   6\ * | 8\ *) say "docs/COMMANDS.md says for each line what to do, docs/OPERATIONS.md for files that were lost or are full" ;;
   126\ *) return ;;
   esac
