@@ -24,6 +24,7 @@ unfoldable use Rattle.serial_model.specs.Deeds.{put_in}
 use Rattle.broker_core.specs.Book.{book, tries}
 use Rattle.world_core.specs.Deeds.{RunLogs, Try, attempt, in_run, log_of, written}
 unfoldable use Rattle.world_core.specs.Deeds.{find, puts_of, puts_to}
+use Rattle.serial_law.proofs.Before.{find-is}
 unfoldable use Rattle.log_replay.specs.Folders.{all_tries}
 use Rattle.log_replay.specs.Folders.{log_at, tries_onto}
 use Rattle.log_replay.specs.Tells.{HasPut}
@@ -148,16 +149,6 @@ pub written-put : (k : RunLogs) (s : StampParts) → (written k s ≡ [] → ⊥
 written-put k s n = elim (to-or k s k.repositories (omega arith)) [ inl e ↦ absurd (n e) | inr p ↦ p ]
 
 -- ---- attempts by their stamp
-
-found-at : (b : Bool) (t : Try) (r : Option Try) (s : StampParts) (ts : List Try) → same_stamp t.stamp s ≡ b →
-    ((u : Try) → r ≡ Some u → Has u ts × (u.stamp ≡ s)) → (u : Try) → (if b then Some t else r) ≡ Some u → Has u (t ∷ ts) × (u.stamp ≡ s)
-found-at true t r s ts e h u q = let k : t ≡ u = cc q in (inl k, ap (λ (z : Try). z.stamp) (sym k) ∙ same_stamp-is t.stamp s e)
-found-at false t r s ts e h u q = let w = h u q in (inr w.0, w.1)
-
-find-is : (s : StampParts) (ts : List Try) (u : Try) → find s ts ≡ Some u → Has u ts × (u.stamp ≡ s)
-unfolding find
-find-is s [] u q = absurd (cc q)
-find-is s (t ∷ ts) u q = found-at (same_stamp t.stamp s) t (find s ts) s ts refl (find-is s ts) u q
 
 pub find-none : (s : StampParts) (ts : List Try) → ((u : Try) → Has u ts → u.stamp ≡ s → ⊥) → find s ts ≡ None
 find-none s ts h = by (find s ts) refl

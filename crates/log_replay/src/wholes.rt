@@ -46,14 +46,17 @@ impl Whole {
             OnOk result ((o : _) (x : _) → is_some (get start_cmp self.new.met (record { object = o; start = x })) ≡
             has_start o x (marks (effect.now ∷ log))) }
     {
-        if let Effect::Put { object, start, .. } = effect {
-            let start = Start {
-                object: *object,
-                start: *start,
-            };
-            self.met.insert(start, ())?;
+        match effect {
+            Effect::Put { object, start, .. } => {
+                let start = Start {
+                    object: *object,
+                    start: *start,
+                };
+                self.met.insert(start, ())?;
+                Ok(())
+            }
+            _ => Ok(()),
         }
-        Ok(())
     }
 
     // Adds an effect.
