@@ -1,6 +1,6 @@
 -- Tries of a log, one after another, and one that can't be told.
 use Rattle.std.proofs.Common.{◌≡◌, ◌⊎◌, ◌<◌, ◌≤◌, ◌+◌, false, true, inr, ℕ, zero, suc, List, [], ◌∷◌, ◌++◌, length, get_or, map, reverse, take, arith, refl, inl, sym, ◌∙◌, ap, subst}
-use Rattle.std.proofs.lemmas.List.{append_assoc, length-map, map-append}
+use Rattle.std.proofs.lemmas.List.{append_assoc, length-map, map-append, take-map}
 use Rattle.std.proofs.lemmas.Bool.{false≢true}
 use Rattle.std.specs.Prelude.{Err}
 use Rattle.std.specs.Global.{Vec}
@@ -72,17 +72,12 @@ pub reads-next : (script : List ℕ → Tree) (logs : List (Vec Effect)) (i : �
     ReadsLogs script (items_of (take i logs)) × ((t : books.Try) → Has t (tries (book (reverse log.items))) → Reads script t.task.script)
 reads-next script logs i log low is h = reads-split script (items_of (take i logs)) log.items (subst (ReadsLogs script) (items-next logs i log low is) h)
 
-take-items : (logs : List (Vec Effect)) (i : ℕ) → items_of (take i logs) ≡ take i (items_of logs)
-take-items logs zero = refl
-take-items [] (suc i) = refl
-take-items (l ∷ logs) (suc i) = ap (λ z. l.items ∷ z) (take-items logs i)
-
 pub unfit-log : (logs : List (Vec Effect)) (i m : ℕ) (log : Vec Effect) (effects : List Effect) → i < length logs → log ≡ get_or logs i log → effects ≡ log.items → m ≡ i + 1 → HasUnfit (stamps_onto (items_of (take i logs)) []) (tries_in effects) → IsUnfitLog (items_of logs) m
 unfit-log logs i m log effects low is same e h = let at : suc i ≡ m = omega (arith, e) in record {
   place = i;
   is = sym at;
   within = let long = length-map logs (λ (l : Vec Effect). l.items) in omega (arith, long, low);
-  unfit = subst (λ z. HasUnfit (stamps_onto z []) (tries_in (log_at (items_of logs) m))) (take-items logs i)
+  unfit = subst (λ z. HasUnfit (stamps_onto z []) (tries_in (log_at (items_of logs) m))) (sym (take-map (λ (l : Vec Effect). l.items) i logs))
       (subst (λ z. HasUnfit (stamps_onto (items_of (take i logs)) []) (tries_in z)) (same ∙ sym (log-here logs i log low is) ∙ ap (log_at (items_of logs)) at) h);
 }
 
@@ -104,12 +99,6 @@ cause-map n P Q f g (inr h) = inr (h.0, g h.1)
 pub fault-of : (logs : List (List Effect)) (n : ℕ) (P : Type 0) (f : ToldFault) → (P → IsUnfitLog logs n) → IsCause n P f → IsFault logs f
 fault-of logs n P f g (inl e) = inl e
 fault-of logs n P f g (inr h) = inr (n, h.0, g h.1)
-
-pub all-taken : {A : Type 0} (xs : List A) (n : ℕ) → length xs ≤ n → take n xs ≡ xs
-all-taken [] zero low = refl
-all-taken [] (suc n) low = refl
-all-taken (x ∷ xs) zero low = absurd (omega (arith, low))
-all-taken (x ∷ xs) (suc n) low = ap (λ z. x ∷ z) (all-taken xs n (omega (arith, low)))
 
 pub none-left : {A : Type 0} (xs : List A) → (0 < length xs → false ≡ true) → xs ≡ []
 none-left [] h = refl

@@ -109,7 +109,7 @@ impl Whole {
 }
 
 // A log with the objects and starts of its versions.
-fn whole(alloc: Global, log: Vec<Effect>) -> Result<Whole, AllocError>
+fn alone(alloc: Global, log: Vec<Effect>) -> Result<Whole, AllocError>
     ensures { IfOk result (IsWhole (reverse log.items)) }
 {
     let mut whole = Whole::new(alloc);
@@ -125,7 +125,7 @@ fn whole(alloc: Global, log: Vec<Effect>) -> Result<Whole, AllocError>
 fn with_olds(alloc: Global, log: Vec<Effect>, olds: &[Vec<Effect>]) -> Result<Whole, AllocError>
     ensures { IfOk result (IsWhole (whole_log (map reverse (reverse (items_of olds.now))) (reverse log.items))) }
 {
-    let mut whole = whole(alloc, log)?;
+    let mut whole = alone(alloc, log)?;
     for old in olds {
         whole.add_log(alloc, old.as_slice())?;
     }

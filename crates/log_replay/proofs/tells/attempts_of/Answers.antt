@@ -1,4 +1,5 @@
 use Rattle.std.proofs.Common.{◌≡◌, ◌++◌, ◌+◌, [], map, reverse, take, refl, sym, ◌∙◌, ap, subst}
+use Rattle.std.proofs.lemmas.List.{take_all}
 use Rattle.pseudo_time.specs.Lists.{Has}
 use Rattle.broker_core.specs.Book as books
 use Rattle.broker_core.specs.Book.{book, tries}
@@ -12,7 +13,7 @@ use Rattle.std.specs.Map.{lookup}
 use Rattle.pseudo_time.specs.StampParts.{stamp_cmp}
 use Rattle.log_replay.proofs.RunLemmas.{all-decided, all-written, whole}
 use Rattle.log_replay.proofs.TellLemmas.{scripts-none, told-none, told-same}
-use Rattle.log_replay.proofs.UnfitLemmas.{all-taken, fault-of, reads-next, stamps-next, tries-next, unfit-log}
+use Rattle.log_replay.proofs.UnfitLemmas.{fault-of, reads-next, stamps-next, tries-next, unfit-log}
 use Rattle.log_replay.proofs.tells.attempts_of.Goals as goal
 
 pub returns-in-Err-clause-unfit : goal.returns-in-Err-clause-unfit
@@ -57,7 +58,7 @@ returns-clause-told c = λ script reads.
     let brokers = c.args.brokers.now in
     let repositories = c.args.repositories.now in
     let k = whole script repositories brokers in
-    let all = all-taken brokers c.loop-place.place c.loop-place-test.false in
+    let all = take_all c.loop-place.place brokers c.loop-place-test.false in
     subst (λ z. AreTold k (tries_of script (items_of z)) (told_at c.loop-place.teller.told) (left_at c.loop-place.teller.puts)) all
     (c.loop-place.invariant.told script k (subst (λ z. ReadsLogs script (items_of z)) (sym all) reads) (all-decided script repositories brokers c.in_ok-commits.commits.items c.requires.repositories c.in_ok-commits.ensures)
     (told-none k (told_at c.new.result) (left_at c.in_ok-puts.puts) (λ s. ap (λ es. lookup (is_at (stamp_cmp s)) es) c.new.ensures.empty) (all-written script repositories brokers c.in_ok-puts.puts c.requires.repositories c.in_ok-puts.ensures)))

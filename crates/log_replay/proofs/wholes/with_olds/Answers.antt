@@ -1,9 +1,9 @@
 use Rattle.std.proofs.Common.{map, reverse, take, subst, sym}
+use Rattle.std.proofs.lemmas.List.{take_all}
 use Rattle.serial_law.specs.Wholes.{whole_log, with_puts}
 use Rattle.log_replay.specs.Folders.{items_of}
 use Rattle.log_replay.specs.Whole.{IsWhole}
 use Rattle.log_replay.proofs.JoinLemmas.{olds-next}
-use Rattle.log_replay.proofs.UnfitLemmas.{all-taken}
 use Rattle.log_replay.proofs.wholes.with_olds.Goals as goal
 
 pub loop-old-preserved : goal.loop-old-preserved
@@ -18,4 +18,4 @@ loop-old-preserved c =
 pub returns : goal.returns
 returns c =
     let olds = c.args.olds.now in
-    subst (λ z. IsWhole (whole_log (map reverse (reverse (items_of z))) (reverse c.args.log.items)) c.loop-old.whole) (all-taken olds c.loop-old.old-index c.loop-old-test.false) c.loop-old.invariant
+    subst (λ z. IsWhole (whole_log (map reverse (reverse (items_of z))) (reverse c.args.log.items)) c.loop-old.whole) (take_all c.loop-old.old-index olds c.loop-old-test.false) c.loop-old.invariant

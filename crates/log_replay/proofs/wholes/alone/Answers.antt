@@ -1,7 +1,7 @@
 use Rattle.std.proofs.Common.{◌++◌, ◌∷◌, ap, subst, sym, ◌∙◌}
 use Rattle.log_replay.specs.Whole.{IsWhole}
 use Rattle.log_replay.proofs.UnfitLemmas.{next-draft, none-left}
-use Rattle.log_replay.proofs.wholes.whole.Goals as goal
+use Rattle.log_replay.proofs.wholes.alone.Goals as goal
 
 pub loop-effect-preserved : goal.loop-effect-preserved
 loop-effect-preserved c =

@@ -1,7 +1,7 @@
 use Rattle.std.proofs.Common.{◌≡◌, ◌++◌, List, length, reverse}
 use Rattle.effect_form.specs.declared.effects.Effect.{Effect}
 use Rattle.log_replay.specs.Whole.{IsWhole}
-use Rattle.log_replay.proofs.wholes.whole.Given as goal
+use Rattle.log_replay.proofs.wholes.alone.Given as goal
 
 -- those that are left, and those that were added, newest first
 abbrev pub invariant-loop-effect : goal.invariant-loop-effect
