@@ -51,6 +51,7 @@ met-put old new log o x v news knows a y =
 
 -- an effect that puts nothing
 pub met-same : (found : Start → Option (Unit {0})) (log : List Effect) (f : Effect) → ((o : ObjectId) (x : TimeParts) (v : Value) → f ≡ effect.Put o x v → ⊥) → Knows found log → Knows found (f ∷ log)
+unfolding has_start
 met-same found log (effect.Put o x v) other knows = absurd (other o x v refl)
 met-same found log (effect.Stretch o x) other knows = knows
 met-same found log (effect.Begin s d) other knows = knows
@@ -64,6 +65,15 @@ met-same found log (effect.Acked k) other knows = knows
 met-same found log (effect.End i e) other knows = knows
 met-same found log (effect.Mark at) other knows = knows
 met-same found log effect.Whole other knows = knows
+
+-- nothing is met
+pub met-none : (found : Start → Option (Unit {0})) → ((q : Start) → found q ≡ None) → Knows found []
+unfolding has_start
+met-none found none o x = ap is_some (none (start_of o x))
+
+-- an effect that puts a version which is new just if the log lacks it
+pub lacks-put : (f : Effect) (log : List Effect) (o : ObjectId) (x : TimeParts) (v : Value) (b : Bool) → f ≡ effect.Put o x v → b ≡ has_start o x (marks log) → not b ≡ is_new f log
+lacks-put f log o x v b e h = ap not h ∙ ap (λ z. is_new z log) (sym e)
 
 -- ---- versions that are lacking
 
@@ -87,7 +97,7 @@ with-new met older (effect.Act i a t n c x) e = absurd (false≢true e)
 with-new met older (effect.Try i s) e = absurd (false≢true e)
 with-new met older (effect.Got k v) e = absurd (false≢true e)
 with-new met older (effect.Acked k) e = absurd (false≢true e)
-with-new met older (effect.End i e) e = absurd (false≢true e)
+with-new met older (effect.End i y) e = absurd (false≢true e)
 with-new met older (effect.Mark at) e = absurd (false≢true e)
 with-new met older effect.Whole e = absurd (false≢true e)
 
@@ -103,7 +113,7 @@ with-old met older (effect.Act i a t n c x) e = refl
 with-old met older (effect.Try i s) e = refl
 with-old met older (effect.Got k v) e = refl
 with-old met older (effect.Acked k) e = refl
-with-old met older (effect.End i e) e = refl
+with-old met older (effect.End i y) e = refl
 with-old met older (effect.Mark at) e = refl
 with-old met older effect.Whole e = refl
 

@@ -1,4 +1,4 @@
-use Rattle.std.proofs.Common.{◌++◌, ◌∷◌, ap, subst, sym, ◌∙◌}
+use Rattle.std.proofs.Common.{◌++◌, ◌∷◌, arith, ap, subst, sym, ◌∙◌}
 use Rattle.log_replay.specs.Whole.{IsWhole}
 use Rattle.log_replay.proofs.UnfitLemmas.{next-draft, none-left}
 use Rattle.log_replay.proofs.wholes.alone.Goals as goal
@@ -15,5 +15,6 @@ loop-effect-preserved c =
 pub returns : goal.returns
 returns c =
     let now = c.loop-effect.invariant in
-    let none = none-left c.loop-effect.left.items c.in_default.ensures.variant.1 in
+    let left = c.loop-effect.left.ok in
+    let none = none-left c.loop-effect.left.items (λ low. c.in_default.ensures.variant.1 (omega (arith, low, left))) in
     subst (λ z. IsWhole z c.loop-effect.whole) (ap (λ z. z ++ now.0) (sym none) ∙ now.1) now.2
