@@ -2,7 +2,6 @@
 use Rattle.std.proofs.Common.{◌≡◌, ◌<◌, ◌+◌, ℕ, zero, suc, Bool, true, false, List, [], ◌∷◌, ◌++◌, length, get_or, map, reverse, take, drop, arith, refl, sym, ◌∙◌, ap, subst, Option, Some, None, ◌&&◌, ◌||◌, if◌then◌else◌}
 use Rattle.std.specs.Prelude.{cond, is_some, not}
 use Rattle.std.proofs.lemmas.Bool.{false≢true, true≢false}
-use Rattle.std.proofs.lemmas.List.{reverse-reverse}
 use Rattle.std.specs.Global.{Vec}
 use Rattle.std.specs.Ordering.{is_eq, ordering_then}
 use Rattle.std.specs.declared.cmp.Ordering.{Ordering}
@@ -129,14 +128,3 @@ olds-next logs i log low is = ap (λ l. map reverse (reverse (items_of l))) (tak
 -- the last one, with those before it
 pub whole-last : (olds : List (Vec Effect)) (log : Vec Effect) → whole_in (items_of (olds ++ log ∷ [])) ≡ reverse (whole_log (map reverse (reverse (items_of olds))) (reverse log.items))
 whole-last olds log = ap (λ l. reverse (whole_back (map reverse l))) (turned olds log)
-
-module _ (all olds : List (Vec Effect)) (log : Vec Effect) (are : all ≡ olds ++ log ∷ []) where
-  -- one log alone
-  pub whole-one : olds ≡ [] → log.items ≡ whole_in (items_of all)
-  whole-one none =
-      sym (reverse-reverse log.items) ∙ ap (λ o. reverse (whole_log (map reverse (reverse (items_of o))) (reverse log.items))) (sym none)
-      ∙ sym (whole-last olds log) ∙ ap (λ l. whole_in (items_of l)) (sym are)
-
-  -- what came of all of them
-  pub whole-made : (made : Vec Effect) → reverse made.items ≡ whole_log (map reverse (reverse (items_of olds))) (reverse log.items) → made.items ≡ whole_in (items_of all)
-  whole-made made is = sym (reverse-reverse made.items) ∙ ap reverse is ∙ sym (whole-last olds log) ∙ ap (λ l. whole_in (items_of l)) (sym are)

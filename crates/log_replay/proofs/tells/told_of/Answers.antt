@@ -15,8 +15,9 @@ returns-clause-tells c = λ script reads.
     let brokers = c.args.brokers.now in
     let repositories = c.args.repositories.now in
     let k = whole script repositories brokers in
+    let teller = c.in_ok-told.field-0 in
     let told = c.in_ok-told.ensures.told script reads in
-    let given = begin-given k (tries_of script (items_of brokers)) (told_at c.in_ok-told.told) (left_at c.in_ok-told.puts) told (to-run script repositories brokers c.requires.brokers) (from-run script repositories brokers c.requires.brokers) in
+    let given = begin-given k (tries_of script (items_of brokers)) (told_at teller.told) (left_at teller.puts) told (to-run script repositories brokers c.requires.brokers) (from-run script repositories brokers c.requires.brokers) in
     subst (λ z. Tells k z c.in_ok-told-2.untried) (sym c.in_ok-told-3.ensures.items)
     (tells-so k c.in_ok-told-2.told.entries c.in_ok-told-3.ensures.rising c.in_ok-told-2.untried (c.in_ok-told-2.ensures.gives k (subst (AreDecided k) (sym c.as_slice.ensures.value) (c.in_ok-told.ensures.knows script)) (have-brokers script repositories brokers) given))
 

@@ -5,8 +5,8 @@ use Rattle.world_core.specs.Deeds.{log_of}
 use Rattle.log_replay.proofs.DecisionLemmas.{blamed}
 use Rattle.log_replay.proofs.decisions.Rulings.decide.Goals as goal
 
-pub returns-in_ok-decide_home-clause-based : goal.returns-in_ok-decide_home-clause-based
-returns-in_ok-decide_home-clause-based c = λ k d inside there is based.
+pub returns-then-home-repository-clause-based : goal.returns-then-home-repository-clause-based
+returns-then-home-repository-clause-based c = λ k d inside there is based.
     c.in_ok-decide_home.ensures.based k d (subst (λ r. Has (effect.Decide c.args.stamp d) (log_of k r)) (sym c.if-home-repository.true ∙ c.home.ensures) there) is based
 
 pub returns-clause-based : goal.returns-clause-based

@@ -1,4 +1,4 @@
-use Rattle.std.proofs.Common.{◌++◌, ◌∷◌, map, reverse, refl, inl, sym, ◌∙◌, ap, subst}
+use Rattle.std.proofs.Common.{◌++◌, ◌∷◌, arith, map, reverse, refl, inl, sym, ◌∙◌, ap, subst}
 use Rattle.pseudo_time.specs.Lists.{Has}
 use Rattle.pseudo_time.proofs.ListLemmas.{has-right}
 use Rattle.log_replay.specs.Drafts.{draft_parts, draft_try}
@@ -36,7 +36,8 @@ returns-in-Err-clause-unfit c = λ ss keys.
 pub returns-clause-told : goal.returns-clause-told
 returns-clause-told c = λ script k ts reads knows told.
     let now = c.loop-draft.invariant in
-    let none = none-left c.loop-draft.tries.items c.in_default.ensures.variant.1 in
+    let left = c.loop-draft.tries.ok in
+    let none = none-left c.loop-draft.tries.items (λ low. c.in_default.ensures.variant.1 (omega (arith, low, left))) in
     let parts = ap (λ z. map draft_parts (z ++ now.0)) (sym none) ∙ now.1 in
     told-same k _ _ (told_at c.loop-draft.self.told) (left_at c.loop-draft.self.puts) (ap (λ z. z ++ ts) (drafts-are script now.0 (reverse c.args.log.now) parts))
     (now.3 script k ts (λ d h. reads-drafts script now.0 (reverse c.args.log.now) parts reads d (subst (λ z. Has d (z ++ now.0)) none h)) knows told)
@@ -47,6 +48,7 @@ returns-clause-scripts c = c.loop-draft.invariant.5
 pub returns-clause-keys : goal.returns-clause-keys
 returns-clause-keys c = λ ss keys.
     let now = c.loop-draft.invariant in
-    let none = none-left c.loop-draft.tries.items c.in_default.ensures.variant.1 in
+    let left = c.loop-draft.tries.ok in
+    let none = none-left c.loop-draft.tries.items (λ low. c.in_default.ensures.variant.1 (omega (arith, low, left))) in
     let parts = ap (λ z. map draft_parts (z ++ now.0)) (sym none) ∙ now.1 in
     subst (λ z. KeysIn (stamps_of z ++ ss) c.loop-draft.self) (parts ∙ read-tries (reverse c.args.log.now)) (now.4 ss keys)
