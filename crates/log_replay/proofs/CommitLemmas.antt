@@ -1,5 +1,5 @@
 -- What a log says first of an attempt is whether it commits it.
-use Rattle.std.proofs.Common.{◌≡◌, ◌≤◌, ℕ, zero, suc, ◌-◌, Bool, true, false, List, [], ◌∷◌, ◌++◌, ◌<◌, ◌+◌, take, get_or, reverse, refl, sym, ◌∙◌, ap, subst, Option, Some, None, arith, length, inl, inr}
+use Rattle.std.proofs.Common.{◌≡◌, ◌≤◌, ℕ, zero, suc, ◌-◌, Bool, true, false, List, [], ◌∷◌, ◌++◌, ◌<◌, ◌+◌, take, get_or, reverse, refl, sym, ◌∙◌, ap, subst, Option, Some, None, arith, length}
 use Rattle.std.specs.Prelude.{◌&&◌, ◌||◌, not, is_some, if◌then◌else◌, cond, slice_get, nat_le}
 use Rattle.std.proofs.lemmas.Bool.{false≢true, le-leb, true≢false}
 use Rattle.object_history.proofs.BoolLemmas.{and-both}
@@ -10,11 +10,10 @@ use Rattle.std.specs.Global.{Vec}
 use Rattle.std.specs.Ordering.{is_eq}
 use Rattle.std.specs.FinMap as finite
 use Rattle.std.specs.FinMap.{get-empty, get-insert}
-use Rattle.pseudo_time.specs.StampParts.{IsStamp, StampParts, stamp_cmp}
+use Rattle.pseudo_time.specs.StampParts.{StampParts, stamp_cmp}
 use Rattle.pseudo_time.specs.declared.decisions.Decision.{Decision}
 use Rattle.pseudo_time.specs.declared.decisions.Decision.TheVariants as decision
 use Rattle.pseudo_time.proofs.OrderLemmas.{same_stamp-is, stamp_cmp-total}
-use Rattle.pseudo_time.specs.Nodes.{repository}
 unfoldable use Rattle.pseudo_time.specs.Order.{same_stamp}
 use Rattle.effect_form.specs.declared.effects.Effect.{Effect}
 use Rattle.effect_form.specs.declared.effects.Effect.TheVariants as effect
@@ -27,7 +26,7 @@ use Rattle.world_core.specs.Deeds.{RunLogs, has_learned, in_run, log_of, some_of
 use Rattle.log_replay.specs.Commits.{AreCommits, AreSaid, is_said, said_by}
 unfoldable use Rattle.log_replay.specs.Commits.{first_of}
 use Rattle.log_replay.specs.Folders.{items_of, log_at}
-use Rattle.log_replay.specs.Telling.{AreDecided, committed_by, said_at}
+use Rattle.log_replay.specs.Telling.{AreDecided, said_at}
 
 pub said-none : (said : Settled) → said ≡ finite.empty → AreSaid [] said
 unfolding first_of

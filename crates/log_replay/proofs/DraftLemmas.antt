@@ -1,11 +1,11 @@
 -- The tries that are read off a broker's log are those of its book.
-use Rattle.std.proofs.Common.{◌≡◌, ℕ, Bool, true, false, List, [], ◌∷◌, ◌++◌, map, Option, Some, None, refl, sym, ap, ◌∙◌, subst, reverse, if◌then◌else◌}
+use Rattle.std.proofs.Common.{◌≡◌, ℕ, Bool, true, false, List, [], ◌∷◌, ◌++◌, map, Option, Some, None, refl, sym, ap, ◌∙◌, subst, if◌then◌else◌}
 use Rattle.effect_form.specs.declared.effects.Effect.{Effect}
 use Rattle.effect_form.specs.declared.effects.Effect.TheVariants as effect
 use Rattle.effect_form.specs.declared.outcomes.Outcome.{Outcome}
 use Rattle.effect_form.specs.declared.outcomes.Outcome.TheVariants as outcome
 use Rattle.pseudo_time.specs.StampParts.{StampParts}
-use Rattle.script_meaning.specs.Meaning.{Answer, Got, Stored}
+use Rattle.script_meaning.specs.Meaning.{Got, Stored}
 use Rattle.serial_model.specs.Questions.{Tree}
 use Rattle.broker_core.specs.Book as books
 use Rattle.broker_core.specs.Book.{Act, Book, enter, tries, tries_of}

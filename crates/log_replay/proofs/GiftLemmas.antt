@@ -1,5 +1,5 @@
 -- Versions that no attempt has are given, and all is told.
-use Rattle.std.proofs.Common.{◌≡◌, ◌⊎◌, inl, inr, ◌≤◌, ◌<◌, ◌-◌, ℕ, zero, suc, length, get_or, arith, Bool, true, false, List, [], ◌∷◌, ◌++◌, map, reverse, refl, sym, ◌∙◌, ap, subst, Option, Some, None}
+use Rattle.std.proofs.Common.{◌≡◌, ◌⊎◌, inl, inr, ◌≤◌, ◌<◌, ◌-◌, ℕ, zero, suc, length, get_or, arith, Bool, true, false, List, [], ◌∷◌, ◌++◌, reverse, refl, sym, ◌∙◌, ap, subst, Option, Some, None}
 use Rattle.std.specs.Prelude.{cond, IsSome, ◌==◌}
 use Rattle.std.proofs.lemmas.Bool.{eqb-true, false≢true, true≢false}
 use Rattle.std.proofs.lemmas.List.{length-append, reverse-append}
@@ -7,7 +7,7 @@ use Rattle.std.specs.BTreeMap.{is_at}
 use Rattle.std.specs.Map.{lookup}
 use Rattle.std.specs.Ordering.{is_eq, is_gt, ordering_reverse}
 use Rattle.std.specs.Global.{Vec}
-use Rattle.pseudo_time.specs.Lists.{Every, Has}
+use Rattle.pseudo_time.specs.Lists.{Has}
 use Rattle.pseudo_time.specs.Nodes.{broker}
 use Rattle.pseudo_time.specs.StampParts.{StampParts, stamp_cmp}
 use Rattle.pseudo_time.proofs.OrderLemmas.{is_less, same_stamp-is, same_stamp-self, stamp_cmp-total}
@@ -17,13 +17,12 @@ use Rattle.world_core.specs.Deeds.{RunLogs, Try, committed, find, written}
 use Rattle.log_replay.specs.Folders.{HaveBrokers, items_of, log_at}
 use Rattle.script_replay.specs.Attempts.{stamp_of, versions_of}
 use Rattle.script_replay.specs.Replays.{HasScript}
-use Rattle.script_replay.specs.declared.attempts.Attempt.{Attempt}
 use Rattle.script_replay.specs.declared.attempts.Put.{Put}
 use Rattle.script_replay.specs.declared.attempts.Told.{Told}
 use Rattle.script_replay.specs.declared.attempts.Told.TheVariants.{Given, Tried}
 use Rattle.log_replay.specs.Puts.{versions_in}
 use Rattle.log_replay.specs.Telling.{AreGiven, AreTold, IsTried}
-use Rattle.log_replay.specs.Tells.{HasPut, IsTold, Says}
+use Rattle.log_replay.specs.Tells.{HasPut, IsTold}
 use Rattle.log_replay.specs.Untold.{Gave, IsFirstUntried, IsUntried}
 use Rattle.log_replay.proofs.WrittenLemmas.{find-none, none-has, put-written, written-put}
 

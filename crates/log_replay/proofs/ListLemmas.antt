@@ -1,10 +1,9 @@
 -- The values of a map of stamps, in the order of its keys, tell all.
-use Rattle.std.proofs.Common.{◌≡◌, ◌⊎◌, inl, inr, Bool, true, false, List, [], ◌∷◌, ◌++◌, map, refl, sym, ◌∙◌, ap, subst, Option, Some, None, if◌then◌else◌}
+use Rattle.std.proofs.Common.{◌≡◌, inl, inr, Bool, true, false, List, [], ◌∷◌, refl, sym, ◌∙◌, ap, subst, Option, Some, None}
 use Rattle.std.specs.Prelude.{cond}
 use Rattle.std.proofs.lemmas.Bool.{false≢true, true≢false}
 use Rattle.std.specs.Ordering.{is_eq, is_lt}
-use Rattle.std.specs.declared.cmp.Ordering.{Ordering}
-use Rattle.std.specs.declared.cmp.Ordering.TheVariants.{Equal, Greater, Less}
+use Rattle.std.specs.declared.cmp.Ordering.TheVariants.{Less}
 use Rattle.std.specs.BTreeMap.{is_at}
 use Rattle.std.specs.Map.{keys_of, lookup, values_of}
 use Rattle.std.specs.List.{AllByRecursion}
@@ -13,18 +12,17 @@ use Rattle.std.specs.Global.{Vec}
 use Rattle.pseudo_time.specs.Lists.{Every, Has}
 use Rattle.pseudo_time.specs.Nodes.{broker}
 use Rattle.pseudo_time.specs.StampParts.{StampParts, stamp_cmp}
-use Rattle.pseudo_time.proofs.OrderLemmas.{same_stamp-is, same_stamp-self, stamp_cmp-total}
+use Rattle.pseudo_time.proofs.OrderLemmas.{same_stamp-is, same_stamp-self}
 unfoldable use Rattle.pseudo_time.specs.Order.{same_stamp, stamp_lt}
-use Rattle.world_core.specs.Deeds.{RunLogs, Try, committed, find}
+use Rattle.world_core.specs.Deeds.{RunLogs, committed, find}
 use Rattle.script_replay.specs.Attempts.{stamp_of}
 use Rattle.script_replay.specs.Replays.{HasScript, HaveScripts}
-use Rattle.script_replay.specs.declared.attempts.Attempt.{Attempt}
 use Rattle.script_replay.specs.declared.attempts.Put.{Put}
 use Rattle.script_replay.specs.declared.attempts.Told.{Told}
-use Rattle.script_replay.specs.declared.attempts.Told.TheVariants.{Given, Tried}
+use Rattle.script_replay.specs.declared.attempts.Told.TheVariants.{Tried}
 use Rattle.log_replay.specs.Telling.{AreGiven}
 use Rattle.log_replay.specs.Tellers.{AllScripts}
-use Rattle.log_replay.specs.Tells.{AreRising, HasPut, IsTold, Says, TellsAll}
+use Rattle.log_replay.specs.Tells.{AreRising, HasPut, IsTold, TellsAll}
 use Rattle.log_replay.specs.Untold.{GaveAll, Tells, TellsTries}
 
 abbrev Entry : Type 0

@@ -13,7 +13,7 @@ use Rattle.repository_core.specs.Logs.{marks}
 use Rattle.world_core.specs.Deeds.{RunLogs, Try, deed_stamps, find, log_of}
 unfoldable use Rattle.world_core.specs.Deeds.{log_stamps, put_stamps, stamp_if, stamp_in, try_stamps}
 use Rattle.serial_law.proofs.Names.{same_stamp-of}
-use Rattle.serial_law.proofs.LogLemmas.{in-both, in-high, in-low, le-cases, marks-put, put-marks}
+use Rattle.serial_law.proofs.LogLemmas.{in-both, in-high, in-low, marks-put, put-marks}
 use Rattle.serial_law.proofs.Puts.{PutAt}
 use Rattle.serial_law.proofs.Stamps.{InS, Rising, here-logs, in-stamp, keep-puts, new-if, old-if}
 use Rattle.serial_law.proofs.Times.{stamp_lt-self, stamp_lt-trans}

@@ -1,5 +1,5 @@
 -- Tries of a log, one after another, and one that can't be told.
-use Rattle.std.proofs.Common.{◌≡◌, ◌⊎◌, ◌<◌, ◌≤◌, ◌+◌, false, true, inr, ℕ, zero, suc, List, [], ◌∷◌, ◌++◌, length, get_or, map, reverse, take, arith, refl, inl, sym, ◌∙◌, ap, subst}
+use Rattle.std.proofs.Common.{◌≡◌, ◌<◌, ◌+◌, false, true, inr, ℕ, suc, List, [], ◌∷◌, ◌++◌, length, get_or, map, reverse, take, arith, refl, inl, sym, ◌∙◌, ap, subst}
 use Rattle.std.proofs.lemmas.List.{append_assoc, length-map, map-append, take-map}
 use Rattle.std.proofs.lemmas.Bool.{false≢true}
 use Rattle.std.specs.Prelude.{Err}
@@ -8,7 +8,7 @@ use Rattle.pseudo_time.specs.Lists.{Has}
 use Rattle.pseudo_time.specs.StampParts.{StampParts}
 use Rattle.pseudo_time.proofs.ListLemmas.{has-right}
 use Rattle.effect_form.specs.declared.effects.Effect.{Effect}
-use Rattle.log_replay.specs.Drafts.{DraftParts, draft_parts, read_off}
+use Rattle.log_replay.specs.Drafts.{draft_parts, read_off}
 use Rattle.script_form.specs.Lines.{lines}
 use Rattle.script_form.specs.Parses.{Parses}
 use Rattle.script_form.specs.declared.parse_faults.ParseFault.{ParseFault}

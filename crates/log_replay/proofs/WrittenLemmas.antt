@@ -1,7 +1,7 @@
 -- A stamp has versions just where a repository's log has a put of it; and the tries that are told are the run's.
-use Rattle.std.proofs.Common.{◌≡◌, ◌⊎◌, inl, inr, ◌≤◌, ◌<◌, ◌+◌, length, ℕ, zero, suc, Bool, true, false, List, [], ◌∷◌, ◌++◌, map, reverse, refl, sym, ◌∙◌, ap, subst, Option, Some, None, arith, if◌then◌else◌}
+use Rattle.std.proofs.Common.{◌≡◌, ◌⊎◌, inl, inr, ◌≤◌, ◌+◌, length, ℕ, zero, suc, Bool, true, false, List, [], ◌∷◌, ◌++◌, map, reverse, refl, sym, ◌∙◌, ap, subst, Option, Some, None, arith, if◌then◌else◌}
 use Rattle.std.specs.Prelude.{nat_le}
-use Rattle.std.proofs.lemmas.Bool.{false≢true, le-leb, leb-true, true≢false}
+use Rattle.std.proofs.lemmas.Bool.{false≢true, le-leb, leb-true}
 use Rattle.std.proofs.Math.Nat.{eq-or-lt_of_le}
 use Rattle.object_history.proofs.BoolLemmas.{and-both, and-left, and-right}
 use Rattle.pseudo_time.specs.Lists.{Has}
@@ -9,7 +9,6 @@ use Rattle.pseudo_time.proofs.ListLemmas.{has-either, has-left, has-right}
 use Rattle.pseudo_time.specs.StampParts.{StampParts}
 use Rattle.pseudo_time.specs.TimeParts.{TimeParts}
 use Rattle.pseudo_time.specs.Order.{lt, same_stamp}
-use Rattle.pseudo_time.specs.Nodes.{broker}
 use Rattle.pseudo_time.proofs.OrderLemmas.{same_stamp-is, same_stamp-of}
 use Rattle.value_form.specs.declared.objects.ObjectId.{ObjectId}
 use Rattle.value_form.specs.declared.values.Value.{Value}

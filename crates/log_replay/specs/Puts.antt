@@ -1,5 +1,5 @@
 -- The versions of each stamp in repositories' logs, as the code keeps them.
-use Rattle.std.specs.Prelude.{◌≡◌, List, [], ◌∷◌, reverse, Option, Some, None}
+use Rattle.std.specs.Prelude.{List, [], ◌∷◌, reverse, Option, Some, None}
 use Rattle.std.specs.BTreeMap.{BTreeMap, get}
 use Rattle.std.specs.Global.{Vec}
 use Rattle.pseudo_time.specs.StampParts.{StampParts, stamp_cmp}

@@ -1,4 +1,4 @@
-use Rattle.std.proofs.Common.{refl, sym, subst, arith, ◌+◌, ◌<◌, ◌∙◌, take}
+use Rattle.std.proofs.Common.{refl, sym, subst, arith, ◌+◌, ◌∙◌, take}
 use Rattle.log_replay.specs.Decisions.{AreLearned}
 use Rattle.log_replay.specs.Folders.{items_of}
 use Rattle.log_replay.proofs.DecisionLemmas.{are-learned-on, decided-on, has-decided, inside-logs, learned-next, log-is}

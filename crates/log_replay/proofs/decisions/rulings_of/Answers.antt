@@ -1,4 +1,4 @@
-use Rattle.std.proofs.Common.{refl, arith, ◌+◌, ◌<◌, take}
+use Rattle.std.proofs.Common.{refl, arith, ◌+◌, take}
 use Rattle.log_replay.specs.Folders.{items_of}
 use Rattle.log_replay.proofs.DecisionLemmas.{are-kept-on, inside-logs, kept-next, log-is, none-based}
 use Rattle.log_replay.proofs.decisions.rulings_of.Goals as goal

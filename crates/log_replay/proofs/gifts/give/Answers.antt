@@ -1,4 +1,4 @@
-use Rattle.std.proofs.Common.{refl, sym, ◌∙◌}
+use Rattle.std.proofs.Common.{sym, ◌∙◌}
 use Rattle.log_replay.specs.Folders.{items_of}
 use Rattle.log_replay.specs.Telling.{told_at}
 use Rattle.log_replay.proofs.GiftLemmas.{given-more, lost-log, no-items, not-given, passed-empty, passed-other, some-items, there-log}

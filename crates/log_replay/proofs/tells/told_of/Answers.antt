@@ -1,6 +1,4 @@
-use Rattle.std.proofs.Common.{sym, ap, subst}
-use Rattle.std.specs.Prelude.{List, ℕ}
-use Rattle.serial_model.specs.Questions.{Tree}
+use Rattle.std.proofs.Common.{sym, subst}
 use Rattle.script_replay.specs.Replays.{HaveScripts}
 use Rattle.log_replay.specs.Folders.{items_of, tries_of}
 use Rattle.log_replay.specs.Telling.{AreDecided, left_at, told_at}
