@@ -85,9 +85,9 @@ class Reader:
         if tag == 3:
             return ("begin", self.stamp(), self.number(8))
         if tag == 4:
-            return ("settle", self.stamp(), self.decision())
+            return ("settle", self.stamp(), self.decision(), "decide")
         if tag == 5:
-            return ("settle", self.stamp(), self.number(1, 1, 2) == 1)
+            return ("settle", self.stamp(), self.number(1, 1, 2) == 1, "learn")
         if tag == 6:
             return ("run", self.number(4, 1))
         if tag == 7:
@@ -309,10 +309,11 @@ class Page:
         self.objects = sorted({e[1] for m in logs for e in m.log if e[0] in ("put", "stretch")})
         chosen = [o for o in self.objects if self.has_object(o)]
         self.left, left = max(0, len(chosen) - 200), 2000
+        self.homes = {e[1]: e[2] for m in logs for e in m.log if e[0] == "settle" and e[3] == "decide"}
         self.rows = []
         for o in chosen[:200]:
             h = history(self.volumes.get(o[0], []), o)
-            h.rows = [r for r in h.rows if self.has_stamp(r[0].start)]
+            h.rows = [self.at_home(*r) for r in h.rows if self.has_stamp(r[0].start)]
             h.shown = h.rows[:left]
             left -= len(h.shown)
             self.rows.append((o, h))
@@ -320,6 +321,12 @@ class Page:
         for m in media:
             chosen = [e[1][:3] for i, e in enumerate(m.log) if m.kind == "broker" and e[0] == "try" and self.has_try(e[1], m.log[i + 1 :])]
             self.tries |= set(chosen[:300])
+
+    def at_home(self, version, state, volume):
+        """With the decision of its home, for one that its repository holds undecided; and whether the repository knows its state."""
+        if state == "undecided" and version.start[:3] in self.homes:
+            return version, "committed" if self.homes[version.start[:3]] else "aborted", volume, False
+        return version, state, volume, True
 
     def has_object(self, o):
         return self.wanted["object"] in (None, o) and self.wanted["repository"] in (None, o[0])
@@ -363,12 +370,12 @@ class Page:
     def value_row(self, row):
         o, h = row
         name = f"{o[0]}.{o[1]}"
-        last = [v for v, state, volume in h.rows if state == "committed" and volume is None]
+        last = [v for v, state, volume, _ in h.rows if state == "committed" and volume is None]
         cells = "<td>none is committed</td><td></td><td></td>"
         if last:
             v = last[-1]
             cells = f"<td>{front(printed(v.value), 80)}</td><td>{self.time(v.start)}</td><td>{printed_time(v.end)}</td>"
-        open_ones = sum(state == "undecided" for _, state, _ in h.rows)
+        open_ones = sum(state == "undecided" for _, state, _, _ in h.rows)
         more = f", undecided {open_ones}" if open_ones else ""
         return f'<tr><th scope="row"><a href="#o{name}">{name}</a></th>{cells}<td>{len(h.rows)}{more}</td></tr>\n'
 
@@ -436,11 +443,11 @@ class Page:
         axis = set()
         for _, h in self.rows:
             axis |= {h.origin[:3]} if h.origin else set()
-            for v, _, _ in h.shown:
+            for v, _, _, _ in h.shown:
                 axis |= {v.start[:3], v.end[:3]}
         self.axis = sorted(axis)
         out = '<h2>Histories</h2>\n<p class="key">'
-        keys = [("committed", "committed"), ("undecided", "undecided"), ("aborted", "aborted"), ("committed older", "only in an older volume"), ("origin", "reads of what was there at first"), ("floor", "floor of a retirement")]
+        keys = [("committed", "committed"), ("undecided", "undecided"), ("aborted", "aborted"), ("committed unsettled", "decided at its home, not settled here yet"), ("committed older", "only in an older volume"), ("origin", "reads of what was there at first"), ("floor", "floor of a retirement")]
         out += " ".join(f'<i class="{word}"></i> {text}' for word, text in keys) + "</p>\n"
         out += "<p class=\"key\">A bar goes from a version's start to how far it was read. Each stamp has a column, so equal widths aren't equal distances. Open an object for its versions.</p>\n"
         return out + self.picture(self.rows[:20]) + folded(len(self.rows[20:]), self.picture(self.rows[20:]))
@@ -461,10 +468,12 @@ class Page:
             lines.append(f"<tr><td>origin</td><td>{printed_time(h.origin)}</td><td></td><td>what was there at first</td></tr>\n")
         if h.floor:
             out += bars("floor", sum(s < h.floor[:3] for s in self.axis)) + "\n"
-        for v, state, volume in h.shown:
+        for v, state, volume, settled in h.shown:
             first, last = column[v.start[:3]], column[v.end[:3]]
-            older, where = ("", "") if volume is None else (" older", f", only in volume {volume}")
-            out += bars(state + older, first, max(1, last - first), front(printed(v.value), 20)) + "\n"
+            mark, where = ("", "") if volume is None else (" older", f", only in volume {volume}")
+            if not settled:
+                mark, where = " unsettled", where + ", not settled here yet"
+            out += bars(state + mark, first, max(1, last - first), front(printed(v.value), 20)) + "\n"
             lines.append(f"<tr><td>{self.time(v.start)}</td><td>{printed_time(v.end)}</td><td>{state}{where}</td><td>{escaped(printed(v.value))}</td></tr>\n")
         out += "</span></summary>\n" + table(["version", "read up to", "state", "value"], lines)
         out += f"<p>floor {printed_time(h.floor)}</p>\n" if h.floor else ""

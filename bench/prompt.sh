@@ -150,5 +150,23 @@ TABLE
 check pipe 'head -n 6 examples/first.plan | ./swallow faulty run' 2 'expected `done`, which ends the script of an act'
 check pipe 'ls faulty' 2 'faulty'
 
+# What the finals of a report lack: the objects of a repository that the plan doesn't have, and what attempts wrote whose home can't be opened.
+two='swallow plan 1|run 1|repositories 2|brokers 1|act broker 1 home 2 timeout 5 tries 3|write 1.5 7|write 2.5 8|done'
+tr '|' '\n' <<< "$two" | ./swallow parts run > said 2> error
+said_to 'a plan of both repositories' $? 0 ''
+cp -r parts whole
+tr '|' '\n' <<< 'swallow plan 1|run 2|repositories 1|brokers 1' | ./swallow parts run > said 2> error
+said_to 'a plan of one of two repositories' $? 0 "swallow: repository 2 of the folder isn't in this plan, so the finals lack its objects, and may lack what attempts with this home wrote"
+rm whole/repository-2-0 && mkdir whole/repository-2-0
+tr '|' '\n' <<< "$two" | ./swallow whole run > said 2> error
+said_to 'a repository that is no file' $? 6 "swallow: whole/repository-2-0: no regular file
+swallow: repository 2 couldn't be opened, so no act was run, and the finals lack what attempts with this home wrote"
+if grep '^final' said; then
+  echo "WRONG finals though their home can't be opened"
+  wrong=$((wrong + 1))
+else
+  right=$((right + 1))
+fi
+
 echo "$right right, $wrong wrong"
 [ "$wrong" -eq 0 ]

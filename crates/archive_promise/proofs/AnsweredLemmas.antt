@@ -26,6 +26,7 @@ use Rattle.snapshot_command.specs.Question.TheVariants.{AsOf, Audit}
 use Rattle.snapshot_command.specs.Answers.{Gives, IsAsOf}
 use Rattle.snapshot_command.specs.Archives.{Complete, archive_of, complete, holding_volume, newest_first, volume_at, volumes_of}
 use Rattle.snapshot_command.specs.Versions.{audit_text}
+use Rattle.archive_promise.proofs.OpenLemmas.{first-is}
 use Rattle.archive_promise.specs.Answered.{IsHolder, IsLawful, IsOfStamp, TellsPlainMap, TellsWholeAudit, WereLeft, listed_value}
 
 -- ---- complete volumes
@@ -113,6 +114,7 @@ whole-audit o logs cs left = record {
 pub is-lawful : (q : Question) (logs : List (List Effect)) (r : Outcome) → IsOfStamp q → Gives (archive_of logs) (volumes_of logs) q r → IsLawful q logs r
 is-lawful (AsOf r at) logs (Told text) first is = plain-map r at.stamp logs text (subst (λ z. IsAsOf r z (newest_first logs) text) first is)
 is-lawful (Audit o) logs (Told text) first is = subst (TellsWholeAudit o logs) (sym is) (whole-audit o logs)
-is-lawful q logs (Refused line) first is = tt
+is-lawful (AsOf r at) logs (Refused line) first is = record { object = is.first.object; start = is.first.start; first = first-is (newest_first logs) at is.first is.is_first; is_line = is.is_line }
+is-lawful (Audit o) logs (Refused line) first is = is
 is-lawful q logs (Fallen line) first is = tt
 is-lawful q logs NoMemory first is = tt

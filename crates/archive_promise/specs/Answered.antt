@@ -3,14 +3,18 @@ use Rattle.std.specs.Prelude.{◌≡◌, ◌≤◌, ℕ, Bool, List, ◌++◌, m
 use Rattle.std.specs.List.{flat_map}
 use Rattle.pseudo_time.specs.Lists.{Has}
 use Rattle.pseudo_time.specs.StampParts.{StampParts}
+use Rattle.pseudo_time.specs.TimeParts.{TimeParts}
 use Rattle.value_form.specs.declared.objects.ObjectId.{ObjectId}
 use Rattle.value_form.specs.declared.values.Value.{Value}
 use Rattle.value_form.specs.declared.values.Value.TheVariants.{Nothing}
 use Rattle.effect_form.specs.declared.effects.Effect.{Effect}
 use Rattle.effect_form.specs.declared.effects.Effect.TheVariants as effect
+use Rattle.object_history.specs.declared.marks.Mark.{Mark}
 use Rattle.commit_watch.specs.declared.moved.Moved.{Moved}
 use Rattle.commit_watch.specs.declared.versions.Version.{Version}
 use Rattle.commit_watch.specs.Lists.{AreRising, moved_at}
+use Rattle.archive_store.specs.Latest.{IsFirstOpen}
+use Rattle.report_writer.specs.Lines.{undecided_line}
 use Rattle.world_core.specs.Deeds.{before}
 use Rattle.archive_law.specs.Earlier.{Earlier}
 use Rattle.archive_law.specs.Archives.{IsPast, WasDecided, volumes_left}
@@ -20,7 +24,7 @@ use Rattle.snapshot_command.specs.Outcome.{Outcome}
 use Rattle.snapshot_command.specs.Outcome.TheVariants.{Told, Refused, Fallen, NoMemory}
 use Rattle.snapshot_command.specs.Question.{Question}
 use Rattle.snapshot_command.specs.Question.TheVariants.{AsOf, Audit}
-use Rattle.snapshot_command.specs.Archives.{Complete, complete}
+use Rattle.snapshot_command.specs.Archives.{Complete, complete, newest_first}
 use Rattle.snapshot_command.specs.ArchiveLines.{asof_text, audit_head, version_line}
 
 -- the complete ones among these volumes have the logs that the calls left of the repository
@@ -71,11 +75,19 @@ TellsWholeAudit o logs text = (cs : List Earlier) → WereLeft cs o.repository l
 
 -- ---- what came of a question
 
+-- The line names the undecided version below the mark that stands in the way: of the least object, and of its starts the least.
+pub record NamesFirstOpen (at : TimeParts) (m : List Mark) (line : List ℕ) : Type 0 where
+  pub object : ObjectId
+  pub start : TimeParts
+  pub first : IsFirstOpen m at object start
+  pub is_line : line ≡ undecided_line object start
+
 -- what is reported is that, over whatever past
 abbrev pub IsLawful : Question → List (List Effect) → Outcome → Type 0
 IsLawful (AsOf r at) logs (Told text) = TellsPlainMap r at.stamp logs text
 IsLawful (Audit o) logs (Told text) = TellsWholeAudit o logs text
-IsLawful q logs (Refused line) = Unit {0}
+IsLawful (AsOf r at) logs (Refused line) = NamesFirstOpen at (newest_first logs) line
+IsLawful (Audit o) logs (Refused line) = ⊥
 IsLawful q logs (Fallen line) = Unit {0}
 IsLawful q logs NoMemory = Unit {0}
 

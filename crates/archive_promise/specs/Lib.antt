@@ -1,4 +1,5 @@
 pub mod Answered
+pub mod Retired
 pub mod Snapped
 pub mod Watched
 pub use Rattle.snapshot_command.specs.Answers

@@ -3,5 +3,5 @@
 
 mod laws;
 
-pub use laws::{law_of_questions, law_of_snapshots, law_of_watches};
+pub use laws::{law_of_questions, law_of_retirements, law_of_snapshots, law_of_watches};
 pub use snapshot_command::{Outcome, Question, ask, snapshot, watch};

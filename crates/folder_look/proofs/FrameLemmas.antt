@@ -1,37 +1,26 @@
 -- Each part of the page has the frame's tags alone.
-use Rattle.folder_look.proofs.Names.{flat_map, TimeParts, ObjectId, Value, Effect, Choice, VersionRow, ObjectRow, MediumLook, Tally, ended_text, ended_class, column, objects_left, ◌≡◌, ℕ, ◌-◌, ◌+◌, Bool, true, false, List, [], ◌∷◌, ◌++◌, codes, reverse, length, take, drop, refl, ap, sym, append-nil, ◌∙◌, Option, Some, None, not, ◌==◌, ◌||◌, nat_lt, nat_le, if◌then◌else◌, object_text, time_text, kind_text, refusal_text, kind_word, axis_of, tally_of}
+use Rattle.folder_look.proofs.Names.{flat_map, TimeParts, ObjectId, Value, Effect, MediumLook, ended_text, column, ◌≡◌, ℕ, Bool, true, false, List, [], ◌∷◌, ◌++◌, codes, reverse, length, refl, ap, sym, append-nil, ◌∙◌, Option, Some, None, not, ◌==◌, ◌||◌, nat_le, if◌then◌else◌, object_text, time_text, kind_text, refusal_text, kind_word}
 use Rattle.std.specs.Fmt.{decimal}
-use Rattle.std.specs.Prelude.{◌%◌}
 use Rattle.pseudo_time.specs.StampParts.{StampParts}
 use Rattle.pseudo_time.specs.declared.nodes.NodeKind.{NodeKind}
 use Rattle.pseudo_time.specs.declared.nodes.NodeKind.TheVariants.{Repository, Broker}
 use Rattle.value_form.specs.declared.fail_kinds.FailKind.{FailKind}
 use Rattle.value_form.specs.declared.fail_kinds.FailKind.TheVariants as kind
-use Rattle.value_form.specs.ValueText.{value_text}
 use Rattle.effect_form.specs.declared.effects.Effect.TheVariants as effect
 use Rattle.effect_form.specs.declared.outcomes.Outcome.{Outcome}
 use Rattle.effect_form.specs.declared.outcomes.Outcome.TheVariants as outcome
-use Rattle.page_text.specs.Escapes.{page_text}
-use Rattle.page_text.specs.Tags.{InText, InTag, HasTagsOf, spot_behind}
-use Rattle.page_text.proofs.TagLemmas.{through, each-through, text-stays, number-stays}
-use Rattle.folder_look.specs.declared.looks.MediumState.{MediumState}
-use Rattle.folder_look.specs.declared.looks.MediumState.TheVariants.{Whole, Damaged, Shut}
+use Rattle.page_text.specs.Tags.{InText, InTag, spot_behind}
+use Rattle.page_text.proofs.TagLemmas.{through, each-through, number-stays}
 use Rattle.folder_look.specs.declared.touches.Touch.{Touch}
 use Rattle.folder_look.specs.Choices.{has_all}
-use Rattle.folder_look.specs.Drawing as draw
 use Rattle.folder_look.specs.Frame.{frame_tags}
 use Rattle.folder_look.specs.Lines as lines
-use Rattle.folder_look.specs.MediaText as media
-use Rattle.folder_look.specs.Objects.{objects_of, rows_of}
-use Rattle.folder_look.specs.Page as page
 use Rattle.folder_look.specs.Pieces.{Words, Number, Text, Stamp, Time, Object, Printed, text_of}
 use Rattle.folder_look.specs.Runs as runs
 use Rattle.folder_look.specs.Shown as shown
 use Rattle.folder_look.specs.Shown.{ShownParts}
-use Rattle.folder_look.specs.Sights.{shown_of}
 use Rattle.folder_look.specs.Steps as steps
 use Rattle.folder_look.specs.Touches.{touch_at}
-use Rattle.folder_look.specs.Values as values
 use Rattle.folder_look.proofs.PieceLemmas.{T, pieces}
 
 -- ---- one text behind another

@@ -1,5 +1,6 @@
 pub mod Appends
 pub mod FrameLemmas
+pub mod HomeLemmas
 pub mod OnceLemmas
 pub mod PageLemmas
 pub mod PieceLemmas

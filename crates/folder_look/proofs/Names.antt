@@ -3,10 +3,12 @@ pub use Rattle.effect_form.specs.declared.effects.Effect.{Effect}
 pub use Rattle.folder_look.specs.Attempts.{ended_class, ended_text}
 pub use Rattle.folder_look.specs.Axes.{axis_of, column, columns_below, with_rows, with_versions}
 pub use Rattle.folder_look.specs.Choices.{has_object, has_start}
-pub use Rattle.folder_look.specs.Objects.{is_log, is_volume, logs_of, objects_left, rows_in, with_media, with_objects}
+pub use Rattle.folder_look.specs.Homes.{told_as, told_at_home, with_decisions, with_homes}
+pub use Rattle.folder_look.specs.Objects.{is_volume, logs_of, objects_left, rows_in, with_media, with_objects}
 pub use Rattle.folder_look.specs.Rows.{current_marks, given_up, given_up_at, given_up_by, is_shown, row_of, rows_of, rows_with, starts_at, whole_row}
 pub use Rattle.folder_look.specs.Tallies.{counted_all, counted_over, none, tally_of}
 pub use Rattle.folder_look.specs.Told.{is_told_in, told_row}
+pub use Rattle.folder_look.specs.Volumes.{is_log}
 pub use Rattle.folder_look.specs.declared.choices.Choice.{Choice}
 pub use Rattle.folder_look.specs.declared.looks.MediumLook.{MediumLook}
 pub use Rattle.folder_look.specs.declared.looks.ObjectRow.{ObjectRow}

@@ -1,39 +1,30 @@
 -- The values, the histories, the files and the whole page have the frame's tags alone.
-use Rattle.folder_look.proofs.Names.{flat_map, TimeParts, ObjectId, Value, Effect, Choice, VersionRow, ObjectRow, MediumLook, Tally, ended_text, ended_class, column, objects_left, ◌≡◌, ℕ, ◌-◌, ◌+◌, Bool, true, false, List, [], ◌∷◌, ◌++◌, codes, reverse, length, take, drop, refl, ap, append_assoc, sym, ◌∙◌, Option, Some, None, not, ◌==◌, ◌||◌, nat_lt, nat_le, if◌then◌else◌, object_text, time_text, kind_text, refusal_text, kind_word, axis_of, tally_of}
+use Rattle.folder_look.proofs.Names.{flat_map, TimeParts, Value, Choice, VersionRow, ObjectRow, MediumLook, Tally, column, objects_left, ◌≡◌, ℕ, Bool, true, false, List, [], ◌∷◌, ◌++◌, codes, length, take, drop, refl, ap, append_assoc, sym, ◌∙◌, Option, Some, None, not, ◌==◌, ◌||◌, nat_lt, kind_word, axis_of, tally_of}
 use Rattle.std.specs.Fmt.{decimal}
 use Rattle.std.specs.Prelude.{◌%◌}
 use Rattle.pseudo_time.specs.StampParts.{StampParts}
 use Rattle.pseudo_time.specs.declared.nodes.NodeKind.{NodeKind}
 use Rattle.pseudo_time.specs.declared.nodes.NodeKind.TheVariants.{Repository, Broker}
-use Rattle.value_form.specs.declared.fail_kinds.FailKind.{FailKind}
-use Rattle.value_form.specs.declared.fail_kinds.FailKind.TheVariants as kind
 use Rattle.value_form.specs.ValueText.{value_text}
-use Rattle.effect_form.specs.declared.effects.Effect.TheVariants as effect
-use Rattle.effect_form.specs.declared.outcomes.Outcome.{Outcome}
-use Rattle.effect_form.specs.declared.outcomes.Outcome.TheVariants as outcome
 use Rattle.page_text.specs.Escapes.{page_text}
-use Rattle.page_text.specs.Tags.{InText, InTag, HasTagsOf, spot_behind}
-use Rattle.page_text.proofs.TagLemmas.{through, each-through, text-stays, number-stays}
+use Rattle.page_text.specs.Tags.{InText, spot_behind}
+use Rattle.page_text.proofs.TagLemmas.{each-through, text-stays}
 use Rattle.folder_look.specs.declared.looks.MediumState.{MediumState}
 use Rattle.folder_look.specs.declared.looks.MediumState.TheVariants.{Whole, Damaged, Shut}
-use Rattle.folder_look.specs.declared.touches.Touch.{Touch}
-use Rattle.folder_look.specs.Choices.{has_all}
 use Rattle.folder_look.specs.Drawing as draw
 use Rattle.folder_look.specs.Frame.{frame_tags}
 use Rattle.folder_look.specs.Lines as lines
 use Rattle.folder_look.specs.MediaText as media
 use Rattle.folder_look.specs.Objects.{objects_of, rows_of}
 use Rattle.folder_look.specs.Page as page
-use Rattle.folder_look.specs.Pieces.{Words, Number, Text, Stamp, Time, Object, Printed, text_of}
+use Rattle.folder_look.specs.Pieces.{Words, Number, Text, Time, Object, Printed, text_of}
 use Rattle.folder_look.specs.Runs as runs
 use Rattle.folder_look.specs.Shown as shown
 use Rattle.folder_look.specs.Shown.{ShownParts}
 use Rattle.folder_look.specs.Sights.{shown_of}
-use Rattle.folder_look.specs.Steps as steps
-use Rattle.folder_look.specs.Touches.{touch_at}
 use Rattle.folder_look.specs.Values as values
 use Rattle.folder_look.proofs.PieceLemmas.{T, pieces}
-use Rattle.folder_look.proofs.FrameLemmas.{on, both, one-of, number, time, node-kind, stamp-ref, time-ref, log, time-line}
+use Rattle.folder_look.proofs.FrameLemmas.{on, both, one-of, number, node-kind, stamp-ref, time-ref, log, time-line}
 
 -- ---- values
 
@@ -82,13 +73,16 @@ state None = refl
 state (Some true) = refl
 state (Some false) = refl
 
-bar-open : (s : Option Bool) (n : Option ℕ) (c w : ℕ) → T (codes "<i class=\"" ++ (draw.state_word s ++ (draw.older_class n ++ draw.place_text c w)))
-bar-open None None c w = pieces InText (Words (codes "<i class=\"undecided") ∷ Words (codes "\" style=\"--a:") ∷ Number c ∷ Words (codes ";--w:") ∷ Number w ∷ Words (codes "\">") ∷ []) refl
-bar-open None (Some n) c w = pieces InText (Words (codes "<i class=\"undecided older") ∷ Words (codes "\" style=\"--a:") ∷ Number c ∷ Words (codes ";--w:") ∷ Number w ∷ Words (codes "\">") ∷ []) refl
-bar-open (Some true) None c w = pieces InText (Words (codes "<i class=\"committed") ∷ Words (codes "\" style=\"--a:") ∷ Number c ∷ Words (codes ";--w:") ∷ Number w ∷ Words (codes "\">") ∷ []) refl
-bar-open (Some true) (Some n) c w = pieces InText (Words (codes "<i class=\"committed older") ∷ Words (codes "\" style=\"--a:") ∷ Number c ∷ Words (codes ";--w:") ∷ Number w ∷ Words (codes "\">") ∷ []) refl
-bar-open (Some false) None c w = pieces InText (Words (codes "<i class=\"aborted") ∷ Words (codes "\" style=\"--a:") ∷ Number c ∷ Words (codes ";--w:") ∷ Number w ∷ Words (codes "\">") ∷ []) refl
-bar-open (Some false) (Some n) c w = pieces InText (Words (codes "<i class=\"aborted older") ∷ Words (codes "\" style=\"--a:") ∷ Number c ∷ Words (codes ";--w:") ∷ Number w ∷ Words (codes "\">") ∷ []) refl
+bar-open : (s : Option Bool) (b : Bool) (n : Option ℕ) (c w : ℕ) → T (codes "<i class=\"" ++ (draw.state_word s ++ (draw.mark_class b n ++ draw.place_text c w)))
+bar-open None false n c w = pieces InText (Words (codes "<i class=\"undecided unsettled") ∷ Words (codes "\" style=\"--a:") ∷ Number c ∷ Words (codes ";--w:") ∷ Number w ∷ Words (codes "\">") ∷ []) refl
+bar-open None true None c w = pieces InText (Words (codes "<i class=\"undecided") ∷ Words (codes "\" style=\"--a:") ∷ Number c ∷ Words (codes ";--w:") ∷ Number w ∷ Words (codes "\">") ∷ []) refl
+bar-open None true (Some n) c w = pieces InText (Words (codes "<i class=\"undecided older") ∷ Words (codes "\" style=\"--a:") ∷ Number c ∷ Words (codes ";--w:") ∷ Number w ∷ Words (codes "\">") ∷ []) refl
+bar-open (Some true) false n c w = pieces InText (Words (codes "<i class=\"committed unsettled") ∷ Words (codes "\" style=\"--a:") ∷ Number c ∷ Words (codes ";--w:") ∷ Number w ∷ Words (codes "\">") ∷ []) refl
+bar-open (Some true) true None c w = pieces InText (Words (codes "<i class=\"committed") ∷ Words (codes "\" style=\"--a:") ∷ Number c ∷ Words (codes ";--w:") ∷ Number w ∷ Words (codes "\">") ∷ []) refl
+bar-open (Some true) true (Some n) c w = pieces InText (Words (codes "<i class=\"committed older") ∷ Words (codes "\" style=\"--a:") ∷ Number c ∷ Words (codes ";--w:") ∷ Number w ∷ Words (codes "\">") ∷ []) refl
+bar-open (Some false) false n c w = pieces InText (Words (codes "<i class=\"aborted unsettled") ∷ Words (codes "\" style=\"--a:") ∷ Number c ∷ Words (codes ";--w:") ∷ Number w ∷ Words (codes "\">") ∷ []) refl
+bar-open (Some false) true None c w = pieces InText (Words (codes "<i class=\"aborted") ∷ Words (codes "\" style=\"--a:") ∷ Number c ∷ Words (codes ";--w:") ∷ Number w ∷ Words (codes "\">") ∷ []) refl
+bar-open (Some false) true (Some n) c w = pieces InText (Words (codes "<i class=\"aborted older") ∷ Words (codes "\" style=\"--a:") ∷ Number c ∷ Words (codes ";--w:") ∷ Number w ∷ Words (codes "\">") ∷ []) refl
 
 assoc-bar : (a b c d e : List ℕ) → spot_behind frame_tags InText (a ++ (b ++ (c ++ (d ++ e)))) ≡ spot_behind frame_tags InText ((a ++ (b ++ (c ++ d))) ++ e)
 assoc-bar a b c d e = ap (spot_behind frame_tags InText) (sym (append_assoc a (b ++ (c ++ d)) e ∙ ap (λ t. a ++ t) (append_assoc b (c ++ d) e ∙ ap (λ t. b ++ t) (append_assoc c d e))))
@@ -98,8 +92,8 @@ bar axis v =
     let c = column axis v.start.stamp in
     let place = draw.place_text c (draw.bar_to axis c v.end) in
     let rest = values.value_cut 20 v.value ++ codes "</i>\n" in
-    assoc-bar (codes "<i class=\"") (draw.state_word v.state) (draw.older_class v.older) place rest
-    ∙ on (codes "<i class=\"" ++ (draw.state_word v.state ++ (draw.older_class v.older ++ place))) rest (bar-open v.state v.older c (draw.bar_to axis c v.end))
+    assoc-bar (codes "<i class=\"") (draw.state_word v.state) (draw.mark_class v.settled v.older) place rest
+    ∙ on (codes "<i class=\"" ++ (draw.state_word v.state ++ (draw.mark_class v.settled v.older ++ place))) rest (bar-open v.state v.settled v.older c (draw.bar_to axis c v.end))
     ∙ on (values.value_cut 20 v.value) _ (value-cut 20 v.value) ∙ refl
 
 origin-bar : (axis : List StampParts) (e : Option TimeParts) → T (draw.origin_bar axis e)
@@ -117,8 +111,12 @@ older : (n : Option ℕ) → T (draw.older_word n)
 older None = refl
 older (Some n) = pieces InText (Words (codes ", only in volume ") ∷ Number n ∷ []) refl
 
+settled : (b : Bool) → T (draw.settled_word b)
+settled true = refl
+settled false = refl
+
 version-end : (v : VersionRow) → T (draw.version_end v)
-version-end v = on (draw.state_word v.state) _ (state v.state) ∙ on (draw.older_word v.older) _ (older v.older) ∙ pieces InText (Words (codes "</td><td>") ∷ Printed v.value ∷ Words (codes "</td></tr>\n") ∷ []) refl
+version-end v = on (draw.state_word v.state) _ (state v.state) ∙ on (draw.older_word v.older) _ (older v.older) ∙ on (draw.settled_word v.settled) _ (settled v.settled) ∙ pieces InText (Words (codes "</td><td>") ∷ Printed v.value ∷ Words (codes "</td></tr>\n") ∷ []) refl
 
 version : (p : ShownParts) (v : VersionRow) → T (draw.version_text p v)
 version p v = on (shown.time_ref p v.start) _ (time-ref p v.start) ∙ on (values.time_or_none v.end) _ (time-or-none v.end) ∙ version-end v

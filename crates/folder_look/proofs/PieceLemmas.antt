@@ -6,9 +6,9 @@ use Rattle.pseudo_time.specs.StampParts.{StampParts}
 use Rattle.value_form.specs.ValueText.{value_text}
 use Rattle.page_text.specs.Escapes.{page_text}
 use Rattle.page_text.specs.Tags.{Spot, InText, InTag, Astray, HasTagsOf, spot_behind}
-use Rattle.page_text.proofs.TagLemmas.{through, each-through, text-stays, number-stays, number-quoted, spot-append}
+use Rattle.page_text.proofs.TagLemmas.{through, text-stays, number-stays, number-quoted, spot-append}
 use Rattle.folder_look.specs.Frame.{frame_tags}
-use Rattle.folder_look.specs.Pieces.{Piece, Words, Number, Text, Stamp, Time, Object, Printed, piece_text, text_of}
+use Rattle.folder_look.specs.Pieces.{Piece, Words, Number, Text, Stamp, Time, Object, Printed, text_of}
 
 abbrev pub T : List ℕ → Type 0
 T text = HasTagsOf frame_tags text

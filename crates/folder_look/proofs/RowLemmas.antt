@@ -12,7 +12,7 @@ reverse-map f (x ∷ xs) =
     reverse-append (f x ∷ []) (map f xs) ∙ ap (λ z. z ++ f x ∷ []) (reverse-map f xs) ∙ sym (map-append f (reverse xs) (x ∷ [])) ∙ ap (map f) (sym (reverse-append (x ∷ []) xs))
 
 abbrev row-with : Option ℕ → TimeParts → Option TimeParts → Value → Option Bool → VersionRow
-row-with older start end value state = record { start = start; end = end; state = state; value = value; older = older }
+row-with older start end value state = record { start = start; end = end; state = state; settled = true; value = value; older = older }
 
 -- one that is kept is shown as that of the marks
 told-row : (o : ObjectId) (m : List Mark) (older : Option ℕ) (origin : Option TimeParts) (vs : List Version) (settled : Settled) → Holds o m origin vs settled → (p : Seen) → told_row older settled (floor_of m) (told_of m o p) ≡ row_of older o m p
@@ -46,5 +46,5 @@ pub origin-is : (o : ObjectId) (m : List Mark) (origin floor end : Option TimePa
 origin-is o m origin floor end vs settled h floors ends = ends ∙ ap (λ f. latest f origin) floors ∙ ap (latest (floor_of m)) h.origin_is
 
 -- a row by its parts
-pub row-is : (most : ℕ) (o : ObjectId) (origin origin' floor floor' : Option TimeParts) (rows rows' : List VersionRow) → origin ≡ origin' → floor ≡ floor' → rows ≡ rows' → whole_row most o origin floor rows ≡ whole_row most o origin' floor' rows'
-row-is most o origin origin' floor floor' rows rows' a b c = λ i. whole_row most o (a i) (b i) (c i)
+pub row-is : (o : ObjectId) (origin origin' floor floor' : Option TimeParts) (rows rows' : List VersionRow) → origin ≡ origin' → floor ≡ floor' → rows ≡ rows' → whole_row o origin floor rows ≡ whole_row o origin' floor' rows'
+row-is o origin origin' floor floor' rows rows' a b c = λ i. whole_row o (a i) (b i) (c i)

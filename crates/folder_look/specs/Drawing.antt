@@ -17,9 +17,11 @@ state_word None = codes "undecided"
 state_word (Some true) = codes "committed"
 state_word (Some false) = codes "aborted"
 
-abbrev pub older_class : Option ℕ → List ℕ
-older_class None = []
-older_class (Some n) = codes " older"
+-- whether its repository knows its state, and whether an older volume alone has it
+abbrev pub mark_class : Bool → Option ℕ → List ℕ
+mark_class false older = codes " unsettled"
+mark_class true None = []
+mark_class true (Some n) = codes " older"
 
 -- how many columns a bar has that begins in one and ends in another
 abbrev pub bar_columns : ℕ → ℕ → ℕ
@@ -39,7 +41,7 @@ version_place axis v = place_text (column axis v.start.stamp) (bar_to axis (colu
 -- a version once: its bar from its start to how far it was read, its state and the front of its value
 abbrev pub bar_text : List StampParts → VersionRow → List ℕ
 bar_text axis v =
-    codes "<i class=\"" ++ (state_word v.state ++ (older_class v.older
+    codes "<i class=\"" ++ (state_word v.state ++ (mark_class v.settled v.older
     ++ (version_place axis v
     ++ (value_cut 20 v.value ++ codes "</i>\n"))))
 
@@ -61,9 +63,14 @@ abbrev pub older_word : Option ℕ → List ℕ
 older_word None = []
 older_word (Some n) = text_of (Words (codes ", only in volume ") ∷ Number n ∷ [])
 
+-- its repository hasn't learned its state
+abbrev pub settled_word : Bool → List ℕ
+settled_word true = []
+settled_word false = codes ", not settled here yet"
+
 -- its state and its value
 abbrev pub version_end : VersionRow → List ℕ
-version_end v = state_word v.state ++ (older_word v.older ++ text_of (Words (codes "</td><td>") ∷ Printed v.value ∷ Words (codes "</td></tr>\n") ∷ []))
+version_end v = state_word v.state ++ (older_word v.older ++ (settled_word v.settled ++ text_of (Words (codes "</td><td>") ∷ Printed v.value ∷ Words (codes "</td></tr>\n") ∷ [])))
 
 -- the whole of a version, whose start leads to its attempt
 abbrev pub version_text : ShownParts → VersionRow → List ℕ

@@ -3,6 +3,7 @@ pub mod Axes
 pub mod Choices
 pub mod Drawing
 pub mod Frame
+pub mod Homes
 pub mod Lines
 pub mod MediaText
 pub mod Objects
@@ -19,3 +20,4 @@ pub mod Tallies
 pub mod Told
 pub mod Touches
 pub mod Values
+pub mod Volumes

@@ -1,9 +1,7 @@
 -- The objects of a folder, and the logs that each is read from. Logs stand oldest first, media in the order of their volumes.
-use Rattle.std.specs.Prelude.{ℕ, ◌-◌, Bool, true, false, List, [], ◌∷◌, length, take, nat_lt, ◌==◌, ◌&&◌, if◌then◌else◌}
+use Rattle.std.specs.Prelude.{ℕ, ◌-◌, Bool, List, [], ◌∷◌, length, take, ◌==◌, ◌&&◌, if◌then◌else◌}
 use Rattle.std.specs.List.{filter}
 use Rattle.std.specs.BTreeSet.{insert_key}
-use Rattle.pseudo_time.specs.declared.nodes.NodeKind.{NodeKind}
-use Rattle.pseudo_time.specs.declared.nodes.NodeKind.TheVariants.{Repository, Broker}
 use Rattle.value_form.specs.declared.objects.ObjectId.{ObjectId}
 use Rattle.value_form.specs.Objects.{object_cmp}
 use Rattle.effect_form.specs.declared.effects.Effect.{Effect}
@@ -12,15 +10,10 @@ use Rattle.folder_look.specs.declared.choices.Choice.{Choice}
 use Rattle.folder_look.specs.declared.looks.MediumLook.{MediumLook}
 use Rattle.folder_look.specs.declared.looks.ObjectRow.{ObjectRow}
 use Rattle.folder_look.specs.Choices.{has_object}
-use Rattle.folder_look.specs.Rows.{object_row}
-
-abbrev pub is_repository : NodeKind → Bool
-is_repository Repository = true
-is_repository Broker = false
-
--- the volumes of runs: those from 1000 on have totals and votes
-abbrev pub is_log : MediumLook → Bool
-is_log m = is_repository m.kind && nat_lt m.volume 1000
+use Rattle.object_history.specs.Kept.{Settled}
+use Rattle.folder_look.specs.Homes.{homes_of}
+use Rattle.folder_look.specs.Rows.{cut_row, object_row}
+use Rattle.folder_look.specs.Volumes.{is_log}
 
 -- ---- objects
 
@@ -67,18 +60,18 @@ abbrev pub logs_of : ℕ → List MediumLook → List (List Effect)
 logs_of r [] = []
 logs_of r (m ∷ ms) = if is_volume r m then m.log ∷ logs_of r ms else logs_of r ms
 
--- an object by its repository's logs, with so many versions at most
-abbrev pub row_in : Choice → List MediumLook → ℕ → ObjectId → ObjectRow
-row_in c media most o = object_row c most o (logs_of o.repository media)
+-- an object by its repository's logs and what homes decided, with so many versions at most
+abbrev pub row_in : Choice → List MediumLook → Settled → ℕ → ObjectId → ObjectRow
+row_in c media homes most o = cut_row most (object_row c homes o (logs_of o.repository media))
 
 -- a row for each object, with so many versions together at most
-abbrev pub rows_in : Choice → List MediumLook → ℕ → List ObjectId → List ObjectRow
-rows_in c media most [] = []
-rows_in c media most (o ∷ os) = row_in c media most o ∷ rows_in c media (most - length (row_in c media most o).versions) os
+abbrev pub rows_in : Choice → List MediumLook → Settled → ℕ → List ObjectId → List ObjectRow
+rows_in c media homes most [] = []
+rows_in c media homes most (o ∷ os) = row_in c media homes most o ∷ rows_in c media homes (most - length (row_in c media homes most o).versions) os
 
 -- the first 200 objects, with 2,000 versions at most
 abbrev pub rows_of : Choice → List MediumLook → List ObjectRow
-rows_of c media = rows_in c media 2000 (take 200 (chosen c media))
+rows_of c media = rows_in c media (homes_of media) 2000 (take 200 (chosen c media))
 
 -- how many objects aren't shown
 abbrev pub objects_left : Choice → List MediumLook → ℕ

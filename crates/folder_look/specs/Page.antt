@@ -59,7 +59,7 @@ try_key = codes "<p class=\"key\">In the order of their stamps: <i class=\"commi
 -- what the forms of the picture mean
 abbrev pub history_key : List ℕ
 history_key =
-    codes "<p class=\"key\"><i class=\"committed\"></i> committed <i class=\"undecided\"></i> undecided <i class=\"aborted\"></i> aborted <i class=\"committed older\"></i> only in an older volume <i class=\"origin\"></i> reads of what was there at first <i class=\"floor\"></i> floor of a retirement</p>\n"
+    codes "<p class=\"key\"><i class=\"committed\"></i> committed <i class=\"undecided\"></i> undecided <i class=\"aborted\"></i> aborted <i class=\"committed unsettled\"></i> decided at its home, not settled here yet <i class=\"committed older\"></i> only in an older volume <i class=\"origin\"></i> reads of what was there at first <i class=\"floor\"></i> floor of a retirement</p>\n"
     ++ codes "<p class=\"key\">A bar goes from a version's start to how far it was read. Each stamp has a column, so equal widths aren't equal distances. Open an object for its versions.</p>\n"
 
 abbrev pub broker_text : ShownParts → MediumLook → List ℕ

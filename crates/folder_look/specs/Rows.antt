@@ -7,6 +7,7 @@ use Rattle.value_form.specs.declared.objects.ObjectId.{ObjectId}
 use Rattle.effect_form.specs.declared.effects.Effect.{Effect}
 use Rattle.object_history.specs.declared.marks.Mark.{Mark}
 use Rattle.object_history.specs.History.{Seen, settle_of, floor_of, reach}
+use Rattle.object_history.specs.Kept.{Settled}
 use Rattle.repository_log.specs.Logs.{marks}
 use Rattle.report_writer.specs.Histories.{falling, versions}
 use Rattle.forward_copy.specs.Currents.{current, node_log}
@@ -14,12 +15,13 @@ use Rattle.folder_look.specs.declared.choices.Choice.{Choice}
 use Rattle.folder_look.specs.declared.looks.VersionRow.{VersionRow}
 use Rattle.folder_look.specs.declared.looks.ObjectRow.{ObjectRow}
 use Rattle.folder_look.specs.Choices.{has_start}
+use Rattle.folder_look.specs.Homes.{is_open, told_at_home}
 
 -- ---- a volume
 
 -- a version from its start to how far it was read, how its stamp was decided, and which older volume alone has it
 abbrev pub row_of : Option ℕ → ObjectId → List Mark → Seen → VersionRow
-row_of older o m q = record { start = q.start; end = reach m o (Some q); state = settle_of m q.start.stamp; value = q.value; older = older }
+row_of older o m q = record { start = q.start; end = reach m o (Some q); state = settle_of m q.start.stamp; settled = true; value = q.value; older = older }
 
 -- one of these versions starts there
 abbrev pub starts_at : List Seen → TimeParts → Bool
@@ -72,28 +74,37 @@ abbrev pub last_from : Option VersionRow → List VersionRow → Option VersionR
 last_from found [] = found
 last_from found (v ∷ vs) = last_from (if is_current v.state v.older then Some v else found) vs
 
-abbrev pub is_open : Option Bool → Bool
-is_open None = true
-is_open (Some c) = false
-
 -- how many of them are undecided, and n
 abbrev pub open_from : ℕ → List VersionRow → ℕ
 open_from n [] = n
 open_from n (v ∷ vs) = open_from (if is_open v.state then min (n + 1) (2 ^ 64 - 1) else n) vs
 
--- a row of these versions: the first of them, how many more there are, how many are undecided, and the current one
-abbrev pub whole_row : ℕ → ObjectId → Option TimeParts → Option TimeParts → List VersionRow → ObjectRow
-whole_row most o origin floor rows = record {
+-- a row of these versions: all of them, how many are undecided, and the current one
+abbrev pub whole_row : ObjectId → Option TimeParts → Option TimeParts → List VersionRow → ObjectRow
+whole_row o origin floor rows = record {
   object = o;
   origin = origin;
   floor = floor;
-  versions = take most rows;
-  hidden = length rows - most;
+  versions = rows;
+  hidden = 0;
   count = length rows;
   undecided = open_from 0 rows;
   last = last_from None rows;
 }
 
--- an object by the logs of its repository
-abbrev pub object_row : Choice → ℕ → ObjectId → List (List Effect) → ObjectRow
-object_row c most o logs = whole_row most o (reach (current_marks logs) o None) (floor_of (current_marks logs)) (rows_of c o logs)
+-- the first of its versions, and how many more there are
+abbrev pub cut_row : ℕ → ObjectRow → ObjectRow
+cut_row most r = record {
+  object = r.object;
+  origin = r.origin;
+  floor = r.floor;
+  versions = take most r.versions;
+  hidden = length r.versions - most;
+  count = r.count;
+  undecided = r.undecided;
+  last = r.last;
+}
+
+-- an object by the logs of its repository, and by what homes decided
+abbrev pub object_row : Choice → Settled → ObjectId → List (List Effect) → ObjectRow
+object_row c homes o logs = whole_row o (reach (current_marks logs) o None) (floor_of (current_marks logs)) (map (told_at_home homes) (rows_of c o logs))

@@ -8,7 +8,7 @@ use Rattle.value_form.specs.Objects.{object_cmp}
 use Rattle.folder_look.specs.declared.choices.Choice.{Choice}
 use Rattle.folder_look.specs.declared.looks.MediumLook.{MediumLook}
 use Rattle.folder_look.specs.declared.looks.ObjectRow.{ObjectRow}
-use Rattle.folder_look.specs.Objects.{is_log, is_repository, rows_of}
+use Rattle.folder_look.specs.Volumes.{is_log, is_repository}
 use Rattle.folder_look.specs.Runs.{with_tries}
 use Rattle.folder_look.specs.Shown.{ShownParts}
 use Rattle.folder_look.specs.Touches.{Touched, with_log}

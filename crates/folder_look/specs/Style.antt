@@ -38,7 +38,7 @@ bars =
     ++ (codes ".bars i,.key i{font-style:normal}.key{color:var(--soft)}.key i{display:inline-block;width:26px;height:12px;border-radius:3px;margin-left:10px;"
     ++ (codes "vertical-align:-1px}\n"
     ++ (codes "i.committed{background:var(--good)}.bars i.committed{color:var(--paper)}i.undecided{border:2px dashed var(--open)}"
-    ++ (codes "i.aborted{border:1px solid var(--bad);text-decoration:line-through}\n"
+    ++ (codes "i.aborted{border:1px solid var(--bad);text-decoration:line-through}i.unsettled{border:3px dotted var(--open)}\n"
     ++ (codes ".bars i.older,.key i.older{background:var(--tint);border:1px solid var(--soft);color:var(--ink)}i.undecided.older{border-style:dashed}\n"
     ++ (codes "i.origin{background:var(--soft)}.bars i.origin{top:9px;height:4px}.bars i.floor{width:0;padding:0;border-radius:0}"
     ++ (codes "i.floor{border-left:3px dotted var(--soft)}\n"

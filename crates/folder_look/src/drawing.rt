@@ -24,13 +24,15 @@ fn push_state(out: &mut Vec<u8>, state: Option<bool>) -> Result<(), AllocError>
     }
 }
 
-// Appends the class of a version that an older volume alone has.
-fn push_older_class(out: &mut Vec<u8>, older: Option<u64>) -> Result<(), AllocError>
-    ensures { OnOk result (out.new.items ≡ out.old.items ++ spec.older_class older) }
+// Appends the class of a version whose repository doesn't know its state, or that an older volume
+// alone has.
+fn push_version_mark(out: &mut Vec<u8>, settled: bool, older: Option<u64>) -> Result<(), AllocError>
+    ensures { OnOk result (out.new.items ≡ out.old.items ++ spec.mark_class settled older) }
 {
-    match older {
-        None => Ok(()),
-        Some(_) => out.extend_from_slice(b" older"),
+    match (settled, older) {
+        (false, _) => out.extend_from_slice(b" unsettled"),
+        (true, None) => Ok(()),
+        (true, Some(_)) => out.extend_from_slice(b" older"),
     }
 }
 
@@ -88,7 +90,7 @@ fn push_bar(
 {
     out.extend_from_slice(b"<i class=\"")?;
     push_state(out, version.state)?;
-    push_older_class(out, version.older)?;
+    push_version_mark(out, version.settled, version.older)?;
     push_version_place(alloc, out, axis, version)?;
     push_value_cut(alloc, out, 20, &version.value)?;
     out.extend_from_slice(b"</i>\n")
@@ -183,6 +185,16 @@ fn push_older(alloc: Global, out: &mut Vec<u8>, older: Option<u64>) -> Result<()
     }
 }
 
+// Appends that its repository hasn't learned the state of a version.
+fn push_settled(out: &mut Vec<u8>, settled: bool) -> Result<(), AllocError>
+    ensures { OnOk result (out.new.items ≡ out.old.items ++ spec.settled_word settled) }
+{
+    if settled {
+        return Ok(());
+    }
+    out.extend_from_slice(b", not settled here yet")
+}
+
 // Appends the state of a version, and its value.
 fn push_version_end(
     alloc: Global,
@@ -193,6 +205,7 @@ fn push_version_end(
 {
     push_state(out, version.state)?;
     push_older(alloc, out, version.older)?;
+    push_settled(out, version.settled)?;
     push_parts(
         alloc,
         out,

@@ -5,6 +5,7 @@ ghost use Rattle.value_form.specs.declared.objects.ObjectId.{ObjectId};
 ghost use Rattle.object_history.specs.declared.marks.Mark.{Mark};
 ghost use Rattle.effect_form.specs.declared.effects.Effect.{Effect};
 ghost use Rattle.object_history.specs.History.{Seen, version_count};
+ghost use Rattle.object_history.specs.Kept.{Settled};
 ghost use Rattle.repository_log.specs.Logs.{marks};
 ghost use Rattle.report_writer.specs.Histories.{falling, versions};
 ghost use Rattle.forward_copy.specs.Currents.{current, log_at};
@@ -15,7 +16,7 @@ ghost use Rattle.folder_look.specs.Frame.{frame_tags};
 ghost use Rattle.folder_look.specs.Choices.{has_start};
 ghost use Rattle.folder_look.specs.Once.{HasStart, NoneTwice};
 ghost use Rattle.folder_look.specs.Page.{folder_page};
-ghost use Rattle.folder_look.specs.Rows.{object_row, rows_of};
+ghost use Rattle.folder_look.specs.Rows.{cut_row, object_row, rows_of};
 
 /// A law: whatever the logs hold, each tag of the page is one of the frame's, and is closed.
 pub fn page_has_the_frame()
@@ -27,14 +28,15 @@ pub fn page_has_the_frame()
 pub fn versions_stand_once()
     ensures count { (o : ObjectId) (m : List Mark) → length (falling o m) ≡ version_count o m }
     ensures once { (o : ObjectId) (m : List Mark) → NoneTwice (falling o m) }
-    ensures row { (c : Choice) (most : ℕ) (o : ObjectId) (logs : List (List Effect)) →
-        length (object_row c most o logs).versions + (object_row c most o logs).hidden ≡ length (rows_of c o logs) }
+    ensures row { (c : Choice) (homes : Settled) (most : ℕ) (o : ObjectId) (logs : List (List Effect)) →
+        length (cut_row most (object_row c homes o logs)).versions +
+        (cut_row most (object_row c homes o logs)).hidden ≡ length (rows_of c o logs) }
 {}
 
 /// A law: a version of the current volume or of one before it is shown, if it is chosen: there is a row
 /// that starts where it does.
 pub fn no_version_is_lost()
-    ensures { (c : Choice) (o : ObjectId) (logs : List (List Effect)) (v : ℕ) → v ≤ current logs → (q : Seen) →
-        Has q (versions o (marks (reverse (log_at logs v)))) → has_start c q.start ≡ true →
-        HasStart (rows_of c o logs) q.start }
+    ensures { (c : Choice) (homes : Settled) (o : ObjectId) (logs : List (List Effect)) (v : ℕ) →
+        v ≤ current logs → (q : Seen) → Has q (versions o (marks (reverse (log_at logs v)))) →
+        has_start c q.start ≡ true → HasStart (object_row c homes o logs).versions q.start }
 {}

@@ -5,6 +5,7 @@ mod attempts;
 mod axes;
 mod choices;
 mod drawing;
+mod homes;
 mod laws;
 mod lines;
 mod looks;

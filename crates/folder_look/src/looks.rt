@@ -9,8 +9,10 @@ pub struct VersionRow {
     pub start: PseudoTime,
     /// How far it was read.
     pub end: Option<PseudoTime>,
-    /// Whether its attempt was committed. None where that is undecided.
+    /// Whether its attempt was committed. None if that is undecided.
     pub state: Option<bool>,
+    /// Whether its repository knows that. If not, it is what the log of the attempt's home says.
+    pub settled: bool,
     pub value: Value,
     /// The older volume that alone has it. None where its repository's current volume has it.
     pub older: Option<u64>,

@@ -2,11 +2,13 @@
 ghost use Rattle.std.specs.Prelude.{◌≡◌, [], IfOk, OnOk, length};
 ghost use Rattle.std.specs.List.{filter};
 ghost use Rattle.folder_look.specs.Choices.{has_object};
+ghost use Rattle.folder_look.specs.Homes.{homes_of};
 ghost use Rattle.folder_look.specs.Objects as spec;
 
 use crate::choices::Choice;
+use crate::homes::homes_of;
 use crate::looks::{MediumLook, ObjectRow};
-use crate::rows::object_row;
+use crate::rows::{cut_row, object_row};
 use crate::volumes::is_log;
 use effect_form::Effect;
 use std::alloc::{AllocError, Global};
@@ -87,12 +89,15 @@ pub fn rows_in(
     most: usize,
     objects: &[ObjectId],
 ) -> Result<Vec<ObjectRow>, AllocError>
-    ensures { IfOk result (λ rows. rows.items ≡ spec.rows_in choice.now media.now most objects.now) }
+    ensures { IfOk result (λ rows. rows.items ≡
+        spec.rows_in choice.now media.now (homes_of media.now) most objects.now) }
 {
+    let homes = homes_of(alloc, media)?;
     let mut rows = Vec::new(alloc);
     let mut left = most;
     for object in objects {
-        let row = object_row(alloc, choice, left, *object, media)?;
+        let whole = object_row(alloc, choice, &homes, *object, media)?;
+        let row = cut_row(left, whole);
         left = left.saturating_sub(row.versions.as_slice().len());
         rows.push(row)?;
     }

@@ -165,7 +165,8 @@ fn push_history_key(out: &mut Vec<u8>) -> Result<(), AllocError>
 {
     out.extend_from_slice(
         b"<p class=\"key\"><i class=\"committed\"></i> committed <i class=\"undecided\"></i> undecided \
-          <i class=\"aborted\"></i> aborted <i class=\"committed older\"></i> only in an older volume \
+          <i class=\"aborted\"></i> aborted <i class=\"committed unsettled\"></i> decided at its home, \
+          not settled here yet <i class=\"committed older\"></i> only in an older volume \
           <i class=\"origin\"></i> reads of what was there at first <i class=\"floor\"></i> \
           floor of a retirement</p>\n\
           <p class=\"key\">A bar goes from a version's start to how far it was read. \

@@ -12,6 +12,7 @@ ghost use Rattle.folder_look.specs.Rows as spec;
 ghost use Rattle.folder_look.specs.Told as told;
 
 use crate::choices::Choice;
+use crate::homes::{is_open, tell_homes};
 use crate::looks::{MediumLook, ObjectRow, VersionRow};
 use crate::volumes::{current_of, is_early, log_of};
 use effect_form::Effect;
@@ -62,6 +63,7 @@ fn version_row(
         start: version.start,
         end: reach(floor, version),
         state: settles.get(version.start.stamp()),
+        settled: true,
         value,
         older,
     })
@@ -181,6 +183,7 @@ fn copy_of(alloc: Global, version: &VersionRow) -> Result<VersionRow, AllocError
         start: version.start,
         end: version.end,
         state: version.state,
+        settled: version.settled,
         value,
         older: version.older,
     })
@@ -214,16 +217,6 @@ fn last_of(alloc: Global, versions: &[VersionRow]) -> Result<Option<VersionRow>,
     }
 }
 
-// Whether a version is undecided.
-fn is_open(state: Option<bool>) -> bool
-    ensures { result ≡ spec.is_open state }
-{
-    match state {
-        None => true,
-        Some(_) => false,
-    }
-}
-
 // How many versions are undecided.
 fn open_in(versions: &[VersionRow]) -> u64
     ensures { result ≡ spec.open_from 0 versions.now }
@@ -240,41 +233,68 @@ fn open_in(versions: &[VersionRow]) -> u64
 // The row of an object with these versions.
 fn whole_row(
     alloc: Global,
-    most: usize,
     object: ObjectId,
     origin: Option<PseudoTime>,
     floor: Option<PseudoTime>,
-    mut rows: Vec<VersionRow>,
+    rows: Vec<VersionRow>,
 ) -> Result<ObjectRow, AllocError>
-    ensures { IfOk result (λ row. row ≡ spec.whole_row most object origin floor rows.items) }
+    ensures { IfOk result (λ row. row ≡ spec.whole_row object origin floor rows.items) }
 {
     let count = rows.len() as u64;
     let undecided = open_in(rows.as_slice());
     let last = last_of(alloc, rows.as_slice())?;
-    let hidden = rows.len().saturating_sub(most) as u64;
-    rows.truncate(most);
     Ok(ObjectRow {
         object,
         origin,
         floor,
         versions: Items::of(rows),
-        hidden,
+        hidden: 0,
         count,
         undecided,
         last,
     })
 }
 
-/// An object with those of its versions that are chosen, the first `most` of them, by what the volumes
-/// of its repository hold.
+/// The row with the first `most` of its versions. The others are counted.
+pub fn cut_row(most: usize, row: ObjectRow) -> ObjectRow
+    ensures { result ≡ spec.cut_row most row }
+{
+    let ObjectRow {
+        object,
+        origin,
+        floor,
+        versions,
+        hidden: _,
+        count,
+        undecided,
+        last,
+    } = row;
+    let mut versions = versions.into_vec();
+    let hidden = versions.len().saturating_sub(most) as u64;
+    versions.truncate(most);
+    ObjectRow {
+        object,
+        origin,
+        floor,
+        versions: Items::of(versions),
+        hidden,
+        count,
+        undecided,
+        last,
+    }
+}
+
+/// An object with those of its versions that are chosen, by what the volumes of its repository hold.
+/// Of a version that is undecided there, the decision of its home is told.
 pub fn object_row(
     alloc: Global,
     choice: &Choice,
-    most: usize,
+    homes: &Settles,
     object: ObjectId,
     media: &[MediumLook],
 ) -> Result<ObjectRow, AllocError>
-    ensures { IfOk result (λ row. row ≡ spec.object_row choice.now most object (logs_of object.repository media.now)) }
+    ensures { IfOk result (λ row. row ≡ spec.object_row choice.now homes.now object
+        (logs_of object.repository media.now)) }
 {
     let last = current_of(object.repository, media);
     let effects = log_of(object.repository, media, last);
@@ -295,6 +315,7 @@ pub fn object_row(
         telling.versions.as_slice(),
         &mut rows,
     )?;
-    let row = whole_row(alloc, most, object, origin, floor, rows)?;
+    let told = tell_homes(homes, rows);
+    let row = whole_row(alloc, object, origin, floor, told)?;
     Ok(row)
 }

@@ -67,7 +67,8 @@ fn push_bars(out: &mut Vec<u8>) -> Result<(), AllocError>
           vertical-align:-1px}\n\
           i.committed{background:var(--good)}.bars i.committed{color:var(--paper)}\
           i.undecided{border:2px dashed var(--open)}\
-          i.aborted{border:1px solid var(--bad);text-decoration:line-through}\n\
+          i.aborted{border:1px solid var(--bad);text-decoration:line-through}\
+          i.unsettled{border:3px dotted var(--open)}\n\
           .bars i.older,.key i.older{background:var(--tint);border:1px solid var(--soft);color:\
           var(--ink)}i.undecided.older{border-style:dashed}\n\
           i.origin{background:var(--soft)}.bars i.origin{top:9px;height:4px}.bars i.floor{width:0;\

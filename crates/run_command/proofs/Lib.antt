@@ -1,8 +1,11 @@
 pub mod CompleteLemmas
 pub mod DownLemmas
+pub mod FinalLemmas
 pub mod PageLemmas
+pub mod PartLemmas
 pub mod RunLemmas
 pub mod ShelfLemmas
+pub mod SightLemmas
 pub mod SmoothLemmas
 pub mod StandingLemmas
 pub mod StreamLemmas

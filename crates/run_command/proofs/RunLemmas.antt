@@ -3,6 +3,7 @@ use Rattle.run_command.proofs.Names.{AllZip, AllZip-long, Plan, CanRun, Trace, I
 use Rattle.run_rounds.specs.declared.ends.End.{End}
 use Rattle.run_rounds.specs.declared.ends.End.TheVariants as end
 use Rattle.run_command.proofs.CompleteLemmas.{complete-status, run-complete, unrefused}
+use Rattle.run_command.proofs.FinalLemmas.{finals-of-opened}
 use Rattle.run_command.proofs.ShelfLemmas.{all-kept, alone-whole, none-lost}
 
 module _ {M : Type 0} (w : Media M) (ticks messages : ℕ) (plan : Plan) (told : Tellers) (media left : List (Option M)) where
@@ -45,7 +46,9 @@ module _ {M : Type 0} (w : Media M) (old new : ShelfSight) (plan : Plan) (o : Op
       ran = ran;
       serial = λ tells. laws.serial plan told.asked t language (ran.is_told tells).legal;
       late = λ tells. laws.late plan told.asked t language (ran.is_told tells).legal;
+      sees = λ tells. laws.sees plan told.asked t language (ran.is_told tells).legal;
       finals = λ tells. laws.finals plan told.asked t language (ran.is_told tells).legal;
+      opened = finals-of-opened plan t ran.logs.empty;
       answers = λ tells. laws.answers plan told.asked t language (ran.is_told tells).legal;
       reasons = λ tells. laws.reasons plan told.asked t language (ran.is_told tells).legal;
       spent = λ tells. laws.spent plan told.asked t language (ran.is_told tells).legal;
@@ -85,7 +88,7 @@ module _ {M : Type 0} (w : Media M) (old new : ShelfSight) (plan : Plan) (o : Op
           → TellsEnd wanted plan e status t s → Came wanted t s status
       by-end wanted (end.Ran r) status t s ends none tells =
           subst (λ (z : Trace). Came wanted z s status) (sym tells.0) (inr (inr (ran-over r (had (end.Ran r) (λ e. absurd (cc e)) (λ is. (none is).0)) ends, tells.1)), refl)
-      by-end wanted (end.Refused fault) status t s ends none (told_none, inl seven) = (inl (seven, inr (no-memory t told_none (alone-whole {M = M} w media left ends.1) (λ tells. inl ends.1))), refl)
+      by-end wanted (end.Refused fault) status t s ends none (told_none, inl short) = (inl (short, inr (no-memory t told_none (alone-whole {M = M} w media left ends.1) (λ tells. inl ends.1))), refl)
       by-end wanted (end.Refused fault) status t s ends none (told_none, inr two) = (
         inr (inl (
           two.0,
@@ -98,14 +101,14 @@ module _ {M : Type 0} (w : Media M) (old new : ShelfSight) (plan : Plan) (o : Op
 
       -- where all is smooth
       completes : (wanted : Wanted) (e : End) (status : ℕ) (t : Trace) (s : Sinking) → EndsAs w o.ticks o.messages plan told media left e → TellsEnd wanted plan e status t s → Completes {M = M} w old new kept plan o (account_of t told) s status
-      completes wanted (end.Ran r) status t s ends (same, inl seven) tells most smooth = inl seven
+      completes wanted (end.Ran r) status t s ends (same, inl short) tells most smooth = inl short.0
       completes wanted (end.Ran r) status t s ends (same, inr (inr failed)) tells most smooth = absurd (smooth.sink failed.1.1)
       completes wanted (end.Ran r) status t s ends (same, inr (inl written)) tells most smooth =
           let done = run-complete w old new plan language o told volumes left kept has tells t (subst (λ (z : Trace). Ran w o.ticks o.messages plan (account_of z told) media left) (sym same) ends) s most smooth in
           inr (written.0 ∙ (ap (status_of plan) (sym same) ∙ complete-status o.ticks plan t done), done)
-      completes wanted (end.Refused fault) status t s ends (none, inl seven) tells most smooth = inl seven
+      completes wanted (end.Refused fault) status t s ends (none, inl short) tells most smooth = inl short.0
       completes wanted (end.Refused fault) status t s ends (none, inr two) tells most smooth = absurd (unrefused w old new plan o told volumes left kept has tells t s most smooth fault ends.2)
-      completes wanted end.NoMemory status t s ends told-as tells most smooth = inl told-as.1
+      completes wanted end.NoMemory status t s ends told-as tells most smooth = let short = told-as.1 in inl short.0
 
       pub runs-plan : (wanted : Wanted) (e : End) (status : ℕ) (t : Trace) (s : Sinking) → EndsAs w o.ticks o.messages plan told media left e → (wanting ≡ true → (e ≡ end.NoMemory) × AllZip (IsLeftAlone w) media left)
           → TellsEnd wanted plan e status t s → RunsOver w old new kept plan wanted o (account_of t told) s status volumes

@@ -27,11 +27,13 @@ use Rattle.run_rounds.specs.Places.{PlacesHavePasts}
 use Rattle.plan_volumes.specs.Shelves.{ShelfSight, volume_name}
 use Rattle.plan_volumes.specs.KeptMedium.{Kept}
 use Rattle.plan_volumes.specs.Volumes.{HadMemory, HasVolumes, NodeVolumes, work_taken}
+use Rattle.run_command.specs.Finals.{AreFinalsOfOpened}
+use Rattle.run_command.specs.Sights.{SeeFinishedRuns}
 use Rattle.run_command.specs.Smooth.{AskAtMost, WentSmoothly, messages_for, pages_for, volumes_of_blank}
 use Rattle.run_command.specs.declared.reports.Wanted.{Wanted}
 use Rattle.run_command.specs.Lines.{resume_line}
 use Rattle.run_command.specs.Tellings.{status_of, wanted_text}
-use Rattle.run_command.specs.Written.{Sinking, EndsIfAny, GotLine}
+use Rattle.run_command.specs.Written.{Sinking, EndsIfAny, GotLine, HasNoMemory}
 
 -- no run began: nothing was asked, and the trace names no node
 pub record HasNoRun (told : Account) : Type 0 where
@@ -43,6 +45,7 @@ pub record HasNoRun (told : Account) : Type 0 where
 pub record HoldsOfRuns : Type 0 where
   pub serial : (plan : Plan) (asked : List Asked) (t : Trace) → CanRun plan → IsLegal plan asked t → IsSerialOver plan t
   pub late : (plan : Plan) (asked : List Asked) (t : Trace) → CanRun plan → IsLegal plan asked t → AreLate plan t
+  pub sees : (plan : Plan) (asked : List Asked) (t : Trace) → CanRun plan → IsLegal plan asked t → SeeFinishedRuns plan t
   pub finals : (plan : Plan) (asked : List Asked) (t : Trace) → CanRun plan → IsLegal plan asked t → HoldsFinals plan t
   pub answers : (plan : Plan) (asked : List Asked) (t : Trace) → CanRun plan → IsLegal plan asked t → KeepsAnswers plan t
   pub reasons : (plan : Plan) (asked : List Asked) (t : Trace) → CanRun plan → IsLegal plan asked t → HaveReasons plan t
@@ -67,7 +70,9 @@ module _ {M : Type 0} (w : Media M) (old new : ShelfSight) (kept : List (Kept M)
       pub ran : Ran w o.ticks o.messages plan told (map work_taken volumes) left
       pub serial : IsTrue w.tells → IsSerialOver plan told.trace
       pub late : IsTrue w.tells → AreLate plan told.trace
+      pub sees : IsTrue w.tells → SeeFinishedRuns plan told.trace
       pub finals : IsTrue w.tells → HoldsFinals plan told.trace
+      pub opened : AreFinalsOfOpened plan told.trace
       pub answers : IsTrue w.tells → KeepsAnswers plan told.trace
       pub reasons : IsTrue w.tells → HaveReasons plan told.trace
       pub spent : IsTrue w.tells → SpendsRightly plan told.trace
@@ -101,9 +106,9 @@ module _ {M : Type 0} (w : Media M) (old new : ShelfSight) (kept : List (Kept M)
       pub safe : Every (LosesNothing w old) kept
       pub past : IsTrue w.tells → AllZip (IsLeftAlone w) (map work_taken volumes) left ⊎ (HadMemory w volumes × RanUntold w plan told.asked_before (map work_taken volumes) left)
 
-    -- What came of running the plan: memory ran out; or a broker's log refuses it; or it ran, and is reported unless memory ran out for that.
+    -- What came of running the plan: memory ran out, and nothing was written; or a broker's log refuses it; or it ran, and is reported unless memory ran out for that.
     abbrev pub CameOf : Wanted → Options → Account → Sinking → ℕ → Type 0
-    CameOf wanted o told s status = ((status ≡ 7) × (TookNothing told ⊎ WantedMemory told))
+    CameOf wanted o told s status = (HasNoMemory status s × (TookNothing told ⊎ WantedMemory told))
         ⊎ (((status ≡ 2) × IsRefusedByLog s × HasNoRun told)
         ⊎ (RanOver o told × EndsIfAny status s (status_of plan told.trace) (wanted_text wanted plan told.trace)))
 

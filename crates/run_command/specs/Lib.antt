@@ -1,6 +1,9 @@
 pub mod Contract
+pub mod Finals
 pub mod Finished
 pub mod Lines
+pub mod Parts
+pub mod Sights
 pub mod Smooth
 pub mod Takings
 pub mod Tellings

@@ -10,7 +10,7 @@ use Rattle.run_rounds.specs.Ends.{some_down}
 use Rattle.run_command.specs.declared.reports.Wanted.{Wanted}
 use Rattle.run_command.specs.declared.reports.Wanted.TheVariants.{Report, Summary}
 use Rattle.run_command.specs.Lines.{resume_line}
-use Rattle.run_command.specs.Written.{Sinking, EndsIfAny, GotLine}
+use Rattle.run_command.specs.Written.{Sinking, EndsIfAny, GotLine, HasNoMemory}
 
 -- the report of a run, or the summary of a load
 abbrev pub wanted_text : Wanted → Plan → Trace → List ℕ
@@ -34,5 +34,5 @@ OfRun NoMemory P = Unit {0}
 -- Of a run that ended so this status is reported and this trace: its text, or the line that refuses its plan, unless memory ran out.
 abbrev pub TellsEnd : Wanted → Plan → End → ℕ → Trace → Sinking → Type 0
 TellsEnd wanted plan (Ran ran) status t s = (t ≡ ran) × EndsIfAny status s (status_of plan ran) (wanted_text wanted plan ran)
-TellsEnd wanted plan (Refused fault) status t s = (t ≡ no_trace) × ((status ≡ 7) ⊎ ((status ≡ 2) × GotLine s (resume_line fault)))
-TellsEnd wanted plan NoMemory status t s = (t ≡ no_trace) × (status ≡ 7)
+TellsEnd wanted plan (Refused fault) status t s = (t ≡ no_trace) × (HasNoMemory status s ⊎ ((status ≡ 2) × GotLine s (resume_line fault)))
+TellsEnd wanted plan NoMemory status t s = (t ≡ no_trace) × HasNoMemory status s

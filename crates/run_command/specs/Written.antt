@@ -33,11 +33,19 @@ GotLine s text = Got s text ⊎ GotFront s text
 abbrev pub Ends : ℕ → Sinking → (status_there : ℕ) → List ℕ → Type 0
 Ends status s status_there text = ((status ≡ status_there) × Got s text) ⊎ ((status ≡ 4) × GotFront s text)
 
+-- it got nothing, and didn't fail
+abbrev pub GotNothing : Sinking → Type 0
+GotNothing s = (s.taken ≡ s.taken_before) × (s.faults ≡ s.faults_before)
+
+-- memory ran out before anything was written
+abbrev pub HasNoMemory : ℕ → Sinking → Type 0
+HasNoMemory status s = (status ≡ 7) × GotNothing s
+
 -- or memory ran out for the text
 abbrev pub EndsIfAny : ℕ → Sinking → (status_there : ℕ) → List ℕ → Type 0
-EndsIfAny status s status_there text = (status ≡ 7) ⊎ Ends status s status_there text
+EndsIfAny status s status_there text = HasNoMemory status s ⊎ Ends status s status_there text
 
 -- this status tells that a text was written, if it could be made
 abbrev pub TellsText : {E : Type 0} → Result (List ℕ) E → ℕ → ℕ → Sinking → Type 0
 TellsText (Ok text) written status s = Ends status s written text
-TellsText (Err e) written status s = status ≡ 7
+TellsText (Err e) written status s = HasNoMemory status s

@@ -4,6 +4,7 @@
 mod laws;
 mod lines;
 mod media;
+mod parts;
 mod reports;
 mod runs;
 mod stops;
@@ -14,6 +15,7 @@ mod texts;
 pub use laws::{law_done_is_finished, laws_of_runs};
 pub use lines::fault_line;
 pub use media::{Finish, no_votes, quiet};
+pub use parts::{takes_part, was_not_opened};
 pub use plan_volumes::Kept;
 pub use reports::Wanted;
 pub use run_rounds::Told;

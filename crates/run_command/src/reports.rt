@@ -1,7 +1,6 @@
 //! What came of a run is written, and its status found.
 ghost use Rattle.std.specs.Prelude.{◌≡◌, ◌≢◌, ◌==◌, ◌⊎◌, ℕ, IfOk, if◌then◌else◌};
 ghost use Rattle.plan_form.specs.PlanTexts.{CanRun};
-ghost use Rattle.world_core.specs.Walks as walks;
 ghost use Rattle.world_core.specs.Legal.{JustNodes};
 ghost use Rattle.run_rounds.specs.Reports.{open_acts};
 ghost use Rattle.broker_core.specs.ResumeFault.TheVariants as resuming;
@@ -9,9 +8,10 @@ ghost use Rattle.run_rounds.specs.Ends as ends;
 ghost use Rattle.run_rounds.specs.Runs.{HasRanges};
 ghost use Rattle.run_command.specs.Lines as lines;
 ghost use Rattle.run_command.specs.Tellings.{OfRun, TellsEnd, status_of, status_with, wanted_text};
-ghost use Rattle.run_command.specs.Written.{EndsIfAny, GotLine, sinking};
+ghost use Rattle.run_command.specs.Written.{EndsIfAny, GotLine, HasNoMemory, sinking};
 
 use crate::lines::resume_line;
+use crate::parts::is_down;
 use crate::streams::write_all;
 use broker_core::ResumeFault;
 use plan_form::Plan;
@@ -26,16 +26,6 @@ pub enum Wanted {
     Report,
     /// The summary of a load with this seed.
     Summary { seed: u64 },
-}
-
-// Whether a node goes down.
-fn is_down(entry: &Entry) -> bool
-    ensures { result ≡ walks.is_down entry.now }
-{
-    match entry {
-        Entry::Down { node: _, cause: _ } => true,
-        _ => false,
-    }
 }
 
 // Whether a node is down.
@@ -97,8 +87,8 @@ fn tell_run<O: Sink>(alloc: Global, plan: &Plan, wanted: Wanted, trace: &Trace, 
 
 // Writes why a broker's log refuses the plan. The answer is the status.
 fn tell_refusal<O: Sink>(alloc: Global, fault: ResumeFault, sink: &mut O) -> u8
-    ensures { (result ≡ 7) ⊎ ((result ≡ 2) ×
-        GotLine (sinking (O.taken sink.old) (O.taken sink.new) (O.faults sink.old) (O.faults sink.new))
+    ensures { HasNoMemory result (sinking (O.taken sink.old) (O.taken sink.new) (O.faults sink.old) (O.faults sink.new))
+        ⊎ ((result ≡ 2) × GotLine (sinking (O.taken sink.old) (O.taken sink.new) (O.faults sink.old) (O.faults sink.new))
         (lines.resume_line fault)) }
 {
     match resume_line(alloc, fault) {

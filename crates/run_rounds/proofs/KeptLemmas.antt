@@ -4,7 +4,7 @@ use Rattle.run_rounds.proofs.ListLemmas.{along-mapped}
 use Rattle.run_rounds.proofs.SeenLemmas.{At, Went}
 
 -- a node's durable log begins with the log that it was opened with
-log-begins : (b : Base) (es : List Entry) (n : NodeId) (log : List Effect) → opened_log b.opened n ≡ Some log → (late : List Effect) × (((walk b es).life n).gated ≡ log ++ late)
+pub log-begins : (b : Base) (es : List Entry) (n : NodeId) (log : List Effect) → opened_log b.opened n ≡ Some log → (late : List Effect) × (((walk b es).life n).gated ≡ log ++ late)
 unfolding walk_from
 log-begins b es n log is =
     let h = gated-grows b [] es n in

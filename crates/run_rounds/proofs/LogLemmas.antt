@@ -52,4 +52,5 @@ module _ {M Q A : Type 0} (w : Media M) (plan : Plan) (lock : LockTable WirePart
     back = are-back w plan (origin w plan lock t) (Known w plan lock t) first ps stood.along;
     opened = λ n is not. (let s = stood-at n is in (s.old, s.node.medium, (s.before, s.after), λ told. keeps n s told));
     unopened = λ n old new is not became. absurd (opened-at n is not);
+    empty = λ n is not. absurd (opened-at n is not);
   }

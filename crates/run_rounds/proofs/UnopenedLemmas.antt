@@ -115,6 +115,13 @@ module _ {M : Type 0} {g : _} (w : Media M) where
         ap (λ (l : List Opened). opened_log l n) opened-as
         ∙ subst (λ (m : NodeId). opened_log (opened_from plan 0 os) m ≡ Some (log_in o)) (ap (node_at plan) z ∙ name) (log-at plan 0 os (place_of plan n) o e)
 
+    -- of a node that wasn't opened there is none
+    no-log : (n : NodeId) → WasNotOpened t.entries n → opened_log t.opened n ≡ Some []
+    no-log n was =
+        let f = fall-of plan os t.entries falls n was.0.0 was.0.1 in
+        let p : place_of plan n ≡ f.0 = ap (place_of plan) (sym f.3) ∙ place-at plan f.0 in
+        log-of n (Shut f.1 was.0.0) (ap (slice_get os) p ∙ f.2) (ap (node_at plan) p ∙ f.3)
+
     keeps : (n : NodeId) (o : Opening M g) (old new : M) → IsOpen o → HasOpened w (Some old) o → medium_in o ≡ Some new → opened_log t.opened n ≡ Some (log_in o) → IsTrue w.tells → KeepsLog w first (map medium_in os) plan t n old new
     keeps n (Open store effects) old new opens h m log told = record {
       opened = λ other e. subst (λ (l : List Effect). storage (w.reads old) ≡ Ok l) (same_Some _ _ (sym log ∙ e)) (h.held told);
@@ -132,6 +139,7 @@ module _ {M : Type 0} {g : _} (w : Media M) where
       back = opened-back w first os opened;
       opened = λ n here was. restored n here (opened-at n here was);
       unopened = λ n old new here was b. (as-before n old new b).untouched;
+      empty = λ n here was. no-log n was;
     }
       where
         restored : (n : NodeId) → in_plan plan n ≡ true → (o : Opening M g) × (slice_get os (place_of plan n) ≡ Some o) × (node_at plan (place_of plan n) ≡ n) × IsOpen o

@@ -52,11 +52,12 @@ module _ {M : Type 0} (w : Media M) where
       pub images : LeavesLife w plan t n new
       pub up : down_cause n t.entries ≡ None → open_effects plan t n ≡ []
 
-    -- The logs of the trace are those of the media, before and after.
+    -- The logs of the trace are those of the media, before and after. Of a node that wasn't opened the trace has an empty log.
     pub record RestoresLogs (plan : Plan) (t : Trace) : Type 0 where
       pub back : AreBack media left
       pub opened : (n : NodeId) → in_plan plan n ≡ true → (WasNotOpened t.entries n → ⊥) → (old : M) × (new : M) × Became plan media left n old new × (IsTrue w.tells → KeepsLog plan t n old new)
       pub unopened : (n : NodeId) (old new : M) → in_plan plan n ≡ true → WasNotOpened t.entries n → Became plan media left n old new → IsUntouched w old new
+      pub empty : (n : NodeId) → in_plan plan n ≡ true → WasNotOpened t.entries n → opened_log t.opened n ≡ Some []
 
     -- ---- why nodes stopped
 

@@ -20,7 +20,7 @@ use Rattle.run_rounds.specs.Finishes.{Tellers, account_of}
 use Rattle.run_rounds.specs.Runs.{Account}
 use Rattle.run_command.specs.Contract.{HasNoRun, HoldsOfRuns, RunsOver}
 use Rattle.run_command.specs.Takings.{AreHanded, AreTaken, EndsOver, WereGiven}
-use Rattle.run_command.specs.Written.{EndsIfAny, Sinking}
+use Rattle.run_command.specs.Written.{EndsIfAny, HasNoMemory, Sinking}
 use Rattle.run_command.specs.declared.reports.Wanted.TheVariants.{Report}
 use Rattle.run_command.specs.declared.takings.Taken.{Taken}
 use Rattle.run_command.proofs.RunLemmas.{runs-over}
@@ -53,12 +53,12 @@ module _ {M : Type 0} (w : Media M) (h : Heights) (draft : Plan) where
 
 module _ {M : Type 0} (w : Media M) (old new : ShelfSight) (draft : Plan) (o : Options) (s : Sinking) (status : ℕ) (kept : List (Kept M)) where
   -- memory ran out before any medium was asked for
-  pub above-nothing : (told : Account) → status ≡ 7 → kept ≡ [] → new.asked ≡ old.asked → HasNoRun told → RunsAbove w old new kept draft o told s status
-  above-nothing told seven none unasked no_run = record {
+  pub above-nothing : (told : Account) → HasNoMemory status s → kept ≡ [] → new.asked ≡ old.asked → HasNoRun told → RunsAbove w old new kept draft o told s status
+  above-nothing told short none unasked no_run = record {
     volumes = [];
     openings = [];
     opened = tt;
-    came = inl ((omega arith, omega arith), (record { came = inl (seven, inl (record { none = none; unasked = unasked; no_run = no_run })); completes = λ tells most smooth. inl seven }, refl));
+    came = inl ((omega arith, omega arith), (record { came = inl (short, inl (record { none = none; unasked = unasked; no_run = no_run })); completes = λ tells most smooth. inl short.0 }, refl));
   }
 
   module _ (volumes : List (NodeVolumes w)) (t : Taken M w) (given : WereGiven w draft volumes old new t) where

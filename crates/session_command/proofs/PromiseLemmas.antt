@@ -3,6 +3,7 @@ use Rattle.std.proofs.Common.{◌≡◌, ◌≤◌, ℕ, List, [], inl, inr, ref
 use Rattle.std.specs.Prelude.{Option, Err, Ok}
 use Rattle.std.specs.Io.KnownBytes.{prepend_known}
 use Rattle.stream_port.specs.Causes.{Rose}
+use Rattle.run_command.specs.Written.{HasNoMemory}
 use Rattle.medium_port.specs.declared.shelves.Shelf.{Ghosts}
 use Rattle.session_form.specs.Sessions.{batch_text}
 use Rattle.command_words.specs.declared.commands.Options.{Options}
@@ -23,8 +24,8 @@ module _ {H M : Type 0} (g : Ghosts H M) (w : Media M) (c : Call H) where
   pub promise-words : ((o : Options) → AreSession o c.words → ⊥) → ToldOf stop.Words c.status (sunk c.before c.after) → IsStill c.before c.after → Promise g w c
   promise-words none told still = inl (record { status = told.0; none = none; still = still; line = told.1 })
 
-  pub promise-memory : c.status ≡ 7 → IsStill c.before c.after → Promise g w c
-  promise-memory seven still = inr (inl (seven, still))
+  pub promise-memory : HasNoMemory c.status (sunk c.before c.after) → IsStill c.before c.after → Promise g w c
+  promise-memory short still = inr (inl (short, still))
 
   -- there is none by the head
   pub promise-told : (o : Options) → AreSession o c.words → (left : Option (List ℕ)) (why : Stop) → HasHead c.input left (Err why) → (why ≡ stop.Source → Rose c.faults_before c.faults) → ToldOf why c.status (sunk c.before c.after) → IsStill c.before c.after

@@ -19,7 +19,7 @@ use Rattle.session_command.specs.Sessions.{EndsAtSource, EndsInBatch, Stops}
 use Rattle.session_command.specs.Standings.{IsStill, Standing, standing, sunk}
 use Rattle.session_command.specs.Texts.{own}
 use Rattle.session_command.specs.Kept.{AreIdle, IsKept}
-use Rattle.session_command.specs.Turns.{GotNothing, IsAfter, StoppedAs, Turned, WentOn}
+use Rattle.session_command.specs.Turns.{IsAfter, StoppedAs, Turned, WentOn}
 use Rattle.session_command.specs.declared.turns.Turn.{Turn}
 use Rattle.session_command.specs.declared.turns.Turn.TheVariants.{On, Ended, Stopped}
 use Rattle.session_command.proofs.InputLemmas.{ended-append}

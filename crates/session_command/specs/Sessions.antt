@@ -9,7 +9,7 @@ use Rattle.session_form.specs.Sessions.{AreBatches, IsBatch, IsHead, IsHeadFault
 use Rattle.command_words.specs.declared.commands.Options.{Options}
 use Rattle.plan_volumes.specs.Media.{Media}
 use Rattle.run_command.specs.Lines.{source_line, words_line}
-use Rattle.run_command.specs.Written.{EndsIfAny, GotLine}
+use Rattle.run_command.specs.Written.{EndsIfAny, GotLine, HasNoMemory}
 use Rattle.session_command.specs.Chains.{Answered, Chain, GoesOn, gravest}
 use Rattle.session_command.specs.Lines.{cut_line, fault_line}
 use Rattle.session_command.specs.Kept.{AreIdle}
@@ -124,6 +124,6 @@ module _ {H M : Type 0} (g : Ghosts H M) (w : Media M) (c : Call H) where
     pub read : Consumes c.input ahead head
     pub held : Held g w o repositories brokers ahead c.faults_before c.faults 3 c.status c.before c.after
 
-  -- The words are no session; or memory ran out before anything was run; or they are one, and there is no head, or the session was held.
+  -- The words are no session; or memory ran out before anything was run or written; or they are one, and there is no head, or the session was held.
   abbrev pub Promise : Type 0
-  Promise = HasNoWords ⊎ (((c.status ≡ 7) × IsStill c.before c.after) ⊎ ((o : Options) × AreSession o c.words × (HasNoSource ⊎ (HasNoHead ⊎ WasHeld o))))
+  Promise = HasNoWords ⊎ ((HasNoMemory c.status (sunk c.before c.after) × IsStill c.before c.after) ⊎ ((o : Options) × AreSession o c.words × (HasNoSource ⊎ (HasNoHead ⊎ WasHeld o))))

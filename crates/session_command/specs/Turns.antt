@@ -10,33 +10,29 @@ use Rattle.session_command.specs.Lines.{fault_line}
 use Rattle.session_command.specs.Sessions.{EndsWell, Stops}
 use Rattle.session_command.specs.Standings.{Standing}
 use Rattle.run_command.specs.Lines.{source_line, words_line}
-use Rattle.run_command.specs.Written.{EndsIfAny, Sinking, GotLine}
+use Rattle.run_command.specs.Written.{EndsIfAny, Sinking, GotLine, HasNoMemory}
 use Rattle.run_command.specs.declared.stops.Stop.{Stop}
 use Rattle.run_command.specs.declared.stops.Stop.TheVariants as stop
 use Rattle.session_command.specs.declared.turns.Turn.{Turn}
 use Rattle.session_command.specs.declared.turns.Turn.TheVariants.{On, Ended, Stopped}
-
--- the sink got nothing, and didn't fail
-abbrev pub GotNothing : Sinking → Type 0
-GotNothing s = (s.taken ≡ s.taken_before) × (s.faults ≡ s.faults_before)
 
 -- the status and the line that tell why there is no session
 abbrev pub ToldOf : Stop → ℕ → Sinking → Type 0
 ToldOf stop.Words status s = (status ≡ 1) × GotLine s words_line
 ToldOf (stop.Fault line kind) status s = EndsIfAny status s 2 (fault_line line kind)
 ToldOf stop.Source status s = (status ≡ 3) × GotLine s source_line
-ToldOf stop.NoMemory status s = status ≡ 7
-ToldOf (stop.Votes line) status s = status ≡ 7
-ToldOf stop.Sink status s = status ≡ 7
+ToldOf stop.NoMemory status s = HasNoMemory status s
+ToldOf (stop.Votes line) status s = HasNoMemory status s
+ToldOf stop.Sink status s = HasNoMemory status s
 
 -- the status and the line that tell why no more is read
 abbrev pub StoppedAs : Stop → ℕ → Sinking → Type 0
 StoppedAs stop.Source status s = (status ≡ 3) × GotLine s source_line
-StoppedAs stop.NoMemory status s = (status ≡ 7) × GotNothing s
-StoppedAs stop.Words status s = (status ≡ 7) × GotNothing s
-StoppedAs (stop.Fault line kind) status s = (status ≡ 7) × GotNothing s
-StoppedAs (stop.Votes line) status s = (status ≡ 7) × GotNothing s
-StoppedAs stop.Sink status s = (status ≡ 7) × GotNothing s
+StoppedAs stop.NoMemory status s = HasNoMemory status s
+StoppedAs stop.Words status s = HasNoMemory status s
+StoppedAs (stop.Fault line kind) status s = HasNoMemory status s
+StoppedAs (stop.Votes line) status s = HasNoMemory status s
+StoppedAs stop.Sink status s = HasNoMemory status s
 
 -- so a turn ends after a batch of this status
 abbrev pub IsAfter : ℕ → Turn → Type 0

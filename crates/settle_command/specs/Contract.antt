@@ -8,7 +8,7 @@ use Rattle.plan_volumes.specs.Shelves.{ShelfSight}
 use Rattle.plan_volumes.specs.Volumes.{HadMemory, HasVolumes, NodeVolumes, work_taken}
 use Rattle.run_command.specs.Contract.{TookNothing, WantedMemory}
 use Rattle.run_command.specs.Takings.{AreHanded}
-use Rattle.run_command.specs.Written.{Sinking}
+use Rattle.run_command.specs.Written.{HasNoMemory, Sinking}
 use Rattle.run_rounds.specs.Ends.{HasSettled, IsUnopened}
 use Rattle.run_rounds.specs.Finishes.{EndsTo, Tellers}
 use Rattle.run_rounds.specs.Places.{PlacesHavePasts}
@@ -47,7 +47,7 @@ module _ {M : Type 0} (w : Media M) (old new : ShelfSight) (kept : List (Kept M)
     pub expired : IsTrue w.tells → AllExpired plan told.trace
     pub pasts : IsTrue w.tells → PlacesHavePasts plan told.trace
 
-  -- What came of settling these repositories: memory ran out; or they settled, which is reported unless memory ran out for that.
+  -- What came of settling these repositories: memory ran out, and nothing was written; or they settled, which is reported unless memory ran out for that.
   abbrev pub SettlesAll : (repositories : ℕ) → Account → Sinking → ℕ → Type 0
-  SettlesAll repositories told s status = ((status ≡ 7) × (TookNothing w old new kept (settle_plan repositories) told ⊎ WantedMemory w old new kept (settle_plan repositories) told))
+  SettlesAll repositories told s status = (HasNoMemory status s × (TookNothing w old new kept (settle_plan repositories) told ⊎ WantedMemory w old new kept (settle_plan repositories) told))
       ⊎ (SettledOver (settle_plan repositories) told × IsReported (settle_plan repositories) told.trace status s)

@@ -3,6 +3,7 @@
 #![tactic(auto)]
 
 mod full_sinks;
+mod parts;
 mod plain_fates;
 mod plan_lines;
 mod progress;
@@ -11,6 +12,7 @@ mod prompts;
 use full_sinks::FullSink;
 use held_shelf::HeldShelf;
 use medium_port::{FileMedium, FileShelf, Medium, Shelf};
+use parts::tell_parts;
 use plain_fates::PlainFates;
 use plan_lines::{KeptSource, fault_text};
 use progress::ToldFates;
@@ -185,12 +187,20 @@ fn run<R: Threads + Wait + Sync>(
         ToldFates::new(MemoryFates::new(alloc, Vec::new(alloc)), rt, rt.stderr()),
         SecondsClock::new(rt),
     );
-    let Finish { status, media, .. } = ended;
+    let Finish {
+        status,
+        trace,
+        media,
+        ..
+    } = ended;
     if sink.is_full() {
         tell_growth(media.into_vec());
     }
-    if status == REFUSED && is_run(words) {
-        tell_fault(rt, alloc, source.kept());
+    if is_run(words) {
+        tell_parts(rt, alloc, folder, &trace);
+        if status == REFUSED {
+            tell_fault(rt, alloc, source.kept());
+        }
     }
     Ok(status)
 }

@@ -44,7 +44,7 @@ pub use Rattle.swallow_top.specs.Plans.{IsReadAs, ReadsPlan}
 pub use Rattle.swallow_top.specs.Retirements.{TellsRetired, TellsRetirement, mark_at}
 pub use Rattle.run_command.specs.Tellings.{status_of}
 pub use Rattle.swallow_top.specs.Votes.{AreFew, AreNoPolls, AreReadAs, HavePolled, ReadsPolls, TellsVotes, limits_of, tellers_of, votes_status}
-pub use Rattle.run_command.specs.Written.{Ends, EndsIfAny, GotLine, Sinking, sinking}
+pub use Rattle.run_command.specs.Written.{Ends, EndsIfAny, GotLine, GotNothing, HasNoMemory, Sinking, sinking}
 pub use Rattle.run_command.specs.declared.reports.Wanted.{Wanted}
 pub use Rattle.run_command.specs.declared.stops.Stop.{Stop}
 pub use Rattle.value_form.specs.declared.objects.ObjectId.{ObjectId}

@@ -19,8 +19,8 @@ use Rattle.replay_command.specs.Replayed.{ReplayOver}
 use Rattle.archive_promise.proofs.WatchedLemmas.{counts-on}
 
 module _ {M : Type 0} (w : Media M) (old new : ShelfSight) (kept : List (Kept M)) (s : Sinking) (status : ℕ) where
-  asked-nothing : (r : Outcome) → TookNothing w old new kept r → TellsOutcome r status s → AskedNothing w old new kept status
-  asked-nothing r none told = record { wanting = subst (λ x. TellsOutcome x status s) none.wanting told; none = none.none; unasked = none.unasked; left = none.left }
+  asked-nothing : (r : Outcome) → TookNothing w old new kept r → TellsOutcome r status s → AskedNothing w old new kept s status
+  asked-nothing r none told = let short = subst (λ x. TellsOutcome x status s) none.wanting told in record { wanting = short.0; unwritten = short.1; none = none.none; unasked = none.unasked; left = none.left }
 
   lawful-answer : {g : _} (q : Question) (openings : List (Opening M g)) (r : Outcome) → IsOfStamp q → Answers q openings r → IsLawful q (logs_of openings) r
   lawful-answer q openings (Told text) first came = is-lawful q (logs_of openings) (Told text) first came.1
@@ -30,12 +30,12 @@ module _ {M : Type 0} (w : Media M) (old new : ShelfSight) (kept : List (Kept M)
   lawful-answer (AsOf r at) openings NoMemory first came = tt
   lawful-answer (Audit o) openings NoMemory first came = tt
 
-  pub tells-answer : (q : Question) (r : Outcome) → IsOfStamp q → TookNothing w old new kept r ⊎ AnswersOver w old new q kept r → TellsOutcome r status s → AskedNothing w old new kept status ⊎ TellsAnswer w old new q kept s status
+  pub tells-answer : (q : Question) (r : Outcome) → IsOfStamp q → TookNothing w old new kept r ⊎ AnswersOver w old new q kept r → TellsOutcome r status s → AskedNothing w old new kept s status ⊎ TellsAnswer w old new q kept s status
   tells-answer q r first (inl none) told = inl (asked-nothing r none told)
   tells-answer q r first (inr over) told = inr (record { outcome = r; over = over; lawful = lawful-answer q over.openings r first over.came; told = told })
 
   pub tells-watch : (repository : ℕ) (rule : Rule) (r : Outcome) → TookNothing w old new kept r ⊎ (StopsBefore w old new repository rule kept r ⊎ WatchesOver w old new repository rule kept r) → TellsOutcome r status s →
-      AskedNothing w old new kept status ⊎ TellsWatch w old new repository rule kept s status
+      AskedNothing w old new kept s status ⊎ TellsWatch w old new repository rule kept s status
   tells-watch repository rule r (inl none) told = inl (asked-nothing r none told)
   tells-watch repository rule r (inr over) told = inr (record { outcome = r; over = over; lawful = λ o log puts text ready. counts-on rule repository (logs_of o.openings) log puts text ready; told = told })
 
@@ -45,7 +45,7 @@ module _ {M : Type 0} (w : Media M) (old new : ShelfSight) (kept : List (Kept M)
   lawful-map clock vs (Fallen line) came = tt
   lawful-map clock vs NoMemory came = tt
 
-  pub tells-snapshot : (clock : Option ℕ) (r : Outcome) → TookNothing w old new kept r ⊎ SnapshotOver w old new clock kept r → TellsOutcome r status s → AskedNothing w old new kept status ⊎ TellsSnapshot w old new clock kept s status
+  pub tells-snapshot : (clock : Option ℕ) (r : Outcome) → TookNothing w old new kept r ⊎ SnapshotOver w old new clock kept r → TellsOutcome r status s → AskedNothing w old new kept s status ⊎ TellsSnapshot w old new clock kept s status
   tells-snapshot clock r (inl none) told = inl (asked-nothing r none told)
   tells-snapshot clock r (inr over) told = inr (record { outcome = r; over = over; lawful = lawful-map clock over.volumes r over.came; told = told })
 
@@ -77,7 +77,7 @@ pub outcome-most : (r : Outcome) (s : Sinking) (status : ℕ) → TellsOutcome r
 outcome-most (Told text) s status h = told-most status s 0 text (omega arith) h
 outcome-most (Refused line) s status h = let e = h.0 in omega (arith, e)
 outcome-most (Fallen line) s status h = told-most status s 6 line (omega arith) h
-outcome-most NoMemory s status h = omega (arith, h)
+outcome-most NoMemory s status h = let e = h.0 in omega (arith, e)
 
 -- a clock that words ask for is one that a stamp has
 pub clock-within : (clock : Option ℕ) (words : List (List ℕ)) → IsSnapshot clock words → IfSome clock (λ c. (1 ≤ c) × (c ≤ 1099511627775))

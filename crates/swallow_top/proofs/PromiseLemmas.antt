@@ -10,7 +10,7 @@ use Rattle.command_words.specs.declared.options.Given.{Given}
 use Rattle.run_command.specs.declared.reports.Wanted.TheVariants.{Report, Summary}
 use Rattle.run_command.specs.declared.stops.Stop.TheVariants as stop
 use Rattle.swallow_top.specs.Asked.{TellsAsked}
-use Rattle.swallow_top.specs.Promise.{Call, HasNoWords, TouchedNothing, IsUnread, Promise, WasDone}
+use Rattle.swallow_top.specs.Promise.{Call, HasNoWords, RanOut, TouchedNothing, IsUnread, Promise, WasDone}
 use Rattle.retire_command.specs.declared.outcomes.Retired.TheVariants.{Done, Refused, Fallen, NoMemory}
 use Rattle.archive_promise.specs.Question.TheVariants as question
 use Rattle.std.specs.List.{list_any}
@@ -40,26 +40,26 @@ ends-most status s there text most (inl h) = subst (λ n. n ≤ 8) (sym h.0) mos
 ends-most status s there text most (inr h) = let e = h.0 in omega (arith, e)
 
 any-most : (status : ℕ) (s : Sinking) (there : ℕ) (text : List ℕ) → there ≤ 8 → EndsIfAny status s there text → status ≤ 8
-any-most status s there text most (inl h) = omega (arith, h)
+any-most status s there text most (inl h) = let e = h.0 in omega (arith, e)
 any-most status s there text most (inr h) = ends-most status s there text most h
 
 retired-most : (r : Retired) (s : Sinking) (status : ℕ) → TellsRetired r status s → status ≤ 8
 retired-most (Done line) s status h = ends-most status s 0 line (omega arith) h
 retired-most (Refused line) s status h = let e = h.0 in omega (arith, e)
 retired-most (Fallen line) s status h = ends-most status s 6 line (omega arith) h
-retired-most NoMemory s status h = omega (arith, h)
+retired-most NoMemory s status h = let e = h.0 in omega (arith, e)
 
 voted-most : (end : VoteEnd) (votes : Trace) (s : Sinking) (status : ℕ) → TellsVotes end votes status s → status ≤ 8
 voted-most (Told t standings) votes s status h =
     any-most status s (votes_status t standings) _ (if-most (all_held standings) 0 (if voters_down t.entries then 6 else 5) 8 (omega arith) (if-most (voters_down t.entries) 6 5 8 (omega arith) (omega arith))) h.1
-voted-most voted.NoMemory votes s status h = let e = h.1 in omega (arith, e)
+voted-most voted.NoMemory votes s status h = let short = h.1 in let e = short.0 in omega (arith, e)
 
 module _ {M : Type 0} (w : Media M) (old new : ShelfSight) (kept : List (Kept M)) where
   pub runs-most : (plan : Plan) (wanted : Wanted) (o : Options) (told : Account) (s : Sinking) (status : ℕ) → RunsPlan w old new kept plan wanted o told s status → status ≤ 8
   runs-most plan wanted o told s status runs = by runs.came
     where
       by : CameOf w old new kept plan wanted o told s status → status ≤ 8
-      by (inl h) = let e = h.0 in omega (arith, e)
+      by (inl h) = let short = h.0 in let e = short.0 in omega (arith, e)
       by (inr (inl h)) = let e = h.0 in omega (arith, e)
       by (inr (inr h)) = any-most status s (status_of plan told.trace) _ (status-most plan told.trace) h.1
 
@@ -67,7 +67,7 @@ module _ {M : Type 0} (w : Media M) (old new : ShelfSight) (kept : List (Kept M)
   tells-most object s status h = by h.told
     where
       by : TellsVolumes object h.openings status s → status ≤ 8
-      by (inl e) = omega (arith, e)
+      by (inl h) = let e = h.0 in omega (arith, e)
       by (inr (inl x)) = ends-most status s 0 x.0 (omega arith) x.2
       by (inr (inr x)) = ends-most status s 6 x.0 (omega arith) x.2
 
@@ -99,25 +99,25 @@ module _ {M : Type 0} (c : Call M) where
 
   -- a call that refused what it read, or had no memory
   refused-run : (o : Options) (s : Stop) → AreWords (Run o) c.words → ReadsPlan c.input c.left c.faults_before c.faults (Err s) → RefusedAs s c.status c.sink
-      → ((status : ℕ) → c.status ≡ status → TouchedNothing c status) → HasNoWords c ⊎ (TouchedNothing c 7 ⊎ ((command : Command) × AreWords command c.words × WasDone c command))
-  refused-run o (stop.Fault line kind) words read (inl seven) quiet = inr (inl (quiet 7 seven))
+      → ((status : ℕ) → c.status ≡ status → TouchedNothing c status) → HasNoWords c ⊎ (RanOut c ⊎ ((command : Command) × AreWords command c.words × WasDone c command))
+  refused-run o (stop.Fault line kind) words read (inl short) quiet = inr (inl (quiet 7 short.0, short.1))
   refused-run o (stop.Fault line kind) words read (inr two) quiet =
       inr (inr (Run o, words, inr (inl (quiet 2 two.0, of_input-with c.input (λ input. IsPlanFault input line kind) (λ input. IsNoPlan input c.sink) (λ input h. record { line = line; kind = kind; is_fault = h; told = two.1 }) read))))
   refused-run o stop.Source words read refused quiet = inr (inr (Run o, words, inl (quiet 3 refused.0, read, refused.1)))
-  refused-run o stop.NoMemory words read refused quiet = inr (inl (quiet 7 refused))
+  refused-run o stop.NoMemory words read refused quiet = inr (inl (quiet 7 refused.0, refused.1))
   refused-run o stop.Words words read refused quiet = absurd read
   refused-run o (stop.Votes line) words read refused quiet = absurd read
   refused-run o stop.Sink words read refused quiet = absurd read
 
   refused-most : (s : Stop) → RefusedAs s c.status c.sink → c.status ≤ 8
   refused-most stop.Words h = let e = h.0 in omega (arith, e)
-  refused-most (stop.Fault line kind) (inl h) = omega (arith, h)
+  refused-most (stop.Fault line kind) (inl h) = let e = h.0 in omega (arith, e)
   refused-most (stop.Fault line kind) (inr h) = let e = h.0 in omega (arith, e)
-  refused-most (stop.Votes line) (inl h) = omega (arith, h)
+  refused-most (stop.Votes line) (inl h) = let e = h.0 in omega (arith, e)
   refused-most (stop.Votes line) (inr h) = let e = h.0 in omega (arith, e)
   refused-most stop.Source h = let e = h.0 in omega (arith, e)
-  refused-most stop.NoMemory h = omega (arith, h)
-  refused-most stop.Sink h = omega (arith, h)
+  refused-most stop.NoMemory h = let e = h.0 in omega (arith, e)
+  refused-most stop.Sink h = let e = h.0 in omega (arith, e)
 
   pub promise-refused : (o : Options) (s : Stop) → AreWords (Run o) c.words → ReadsPlan c.input c.left c.faults_before c.faults (Err s) → RefusedAs s c.status c.sink → ((status : ℕ) → c.status ≡ status → TouchedNothing c status) → AllKept c.shelf_before c.shelf c.media → Promise c
   promise-refused o s words read refused quiet kept = record { done = refused-run o s words read refused quiet; kept = kept; statuses = refused-most s refused; votes = inl (quiet c.status refl).no_votes }
@@ -138,14 +138,14 @@ module _ {M : Type 0} (c : Call M) where
     votes = inl votes;
   }
 
-  pub promise-wanting : TouchedNothing c 7 → AllKept c.shelf_before c.shelf c.media → Promise c
-  promise-wanting quiet kept = record { done = inr (inl quiet); kept = kept; statuses = let e = quiet.status_is in omega (arith, e); votes = inl quiet.no_votes }
+  pub promise-wanting : RanOut c → AllKept c.shelf_before c.shelf c.media → Promise c
+  promise-wanting short kept = let quiet = short.0 in record { done = inr (inl short); kept = kept; statuses = let e = quiet.status_is in omega (arith, e); votes = inl quiet.no_votes }
 
   -- a call that asked for no medium, since memory ran out
-  promise-unasked : AskedNothing c.media_are c.shelf_before c.shelf c.media c.status → HasNoRun c.told → c.votes ≡ no_trace → Promise c
-  promise-unasked h none votes = promise-wanting (record { status_is = h.wanting; none = h.none; unasked = h.unasked; no_run = none; no_votes = votes }) (none-kept c.shelf_before c.shelf c.media (λ name is. (h.left name).taken.0 is))
+  promise-unasked : AskedNothing c.media_are c.shelf_before c.shelf c.media c.sink c.status → HasNoRun c.told → c.votes ≡ no_trace → Promise c
+  promise-unasked h none votes = promise-wanting (record { status_is = h.wanting; none = h.none; unasked = h.unasked; no_run = none; no_votes = votes }, h.unwritten) (none-kept c.shelf_before c.shelf c.media (λ name is. (h.left name).taken.0 is))
 
-  promise-history : (object : ObjectId) → IsUnread c → AreWords (History object) c.words → AskedNothing c.media_are c.shelf_before c.shelf c.media c.status ⊎ TellsHistory c.media_are c.shelf_before c.shelf object c.media c.sink c.status → HasNoRun c.told → c.votes ≡ no_trace → Promise c
+  promise-history : (object : ObjectId) → IsUnread c → AreWords (History object) c.words → AskedNothing c.media_are c.shelf_before c.shelf c.media c.sink c.status ⊎ TellsHistory c.media_are c.shelf_before c.shelf object c.media c.sink c.status → HasNoRun c.told → c.votes ≡ no_trace → Promise c
   promise-history object unread words (inl nothing) none votes = promise-unasked nothing none votes
   promise-history object unread words (inr tells) none votes = record {
     done = inr (inr (History object, words, (unread, tells, none)));
@@ -154,7 +154,7 @@ module _ {M : Type 0} (c : Call M) where
     votes = inl votes;
   }
 
-  promise-retire : (repository clock : ℕ) → IsUnread c → AreWords (Retire repository clock) c.words → AskedNothing c.media_are c.shelf_before c.shelf c.media c.status ⊎ TellsRetirement c.media_are c.shelf_before c.shelf repository clock c.media c.sink c.status →
+  promise-retire : (repository clock : ℕ) → IsUnread c → AreWords (Retire repository clock) c.words → AskedNothing c.media_are c.shelf_before c.shelf c.media c.sink c.status ⊎ TellsRetirement c.media_are c.shelf_before c.shelf repository clock c.media c.sink c.status →
       HasNoRun c.told → c.votes ≡ no_trace → Promise c
   promise-retire repository clock unread words (inl nothing) none votes = promise-unasked nothing none votes
   promise-retire repository clock unread words (inr tells) none votes = record {
@@ -164,7 +164,7 @@ module _ {M : Type 0} (c : Call M) where
     votes = inl votes;
   }
 
-  promise-watch : (repository : ℕ) (rule : Rule) → IsUnread c → AreWords (Watch repository rule) c.words → AskedNothing c.media_are c.shelf_before c.shelf c.media c.status ⊎ TellsWatch c.media_are c.shelf_before c.shelf repository rule c.media c.sink c.status →
+  promise-watch : (repository : ℕ) (rule : Rule) → IsUnread c → AreWords (Watch repository rule) c.words → AskedNothing c.media_are c.shelf_before c.shelf c.media c.sink c.status ⊎ TellsWatch c.media_are c.shelf_before c.shelf repository rule c.media c.sink c.status →
       HasNoRun c.told → c.votes ≡ no_trace → Promise c
   promise-watch repository rule unread words (inl nothing) none votes = promise-unasked nothing none votes
   promise-watch repository rule unread words (inr tells) none votes = record {
@@ -174,7 +174,7 @@ module _ {M : Type 0} (c : Call M) where
     votes = inl votes;
   }
 
-  promise-snapshot : (clock : Option ℕ) → IsUnread c → AreWords (Snapshot clock) c.words → AskedNothing c.media_are c.shelf_before c.shelf c.media c.status ⊎ TellsSnapshot c.media_are c.shelf_before c.shelf clock c.media c.sink c.status →
+  promise-snapshot : (clock : Option ℕ) → IsUnread c → AreWords (Snapshot clock) c.words → AskedNothing c.media_are c.shelf_before c.shelf c.media c.sink c.status ⊎ TellsSnapshot c.media_are c.shelf_before c.shelf clock c.media c.sink c.status →
       HasNoRun c.told → c.votes ≡ no_trace → Promise c
   promise-snapshot clock unread words (inl nothing) none votes = promise-unasked nothing none votes
   promise-snapshot clock unread words (inr tells) none votes = record {
@@ -195,7 +195,7 @@ module _ {M : Type 0} (c : Call M) where
   }
 
   promise-map : (repository clock : ℕ) → IsUnread c → AreWords (AsOf repository clock) c.words →
-      AskedNothing c.media_are c.shelf_before c.shelf c.media c.status ⊎ TellsAnswer c.media_are c.shelf_before c.shelf (question.AsOf repository (mark_at clock)) c.media c.sink c.status → HasNoRun c.told → c.votes ≡ no_trace → Promise c
+      AskedNothing c.media_are c.shelf_before c.shelf c.media c.sink c.status ⊎ TellsAnswer c.media_are c.shelf_before c.shelf (question.AsOf repository (mark_at clock)) c.media c.sink c.status → HasNoRun c.told → c.votes ≡ no_trace → Promise c
   promise-map repository clock unread words (inl nothing) none votes = promise-unasked nothing none votes
   promise-map repository clock unread words (inr tells) none votes = record {
     done = inr (inr (AsOf repository clock, words, (unread, tells, none)));
@@ -205,7 +205,7 @@ module _ {M : Type 0} (c : Call M) where
   }
 
   promise-audit : (object : ObjectId) → IsUnread c → AreWords (Audit object) c.words →
-      AskedNothing c.media_are c.shelf_before c.shelf c.media c.status ⊎ TellsAnswer c.media_are c.shelf_before c.shelf (question.Audit object) c.media c.sink c.status → HasNoRun c.told → c.votes ≡ no_trace → Promise c
+      AskedNothing c.media_are c.shelf_before c.shelf c.media c.sink c.status ⊎ TellsAnswer c.media_are c.shelf_before c.shelf (question.Audit object) c.media c.sink c.status → HasNoRun c.told → c.votes ≡ no_trace → Promise c
   promise-audit object unread words (inl nothing) none votes = promise-unasked nothing none votes
   promise-audit object unread words (inr tells) none votes = record {
     done = inr (inr (Audit object, words, (unread, tells, none)));
@@ -215,8 +215,8 @@ module _ {M : Type 0} (c : Call M) where
   }
 
   settles-most : (repositories : ℕ) → SettlesAll c.media_are c.shelf_before c.shelf c.media repositories c.told c.sink c.status → c.status ≤ 8
-  settles-most repositories (inl h) = let e = h.0 in omega (arith, e)
-  settles-most repositories (inr (over, inl e)) = omega (arith, e)
+  settles-most repositories (inl h) = let short = h.0 in let e = short.0 in omega (arith, e)
+  settles-most repositories (inr (over, inl short)) = let e = short.0 in omega (arith, e)
   settles-most repositories (inr (over, inr (text, is, ends))) =
       let plan = settle_plan repositories in
       ends-most c.status c.sink (settle_status plan c.told.trace) text
@@ -231,7 +231,7 @@ module _ {M : Type 0} (c : Call M) where
   }
 
   -- a command that asks media alone
-  pub promise-asked : (command : Command) → IsUnread c → AreWords command c.words → AskedNothing c.media_are c.shelf_before c.shelf c.media c.status ⊎ TellsAsked c.media_are c.shelf_before c.shelf command c.media c.sink c.status → HasNoRun c.told → c.votes ≡ no_trace → Promise c
+  pub promise-asked : (command : Command) → IsUnread c → AreWords command c.words → AskedNothing c.media_are c.shelf_before c.shelf c.media c.sink c.status ⊎ TellsAsked c.media_are c.shelf_before c.shelf command c.media c.sink c.status → HasNoRun c.told → c.votes ≡ no_trace → Promise c
   promise-asked (History object) unread words tells none votes = promise-history object unread words tells none votes
   promise-asked (Retire repository clock) unread words tells none votes = promise-retire repository clock unread words tells none votes
   promise-asked (Watch repository rule) unread words tells none votes = promise-watch repository rule unread words tells none votes
@@ -250,12 +250,12 @@ module _ {M : Type 0} (c : Call M) where
 
   -- votes that refused what they read, or had no memory
   refused-votes : (o : Options) (s : Stop) → AreWords (Votes o) c.words → ReadsPolls c.input c.left c.faults_before c.faults (Err s) → RefusedAs s c.status c.sink
-      → ((status : ℕ) → c.status ≡ status → TouchedNothing c status) → HasNoWords c ⊎ (TouchedNothing c 7 ⊎ ((command : Command) × AreWords command c.words × WasDone c command))
-  refused-votes o (stop.Votes line) words read (inl seven) quiet = inr (inl (quiet 7 seven))
+      → ((status : ℕ) → c.status ≡ status → TouchedNothing c status) → HasNoWords c ⊎ (RanOut c ⊎ ((command : Command) × AreWords command c.words × WasDone c command))
+  refused-votes o (stop.Votes line) words read (inl short) quiet = inr (inl (quiet 7 short.0, short.1))
   refused-votes o (stop.Votes line) words read (inr two) quiet =
       inr (inr (Votes o, words, inr (inl (quiet 2 two.0, of_input-with c.input (λ input. IsInputFault input line) (λ input. AreNoPolls input c.sink) (λ input h. record { line = line; is_fault = h; told = two.1 }) read))))
   refused-votes o stop.Source words read refused quiet = inr (inr (Votes o, words, inl (quiet 3 refused.0, read, refused.1)))
-  refused-votes o stop.NoMemory words read refused quiet = inr (inl (quiet 7 refused))
+  refused-votes o stop.NoMemory words read refused quiet = inr (inl (quiet 7 refused.0, refused.1))
   refused-votes o stop.Words words read refused quiet = absurd read
   refused-votes o stop.Sink words read refused quiet = absurd read
   refused-votes o (stop.Fault line kind) words read refused quiet = absurd read
@@ -264,7 +264,7 @@ module _ {M : Type 0} (c : Call M) where
   promise-no-polls o s words read refused quiet kept = record { done = refused-votes o s words read refused quiet; kept = kept; statuses = refused-most s refused; votes = inl (quiet c.status refl).no_votes }
 
   pub promise-votes : (o : Options) (polls : Vec PollLine Global) (ps : List PollLine) → ps ≡ polls.items → AreWords (Votes o) c.words → ReadsPolls c.input c.left c.faults_before c.faults (Ok polls) →
-      (AskedNothing c.media_are c.shelf_before c.shelf c.media c.status × HasNoRun c.told × (c.votes ≡ no_trace)) ⊎ HavePolled c.media_are c.shelf_before c.shelf ps o c.told c.votes c.media c.sink c.status → Promise c
+      (AskedNothing c.media_are c.shelf_before c.shelf c.media c.sink c.status × HasNoRun c.told × (c.votes ≡ no_trace)) ⊎ HavePolled c.media_are c.shelf_before c.shelf ps o c.told c.votes c.media c.sink c.status → Promise c
   promise-votes o polls ps same words read (inl h) = promise-unasked h.0 h.1 h.2
   promise-votes o polls ps same words read (inr h) = record {
     done = inr (inr (

@@ -36,23 +36,24 @@ module _ {M : Type 0} (w : Media M) (old new : ShelfSight) where
       done = h.ended.0.completes content (subst (λ x. AreSmooth w polls o.messages h.media h.left x) tells.0 smooth)
 
       by : EndsIfAny status s (votes_status t standings) (told_text t standings) → (status ≡ 7) ⊎ ((status ≡ 0) × (tick_count votes.entries ≡ 0))
-      by (inl e) = inl e
+      by (inl e) = inl e.0
       by (inr (inl e)) = inr (e.0 ∙ ap (λ b. status_with b (some_down t.entries)) (all-told polls t standings (h.ended.1.held content) done.1), ap (λ (x : Trace). tick_count x.entries) tells.0 ∙ done.0)
       by (inr (inr e)) = absurd (calm e.1.1)
-  comes-to polls o told votes kept s status NoMemory h tells content smooth calm = inl tells.1
+  comes-to polls o told votes kept s status NoMemory h tells content smooth calm = let short = tells.1 in inl short.0
 
   -- so it is promised
   polled-so : (polls : List PollLine) (o : Options) (told : Account) (votes : Trace) (kept : List (Kept M)) (s : Sinking) (status : ℕ) (end : VoteEnd) →
       TookNothing w old new (tellers_of told) kept end ⊎ VotesOver w old new (limits_of o) polls (tellers_of told) kept end → TellsVotes end votes status s → told.trace ≡ no_trace →
-      (AskedNothing w old new kept status × HasNoRun told × (votes ≡ no_trace)) ⊎ HavePolled w old new polls o told votes kept s status
+      (AskedNothing w old new kept s status × HasNoRun told × (votes ≡ no_trace)) ⊎ HavePolled w old new polls o told votes kept s status
   polled-so polls o told votes kept s status end (inl h) tells none =
       let k = subst (λ e. TellsVotes e votes status s) h.wanting tells in
-      inl (record { wanting = k.1; none = h.none; unasked = h.unasked; left = h.left }, record { trace = none; fates = h.fates; clock = h.clock }, k.0)
+      let short = k.1 in
+      inl (record { wanting = short.0; unwritten = short.1; none = h.none; unasked = h.unasked; left = h.left }, record { trace = none; fates = h.fates; clock = h.clock }, k.0)
   polled-so polls o told votes kept s status end (inr h) tells none = inr (record { end = end; over = h; written = tells; no_run = none; completes = comes-to polls o (tellers_of told) votes kept s status end h tells })
 
   pub polled : (polls : List PollLine) (o : Options) (limits : Limits) (told : Account) (votes : Trace) (media kept : List (Kept M)) (s : Sinking) (status : ℕ) (end : VoteEnd) → limits ≡ limits_of o → kept ≡ media →
       TookNothing w old new (tellers_of told) media end ⊎ VotesOver w old new limits polls (tellers_of told) media end → TellsVotes end votes status s → told.trace ≡ no_trace →
-      (AskedNothing w old new kept status × HasNoRun told × (votes ≡ no_trace)) ⊎ HavePolled w old new polls o told votes kept s status
+      (AskedNothing w old new kept s status × HasNoRun told × (votes ≡ no_trace)) ⊎ HavePolled w old new polls o told votes kept s status
   polled polls o limits told votes media kept s status end same is h tells none =
       polled-so polls o told votes kept s status end
       (subst (λ k. TookNothing w old new (tellers_of told) k end ⊎ VotesOver w old new (limits_of o) polls (tellers_of told) k end) (sym is)

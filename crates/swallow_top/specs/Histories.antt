@@ -16,7 +16,7 @@ use Rattle.plan_volumes.specs.Shelves.{IsLeft, ShelfSight, first_names}
 use Rattle.plan_volumes.specs.Standings.{HasShut, WritesNothing}
 use Rattle.forward_copy.specs.Currents.{node_log}
 use Rattle.plan_volumes.specs.RunVolumes.{AreOpen, AreVolumes, logs_of}
-use Rattle.run_command.specs.Written.{Sinking, Ends}
+use Rattle.run_command.specs.Written.{Sinking, Ends, GotNothing, HasNoMemory}
 
 -- the repository of the object
 abbrev pub home_of : ObjectId → NodeId
@@ -33,16 +33,17 @@ module _ {M : Type 0} {g : _} (object : ObjectId) (openings : List (Opening M g)
   abbrev pub ShowsDown : List ℕ → Type 0
   ShowsDown text = (cause : DownCause) × HasShut openings cause × (text ≡ down_text (record { node = home_of object; cause = cause }))
 
-  -- The sink got the history, or the line of a repository that can't be opened; or a prefix of one of these where it failed; or memory ran out.
+  -- The sink got the history, or the line of a repository that can't be opened; or a prefix of one of these where it failed; or memory ran out, and it got nothing.
   abbrev pub TellsVolumes : ℕ → Sinking → Type 0
-  TellsVolumes status s = (status ≡ 7) ⊎ (((text : List ℕ) × ShowsHistory text × Ends status s 0 text) ⊎ ((text : List ℕ) × ShowsDown text × Ends status s 6 text))
+  TellsVolumes status s = HasNoMemory status s ⊎ (((text : List ℕ) × ShowsHistory text × Ends status s 0 text) ⊎ ((text : List ℕ) × ShowsDown text × Ends status s 6 text))
 
 -- ---- by the shelf
 
 module _ {M : Type 0} (w : Media M) (old new : ShelfSight) where
-  -- memory ran out before any medium was asked for
-  pub record AskedNothing (kept : List (Kept M)) (status : ℕ) : Type 0 where
+  -- memory ran out before any medium was asked for, and nothing was written
+  pub record AskedNothing (kept : List (Kept M)) (s : Sinking) (status : ℕ) : Type 0 where
     pub wanting : status ≡ 7
+    pub unwritten : GotNothing s
     pub none : kept ≡ []
     pub unasked : new.asked ≡ old.asked
     pub left : (name : MediumName) → IsLeft w.tells old new name

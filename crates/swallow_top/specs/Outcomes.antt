@@ -15,14 +15,14 @@ use Rattle.archive_promise.specs.Snapped.{IsLawfulSnapshot}
 use Rattle.archive_promise.specs.Watched.{CountsOver}
 use Rattle.archive_promise.specs.Watches.{StopsBefore, WatchesOver}
 use Rattle.replay_command.specs.Replayed.{ReplayOver}
-use Rattle.run_command.specs.Written.{Sinking, Ends, GotLine}
+use Rattle.run_command.specs.Written.{Sinking, Ends, GotLine, HasNoMemory}
 
 -- the status and the text that tell it
 abbrev pub TellsOutcome : Outcome → ℕ → Sinking → Type 0
 TellsOutcome (Told text) status s = Ends status s 0 text
 TellsOutcome (Refused line) status s = (status ≡ 8) × GotLine s line
 TellsOutcome (Fallen line) status s = Ends status s 6 line
-TellsOutcome NoMemory status s = status ≡ 7
+TellsOutcome NoMemory status s = HasNoMemory status s
 
 module _ {M : Type 0} (w : Media M) (old new : ShelfSight) where
   -- The repository's volumes were taken and opened, this came of the question, and so it was reported: over whatever past left them, lawfully. Nothing was written to the volumes, which are handed back.

@@ -24,7 +24,7 @@ use Rattle.archive_promise.specs.Question.TheVariants as question
 use Rattle.swallow_top.specs.Outcomes.{TellsAnswer, TellsReplay, TellsSnapshot, TellsWatch}
 use Rattle.swallow_top.specs.Retirements.{TellsRetirement, mark_at}
 use Rattle.swallow_top.specs.Votes.{AreNoPolls, HavePolled}
-use Rattle.run_command.specs.Written.{Sinking, GotLine}
+use Rattle.run_command.specs.Written.{Sinking, GotLine, GotNothing}
 use Rattle.settle_command.specs.Contract.{SettlesAll}
 use Rattle.votes_command.specs.Inputs.{IsInput}
 use Rattle.votes_command.specs.PollLine.{PollLine}
@@ -65,6 +65,10 @@ module _ {M : Type 0} (c : Call M) where
   abbrev pub HasNoWords : Type 0
   HasNoWords = TouchedNothing 1 × IsUnread × AreNone c.words × GotLine c.sink words_line
 
+  -- memory ran out before anything was done or written
+  abbrev pub RanOut : Type 0
+  RanOut = TouchedNothing 7 × GotNothing c.sink
+
   -- the source failed
   abbrev pub HasFailedSource : Type 0
   HasFailedSource = TouchedNothing 3 × Rose c.faults_before c.faults × GotLine c.sink source_line
@@ -104,8 +108,8 @@ module _ {M : Type 0} (c : Call M) where
   VotesAlone = (c.votes ≡ no_trace) ⊎ ((o : Options) × AreWords (Votes o) c.words)
 
   pub record Promise : Type 0 where
-    -- The words are no command; or memory ran out before anything was done; or the words are a command, and this was done.
-    pub done : HasNoWords ⊎ (TouchedNothing 7 ⊎ ((command : Command) × AreWords command c.words × WasDone command))
+    -- The words are no command; or memory ran out before anything was done or written; or the words are a command, and this was done.
+    pub done : HasNoWords ⊎ (RanOut ⊎ ((command : Command) × AreWords command c.words × WasDone command))
     -- Each medium that was taken is handed back.
     pub kept : AllKept c.shelf_before c.shelf c.media
     pub statuses : c.status ≤ 8

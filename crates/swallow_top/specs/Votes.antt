@@ -27,7 +27,7 @@ use Rattle.votes_command.specs.Votes.{AreSmooth, VotesOver}
 use Rattle.run_command.specs.declared.stops.Stop.{Stop}
 use Rattle.run_command.specs.declared.stops.Stop.TheVariants as stop
 use Rattle.swallow_top.specs.Inputs.{OfInput}
-use Rattle.run_command.specs.Written.{Sinking, EndsIfAny, GotLine}
+use Rattle.run_command.specs.Written.{Sinking, EndsIfAny, GotLine, HasNoMemory}
 
 -- ---- the input
 
@@ -70,7 +70,7 @@ votes_status t standings = status_with (all_held standings) (some_down t.entries
 -- how the polls stand is written, unless memory ran out, and this is the trace
 abbrev pub TellsVotes : VoteEnd → Trace → ℕ → Sinking → Type 0
 TellsVotes (Told t standings) votes status s = (votes ≡ t) × EndsIfAny status s (votes_status t standings) (told_text t standings)
-TellsVotes NoMemory votes status s = (votes ≡ no_trace) × (status ≡ 7)
+TellsVotes NoMemory votes status s = (votes ≡ no_trace) × HasNoMemory status s
 
 -- so few polls stand that each has a number
 abbrev pub AreFew : VoteEnd → Type 0

@@ -8,5 +8,5 @@ mod retirements;
 mod top;
 mod votes;
 
-pub use run_command::{Finish, Kept, Told, no_votes};
+pub use run_command::{Finish, Kept, Told, no_votes, takes_part, was_not_opened};
 pub use top::swallow;

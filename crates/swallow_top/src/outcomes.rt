@@ -45,7 +45,8 @@ pub fn tell_map<O: Sink, S: Shelf>(
     requires low { 1 ≤ clock }
     requires high { clock ≤ 2 ^ 40 - 1 }
     ensures { AskedNothing S.Medium.Medium (shelf_sight S.Shelf shelf.old)
-        (shelf_sight S.Shelf shelf.new) result.1.items result.0
+        (shelf_sight S.Shelf shelf.new) result.1.items
+        (sinking (O.taken sink.old) (O.taken sink.new) (O.faults sink.old) (O.faults sink.new)) result.0
         ⊎ TellsAnswer S.Medium.Medium (shelf_sight S.Shelf shelf.old) (shelf_sight S.Shelf shelf.new)
         (Question.AsOf repository (mark_at clock)) result.1.items
         (sinking (O.taken sink.old) (O.taken sink.new) (O.faults sink.old) (O.faults sink.new)) result.0 }
@@ -64,7 +65,8 @@ pub fn tell_audit<O: Sink, S: Shelf>(
     shelf: &mut S,
 ) -> (u8, Vec<Kept<S::Medium>>)
     ensures { AskedNothing S.Medium.Medium (shelf_sight S.Shelf shelf.old)
-        (shelf_sight S.Shelf shelf.new) result.1.items result.0
+        (shelf_sight S.Shelf shelf.new) result.1.items
+        (sinking (O.taken sink.old) (O.taken sink.new) (O.faults sink.old) (O.faults sink.new)) result.0
         ⊎ TellsAnswer S.Medium.Medium (shelf_sight S.Shelf shelf.old) (shelf_sight S.Shelf shelf.new)
         (Question.Audit object) result.1.items
         (sinking (O.taken sink.old) (O.taken sink.new) (O.faults sink.old) (O.faults sink.new)) result.0 }
@@ -83,7 +85,8 @@ pub fn tell_watch<O: Sink, S: Shelf>(
     shelf: &mut S,
 ) -> (u8, Vec<Kept<S::Medium>>)
     ensures { AskedNothing S.Medium.Medium (shelf_sight S.Shelf shelf.old)
-        (shelf_sight S.Shelf shelf.new) result.1.items result.0
+        (shelf_sight S.Shelf shelf.new) result.1.items
+        (sinking (O.taken sink.old) (O.taken sink.new) (O.faults sink.old) (O.faults sink.new)) result.0
         ⊎ TellsWatch S.Medium.Medium (shelf_sight S.Shelf shelf.old)
         (shelf_sight S.Shelf shelf.new) repository rule result.1.items
         (sinking (O.taken sink.old) (O.taken sink.new) (O.faults sink.old) (O.faults sink.new)) result.0 }
@@ -102,7 +105,8 @@ pub fn tell_snapshot<O: Sink, S: Shelf>(
 ) -> (u8, Vec<Kept<S::Medium>>)
     requires { IfSome clock (λ c. (1 ≤ c) × (c ≤ 1099511627775)) }
     ensures { AskedNothing S.Medium.Medium (shelf_sight S.Shelf shelf.old)
-        (shelf_sight S.Shelf shelf.new) result.1.items result.0
+        (shelf_sight S.Shelf shelf.new) result.1.items
+        (sinking (O.taken sink.old) (O.taken sink.new) (O.faults sink.old) (O.faults sink.new)) result.0
         ⊎ TellsSnapshot S.Medium.Medium (shelf_sight S.Shelf shelf.old)
         (shelf_sight S.Shelf shelf.new) clock result.1.items
         (sinking (O.taken sink.old) (O.taken sink.new) (O.faults sink.old) (O.faults sink.new)) result.0 }

@@ -56,7 +56,8 @@ pub fn tell_retirement<O: Sink, S: Shelf>(
     requires low { 1 ≤ clock }
     requires high { clock ≤ 2 ^ 40 - 1 }
     ensures { AskedNothing S.Medium.Medium (shelf_sight S.Shelf shelf.old)
-        (shelf_sight S.Shelf shelf.new) result.1.items result.0
+        (shelf_sight S.Shelf shelf.new) result.1.items
+        (sinking (O.taken sink.old) (O.taken sink.new) (O.faults sink.old) (O.faults sink.new)) result.0
         ⊎ TellsRetirement S.Medium.Medium (shelf_sight S.Shelf shelf.old)
         (shelf_sight S.Shelf shelf.new) repository clock result.1.items
         (sinking (O.taken sink.old) (O.taken sink.new) (O.faults sink.old) (O.faults sink.new)) result.0 }

@@ -68,7 +68,8 @@ fn tell_asked<O: Sink, S: Shelf>(
 ) -> (u8, Vec<Kept<S::Medium>>)
     requires { (words : List (List ℕ)) × AreWords command words }
     ensures { AskedNothing S.Medium.Medium (shelf_sight S.Shelf shelf.old)
-        (shelf_sight S.Shelf shelf.new) result.1.items result.0
+        (shelf_sight S.Shelf shelf.new) result.1.items
+        (sinking (O.taken sink.old) (O.taken sink.new) (O.faults sink.old) (O.faults sink.new)) result.0
         ⊎ TellsAsked S.Medium.Medium (shelf_sight S.Shelf shelf.old)
         (shelf_sight S.Shelf shelf.new) command result.1.items
         (sinking (O.taken sink.old) (O.taken sink.new) (O.faults sink.old) (O.faults sink.new)) result.0 }

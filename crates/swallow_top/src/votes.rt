@@ -91,7 +91,8 @@ pub fn tell_votes<O: Sink, S: Shelf, F: Fates, C: Clock>(
     requires few { length polls.now ≤ 16 }
     requires ticks { options.ticks ≤ 1000000 }
     ensures polled { (AskedNothing S.Medium.Medium (shelf_sight S.Shelf shelf.old)
-        (shelf_sight S.Shelf shelf.new) result.media result.status
+        (shelf_sight S.Shelf shelf.new) result.media
+        (sinking (O.taken sink.old) (O.taken sink.new) (O.faults sink.old) (O.faults sink.new)) result.status
         × HasNoRun (account_of result.trace (tellers (F.asked fates) (F.asked result.fates) (C.answers clock)
         (C.answers result.clock)))
         × (result.votes ≡ no_trace))

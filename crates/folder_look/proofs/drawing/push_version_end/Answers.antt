@@ -6,4 +6,5 @@ returns c =
     let r = c.push_parts.result in
     before r c.args.out.now.items c.push_state.new.out.items _ _ _ c.in_ok-push_state.ensures
     (before r c.push_state.new.out.items c.push_older.new.out.items _ _ _ c.in_ok-push_older.ensures
-    c.push_parts.ensures)
+    (before r c.push_older.new.out.items c.push_settled.new.out.items _ _ _ c.in_ok-push_settled.ensures
+    c.push_parts.ensures))

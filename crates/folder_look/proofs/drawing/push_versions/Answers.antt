@@ -1,7 +1,7 @@
 use Rattle.folder_look.proofs.Names.{◌∙◌, ◌++◌, ap, flat_map}
 use Rattle.folder_look.specs.Drawing.{version_text}
 use Rattle.folder_look.specs.Shown.{parts_of}
-use Rattle.folder_look.proofs.Appends.{before, slice}
+use Rattle.folder_look.proofs.Appends.{before}
 use Rattle.folder_look.proofs.drawing.push_versions.Goals as goal
 
 pub returns : goal.returns

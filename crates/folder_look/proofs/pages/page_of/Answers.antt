@@ -1,7 +1,7 @@
 use Rattle.folder_look.proofs.Names.{◌∙◌, ◌++◌, [], ap, ℕ, List, ObjectRow, objects_left}
 use Rattle.folder_look.specs.Objects.{rows_of}
 use Rattle.folder_look.specs.Page.{first_text, head_text, rest_text}
-use Rattle.folder_look.specs.Shown.{ShownParts, parts_of}
+use Rattle.folder_look.specs.Shown.{ShownParts}
 use Rattle.folder_look.specs.Sights.{shown_of}
 use Rattle.folder_look.proofs.Appends.{behind}
 use Rattle.folder_look.proofs.pages.page_of.Goals as goal

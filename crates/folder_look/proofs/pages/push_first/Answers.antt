@@ -1,7 +1,7 @@
 use Rattle.folder_look.proofs.Names.{◌∙◌, ◌++◌, ap}
 use Rattle.folder_look.specs.Shown.{parts_of}
 use Rattle.folder_look.specs.Values.{values_text}
-use Rattle.folder_look.proofs.Appends.{before, slice}
+use Rattle.folder_look.proofs.Appends.{before}
 use Rattle.folder_look.proofs.pages.push_first.Goals as goal
 
 pub returns : goal.returns

@@ -1,4 +1,4 @@
-use Rattle.folder_look.proofs.Appends.{before, slice}
+use Rattle.folder_look.proofs.Appends.{before}
 use Rattle.folder_look.proofs.pages.push_head.Goals as goal
 
 pub returns : goal.returns

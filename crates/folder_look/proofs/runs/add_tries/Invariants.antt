@@ -1,4 +1,4 @@
-use Rattle.folder_look.proofs.Names.{◌≡◌, ◌++◌, length}
+use Rattle.folder_look.proofs.Names.{◌≡◌, length}
 use Rattle.folder_look.specs.Runs.{with_tries}
 use Rattle.folder_look.proofs.runs.add_tries.Given as goal
 

@@ -1,4 +1,4 @@
-use Rattle.folder_look.proofs.Names.{◌≡◌, ◌++◌, length}
+use Rattle.folder_look.proofs.Names.{◌≡◌, length}
 use Rattle.folder_look.specs.Shown.{parts_of}
 use Rattle.folder_look.specs.Runs.{tries_from}
 use Rattle.folder_look.proofs.runs.count_tries.Given as goal

@@ -1,4 +1,4 @@
-use Rattle.folder_look.proofs.Appends.{before, slice}
+use Rattle.folder_look.proofs.Appends.{before}
 use Rattle.folder_look.proofs.runs.push_act_rows.Goals as goal
 
 pub returns : goal.returns

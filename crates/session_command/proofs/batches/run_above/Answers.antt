@@ -1,4 +1,4 @@
-use Rattle.std.proofs.Common.{rules, ◌≡◌, ◌∙◌, ap, subst, sym}
+use Rattle.std.proofs.Common.{rules, ◌≡◌, ◌∙◌, ap, refl, subst, sym}
 use Rattle.plan_volumes.specs.Shelves.{shelf_sight}
 use Rattle.run_command.specs.Takings.{AreHanded, AreTaken}
 use Rattle.run_command.specs.Written.{EndsIfAny, sinking}
@@ -17,7 +17,7 @@ returns-in_default g c =
     let r = c.quiet.result in
     above-nothing g.S.Medium.Medium (shelf_sight h c.args.shelf.now) (shelf_sight h c.take_volumes.new.shelf) c.args.draft c.args.options (sinking (k.taken c.args.sink.now) (k.taken c.args.sink.now) (k.faults c.args.sink.now) (k.faults c.args.sink.now)) r.status r.media
     (account_of r.trace (tellers (g.F.Fates.asked c.args.fates) (g.F.Fates.asked r.fates) (g.C.Clock.answers c.args.clock) (g.C.Clock.answers r.clock)))
-    c.quiet.ensures.status (c.quiet.ensures.media ∙ c.new.ensures.items) unasked
+    (c.quiet.ensures.status, (refl, refl)) (c.quiet.ensures.media ∙ c.new.ensures.items) unasked
     (record { trace = c.quiet.ensures.trace; fates = ap (λ f. g.F.Fates.asked f) c.quiet.ensures.told.0; clock = ap (λ f. g.C.Clock.answers f) c.quiet.ensures.told.1 })
 
 pub returns-then-not-has_room : goal.returns-then-not-has_room

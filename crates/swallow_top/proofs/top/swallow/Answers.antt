@@ -75,8 +75,8 @@ returns-in-Some g c =
     let s = sinking (k.taken c.args.sink.now) (k.taken c.tell_asked-status.new.sink) (k.faults c.args.sink.now) (k.faults c.tell_asked-status.new.sink) in
     let q = c.quiet-in-Some.ensures in
     let command = c.in-Some.command in
-    let media = subst (λ l. AskedNothing w old new l c.tell_asked-status.result.0 ⊎ TellsAsked w old new command l s c.tell_asked-status.result.0) (sym q.media) c.tell_asked-status.ensures in
-    let tells = subst (λ n. AskedNothing w old new c.quiet-in-Some.result.media n ⊎ TellsAsked w old new command c.quiet-in-Some.result.media s n) (sym q.status) media in
+    let media = subst (λ l. AskedNothing w old new l s c.tell_asked-status.result.0 ⊎ TellsAsked w old new command l s c.tell_asked-status.result.0) (sym q.media) c.tell_asked-status.ensures in
+    let tells = subst (λ n. AskedNothing w old new c.quiet-in-Some.result.media s n ⊎ TellsAsked w old new command c.quiet-in-Some.result.media s n) (sym q.status) media in
     record {
       promise = promise-asked _ command (refl, refl) c.in-Some.ensures.words tells
           (record { trace = q.trace; fates = ap g.F.Fates.asked q.told.0; clock = ap g.C.Clock.answers q.told.1 }) q.votes;
