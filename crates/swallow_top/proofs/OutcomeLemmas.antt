@@ -49,7 +49,7 @@ module _ {M : Type 0} (w : Media M) (old new : ShelfSight) (kept : List (Kept M)
   tells-snapshot clock r (inl none) told = inl (asked-nothing r none told)
   tells-snapshot clock r (inr over) told = inr (record { outcome = r; over = over; lawful = lawful-map clock over.volumes r over.came; told = told })
 
-  pub tells-replay : (values : Bool) (r : Outcome) → TookNothing w old new kept r ⊎ ReplayOver w old new values kept r → TellsOutcome r status s → AskedNothing w old new kept status ⊎ TellsReplay w old new values kept s status
+  pub tells-replay : (values : Bool) (r : Outcome) → TookNothing w old new kept r ⊎ ReplayOver w old new values kept r → TellsOutcome r status s → AskedNothing w old new kept s status ⊎ TellsReplay w old new values kept s status
   tells-replay values r (inl none) told = inl (asked-nothing r none told)
   tells-replay values r (inr over) told = inr (record { outcome = r; over = over; told = told })
 

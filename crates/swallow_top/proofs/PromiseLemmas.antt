@@ -184,7 +184,7 @@ module _ {M : Type 0} (c : Call M) where
     votes = inl votes;
   }
 
-  promise-replay : (values : Bool) → IsUnread c → AreWords (Replay values) c.words → AskedNothing c.media_are c.shelf_before c.shelf c.media c.status ⊎ TellsReplay c.media_are c.shelf_before c.shelf values c.media c.sink c.status →
+  promise-replay : (values : Bool) → IsUnread c → AreWords (Replay values) c.words → AskedNothing c.media_are c.shelf_before c.shelf c.media c.sink c.status ⊎ TellsReplay c.media_are c.shelf_before c.shelf values c.media c.sink c.status →
       HasNoRun c.told → c.votes ≡ no_trace → Promise c
   promise-replay values unread words (inl nothing) none votes = promise-unasked nothing none votes
   promise-replay values unread words (inr tells) none votes = record {

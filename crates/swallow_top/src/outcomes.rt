@@ -124,7 +124,8 @@ pub fn tell_replay<O: Sink, S: Shelf>(
     shelf: &mut S,
 ) -> (u8, Vec<Kept<S::Medium>>)
     ensures { AskedNothing S.Medium.Medium (shelf_sight S.Shelf shelf.old)
-        (shelf_sight S.Shelf shelf.new) result.1.items result.0
+        (shelf_sight S.Shelf shelf.new) result.1.items
+        (sinking (O.taken sink.old) (O.taken sink.new) (O.faults sink.old) (O.faults sink.new)) result.0
         ⊎ TellsReplay S.Medium.Medium (shelf_sight S.Shelf shelf.old)
         (shelf_sight S.Shelf shelf.new) values result.1.items
         (sinking (O.taken sink.old) (O.taken sink.new) (O.faults sink.old) (O.faults sink.new)) result.0 }
