@@ -78,10 +78,10 @@ module _ (node : ℕ → NodeId) where
 
 -- ---- on the way: of each node's logs this is read
 
-module _ {K : Type 0} (read : List (List Effect) → K) where
+module _ {K : Type 0} (what : List (List Effect) → K) where
   -- What was read of a node with these volumes; or what stopped it.
   abbrev pub Reads : {M : Type 0} {g : _} → NodeId → List (Opening M g) → Result K Outcome → Type 0
-  Reads n openings (Ok known) = AreOpen openings × (known ≡ read (logs_of openings))
+  Reads n openings (Ok known) = AreOpen openings × (known ≡ what (logs_of openings))
   Reads n openings (Err (Told text)) = ⊥
   Reads n openings (Err (Refused line)) = ⊥
   Reads n openings (Err (Fallen line)) = ShowsDown n openings line
@@ -107,7 +107,7 @@ module _ {K : Type 0} (read : List (List Effect) → K) where
 
     -- these were read
     abbrev pub IsRead : (ℕ → NodeId) → List (Volumes w) → List K → Type 0
-    IsRead node vs known = AllOpen node w vs × (known ≡ map read (all_logs vs))
+    IsRead node vs known = AllOpen node w vs × (known ≡ map what (all_logs vs))
 
     -- those of so many nodes; or what stopped it
     abbrev pub AreRead : (ℕ → NodeId) → ℕ → List (Volumes w) → Result (Vec K Global) Outcome → Type 0

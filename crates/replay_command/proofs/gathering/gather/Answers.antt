@@ -1,4 +1,5 @@
 use Rattle.std.proofs.Common.{◌+◌, [], length, arith, refl, sym, ap, subst, ◌∙◌}
+use Rattle.std.specs.Prelude.{Ok}
 use Rattle.snapshot_command.specs.Nodes.{Takes}
 use Rattle.snapshot_command.specs.Shelves.{shelf_sight}
 use Rattle.snapshot_command.proofs.NodeLemmas.{lacking, next-read, none-yet, stopped}
@@ -46,7 +47,7 @@ loop-place-preserved g c =
     let took = subst (λ r. Takes node_log w mid new c.node_at.result c.loop-place.kept.items c.take_node-read.result.1.items r) c.in-Ok.is c.take_node-read.ensures.took in
     record {
       volumes = next-read node_at nodes-differ node_log w old mid new c.loop-place.kept.items c.take_node-read.result.1.items c.loop-place.logs.items c.push.new.self.items c.loop-place.place (c.loop-place.place + 1) c.in-Ok.log now.volumes refl
-          (subst (λ n. Takes node_log w mid new n c.loop-place.kept.items c.take_node-read.result.1.items _) c.node_at.ensures took) c.in-Ok-push.ensures.items;
+          (subst (λ n. Takes node_log w mid new n c.loop-place.kept.items c.take_node-read.result.1.items (Ok c.in-Ok.log)) c.node_at.ensures took) c.in-Ok-push.ensures.items;
       few = omega (arith, few, now.few);
       room = omega (arith, room, now.room);
     }

@@ -1,4 +1,5 @@
 use Rattle.std.proofs.Common.{◌+◌, ℕ, [], length, arith, refl, sym, ap, subst}
+use Rattle.std.specs.Prelude.{Ok}
 use Rattle.pseudo_time.specs.Nodes.{repository as named}
 use Rattle.watch_command.specs.Archives.{joined_marks}
 use Rattle.watch_command.specs.Shelves.{shelf_sight}
@@ -51,7 +52,7 @@ loop-number-preserved g c =
     let took = subst (λ r. Takes joined_marks w mid new (named c.loop-number.number) c.loop-number.kept.items c.take_repository-read.result.1.items r) c.in-Ok.is c.take_repository-read.ensures.took in
     let more = next-read in_order in-order joined_marks w old mid new c.loop-number.kept.items c.take_repository-read.result.1.items c.loop-number.known.items c.push.new.self.items (length vs) (length vs + 1) c.in-Ok.archive
     (vs, refl, now.volumes.2, now.volumes.3) refl
-    (subst (λ (n : ℕ). Takes joined_marks w mid new (named n) c.loop-number.kept.items c.take_repository-read.result.1.items _) (sym at) took) c.in-Ok-push.ensures.items in
+    (subst (λ (n : ℕ). Takes joined_marks w mid new (named n) c.loop-number.kept.items c.take_repository-read.result.1.items (Ok c.in-Ok.archive)) (sym at) took) c.in-Ok-push.ensures.items in
     let next = more.1 in
     record {
       volumes = (more.0, omega (arith, next, at), more.2, more.3);
