@@ -12,7 +12,7 @@ use Rattle.log_replay.specs.Folders.{ReadsLogs, run_in}
 use Rattle.log_replay.specs.Unfit.{IsFault, IsUnfitLog}
 use Rattle.log_replay.specs.Untold.{Tells}
 use Rattle.log_replay.specs.declared.faults.ToldFault.TheVariants.{Log}
-use Rattle.replay_command.specs.Verdicts.{IsJudged, IsVerdict, Judges}
+use Rattle.replay_command.specs.Verdicts.{IsJudged, IsVerdict, Judges, other_of}
 use Rattle.replay_command.specs.declared.judging.Found.{Found}
 use Rattle.replay_command.specs.declared.judging.Verdict.{Verdict}
 use Rattle.replay_command.specs.declared.judging.Verdict.TheVariants as verdict
@@ -31,7 +31,7 @@ module _ (repositories brokers : List (List Effect)) (told : List Told) (untried
   pub judged-of : (v : Verdict) → IsJudged told untried misdecided v → Judges repositories brokers v
   judged-of (verdict.Replayed list map) j = record { told = told; untried = untried; misdecided = misdecided; tells = tells; decided = decided; judged = j }
   judged-of (verdict.Differs found) j = record { told = told; untried = untried; misdecided = misdecided; tells = tells; decided = decided; judged = j }
-  judged-of (verdict.Log n) j = absurd (no-log told j.replayed _ n j.is)
+  judged-of (verdict.Log n) j = absurd (no-log told j.replayed (other_of misdecided untried) n j.is)
 
 pub unfit-of : (brokers : List (List Effect)) (n : ℕ) → IsFault brokers (Log n) → IsUnfitLog brokers n
 unfit-of brokers n (inl e) = absurd (cc e)

@@ -2,4 +2,4 @@ pub mod CountLemmas
 pub mod JudgeLemmas
 pub mod LogLemmas
 pub mod NodeLemmas
-pub mod ShownLemmas
+pub mod TextLemmas

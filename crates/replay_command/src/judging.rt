@@ -77,12 +77,13 @@ fn found_at(stamp: Option<Stamp>, kind: Kind) -> Option<Found>
 }
 
 // The one with the lesser stamp, and of equal ones the first.
+#[tactic(auto, unfolding(pseudo_time::specs::Order::stamp_lt))]
 fn lesser(one: Found, other: Option<Found>) -> Found
     ensures { result ≡ spec.lesser one other }
 {
     match other {
-        Some(other) if other.stamp < one.stamp => other,
-        _ => one,
+        Some(found) => { if found.stamp < one.stamp { found } else { one } }
+        None => one,
     }
 }
 

@@ -22,17 +22,29 @@ use value_form::{Bytes, ObjectId, Value};
 
 // ---- nodes
 
-// Appends the line of a node.
-fn push_line(alloc: Global, out: &mut Vec<u8>, node: NodeId, volumes: u32) -> Result<(), AllocError>
-    ensures { OnOk result (out.new.items ≡ out.old.items ++ lines.line_of node volumes) }
+// Appends what the line of a node says.
+fn push_front(
+    alloc: Global,
+    out: &mut Vec<u8>,
+    node: NodeId,
+    volumes: u32,
+) -> Result<(), AllocError>
+    ensures { OnOk result (out.new.items ≡ out.old.items ++ lines.front_of node.kind node.number volumes) }
 {
     match node.kind {
         NodeKind::Repository => {
             push_named(alloc, out, b"node repository ", node.number as u64)?;
-            push_named(alloc, out, b" volumes ", volumes as u64)?;
+            push_named(alloc, out, b" volumes ", volumes as u64)
         }
-        NodeKind::Broker => push_named(alloc, out, b"node broker ", node.number as u64)?,
+        NodeKind::Broker => push_named(alloc, out, b"node broker ", node.number as u64),
     }
+}
+
+// Appends the line of a node.
+fn push_line(alloc: Global, out: &mut Vec<u8>, node: NodeId, volumes: u32) -> Result<(), AllocError>
+    ensures { OnOk result (out.new.items ≡ out.old.items ++ lines.line_of node volumes) }
+{
+    push_front(alloc, out, node, volumes)?;
     out.push(b'\n')?;
     Ok(())
 }
