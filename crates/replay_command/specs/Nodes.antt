@@ -1,5 +1,5 @@
 -- The nodes of a folder, and what is read of each: repositories 1 to 16, then brokers 1 to 16.
-use Rattle.std.specs.Prelude.{◌≡◌, ℕ, suc, ◌-◌, List, [], ◌∷◌, length, map, reverse, nat_lt, if◌then◌else◌, Result, Vec}
+use Rattle.std.specs.Prelude.{ℕ, suc, ◌-◌, List, length, map, nat_lt, if◌then◌else◌, Result, Vec}
 use Rattle.std.specs.declared.alloc.Global.{Global}
 use Rattle.pseudo_time.specs.Nodes.{broker, repository}
 use Rattle.pseudo_time.specs.declared.nodes.NodeId.{NodeId}

@@ -1,4 +1,4 @@
-use Rattle.std.specs.Prelude.{◌≡◌, ◌≤◌, ◌+◌, ◌*◌, List, length, vec_len, vec_capacity}
+use Rattle.std.specs.Prelude.{◌≡◌, ◌≤◌, ◌*◌, List, length, vec_len, vec_capacity}
 use Rattle.snapshot_command.specs.Nodes.{AreNodes, IsRead, Volumes}
 use Rattle.snapshot_command.specs.Shelves.{shelf_sight}
 use Rattle.replay_command.specs.Nodes.{node_at, node_log}

@@ -1,4 +1,4 @@
-use Rattle.std.proofs.Common.{inr, take, drop, ap, sym, subst, ◌∙◌}
+use Rattle.std.proofs.Common.{inr, drop, ap, sym, subst, ◌∙◌}
 use Rattle.std.specs.Global.{Vec}
 use Rattle.std.specs.List.{drop-map, take-map}
 use Rattle.effect_form.specs.declared.effects.Effect.{Effect}
