@@ -573,17 +573,22 @@ def judge(folder, page, wanted=ALL):
     return None
 
 
+def main():
+    if CASES:
+        text = open(sys.argv[2], encoding="latin-1").read()
+        parts = re.split(r"^folder (\w+)\n", text, flags=re.M)[1:]
+        heads = [judge(f"{sys.argv[3]}/{parts[i]}", parts[i + 1]) for i in range(0, len(parts), 2)]
+    elif len(sys.argv) >= 3:
+        given = dict(ALL)
+        for word, value in zip(sys.argv[3::2], sys.argv[4::2]):
+            given[word[2:]] = tuple(map(int, value.split("."))) if word == "--object" else int(value)
+        heads = [judge(sys.argv[1], open(sys.argv[2], encoding="latin-1").read(), given)]
+    else:
+        sys.exit(__doc__)
+    print(f"{sum(h is not None for h in heads)} pages of {len(heads)} are right")
+    sys.exit(None in heads or len(set(heads)) != 1)
+
+
 CASES = len(sys.argv) == 4 and sys.argv[1] == "--cases"
-if CASES:
-    text = open(sys.argv[2], encoding="latin-1").read()
-    parts = re.split(r"^folder (\w+)\n", text, flags=re.M)[1:]
-    heads = [judge(f"{sys.argv[3]}/{parts[i]}", parts[i + 1]) for i in range(0, len(parts), 2)]
-elif len(sys.argv) >= 3:
-    given = dict(ALL)
-    for word, value in zip(sys.argv[3::2], sys.argv[4::2]):
-        given[word[2:]] = tuple(map(int, value.split("."))) if word == "--object" else int(value)
-    heads = [judge(sys.argv[1], open(sys.argv[2], encoding="latin-1").read(), given)]
-else:
-    sys.exit(__doc__)
-print(f"{sum(h is not None for h in heads)} pages of {len(heads)} are right")
-sys.exit(None in heads or len(set(heads)) != 1)
+if __name__ == "__main__":
+    main()

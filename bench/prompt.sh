@@ -62,6 +62,7 @@ if command -v script > /dev/null; then
   check terminal './swallow fresh session < examples/sessions/first.session' 2 'swallow> ' not
   check terminal './swallow five run --messages 3 < examples/first.plan' 5 'run the same again'
   check terminal './swallow five run < examples/first.plan' 0 'committed 1'
+  check terminal './swallow five replay twice' 1 './swallow FOLDER replay [--values]'
   check terminal './swallow five settle' 1 './swallow FOLDER settle N'
   check terminal 'sed "s/timeout 1 /timeout 1000 /" examples/settle/two.plan | ./swallow doubt run --messages 17; ./swallow doubt settle 2' 5 "each line 'open' says"
   check terminal './swallow doubt settle 2' 5 'run the same again' not

@@ -10,6 +10,7 @@ help_swallow_main() {
 ./swallow FOLDER audit OBJECT               writes all versions that an object ever had
 ./swallow FOLDER snapshot [CLOCK]           writes the map of all repositories as of a clock, or as of now
 ./swallow FOLDER settle N                   settles what runs left in doubt in repositories 1 to N
+./swallow FOLDER replay [--values]          carries all attempts out again, and writes whether the logs say the same
 ./swallow FOLDER votes [OPTIONS] < POLLS    lets repositories 1 to 3 vote, and writes the state of each poll
 ./swallow FOLDER load SEED COUNT [OPTIONS]  runs COUNT + 1 acts made from SEED, and writes a summary
 ./swallow build                             proves and builds the program here, and compares it with release/
@@ -24,8 +25,8 @@ help_swallow_main() {
 Status 0: each act has its outcome, each poll a decision. 1: no command. 2: no plan, no polls, or a run
 that the folder refuses. 3: standard input failed. 4: standard output failed. 5: an act has no outcome,
 a poll no decision, or a settle left a version in doubt. 6: a node is down (for votes: and a poll has no
-decision). 7: out of memory. 8: no retirement, total or map can be made. 70: the program couldn't be
-built or started, or 'retire' needs '--yes'.
+decision). 7: out of memory. 8: no retirement, total or map can be made, or the logs don't
+replay. 70: the program couldn't be built or started, or 'retire' needs '--yes'.
 
 docs/COMMANDS.md has examples and says what to do; docs/FORMATS.md has the texts of plans and reports.
 TEXT

@@ -259,6 +259,7 @@ start_before_a_reader() {
     ;;
   "8 retire") say "'undecided': 'settle' the repositories, or take a clock that isn't above the attempt's. 'old mark': take a greater clock. 'last volume': this repository can't be retired any more" ;;
   "8 asof" | "8 snapshot") say "'undecided': 'settle' the repositories, or take a clock that isn't above the attempt's. 'last clock': give a clock" ;;
+  "8 replay") say "a file was damaged, lost or put in from elsewhere: docs/OPERATIONS.md, 'What replay finds', says what to do" ;;
   "8 watch") say "'overflow': the sum isn't a number of 64 bits. Other rules still work" ;;
   8\ *) say "docs/COMMANDS.md says for each line what to do" ;;
   126\ *) return ;;

@@ -1,6 +1,6 @@
 # Says which word of a faulty command line is wrong, and what was expected there. The program decides which words are a command;
 # this is read only by people. What it says of words that are a command is nothing.
-commands="run load session history retire watch asof audit snapshot settle votes"
+commands="run load session history retire watch asof audit snapshot settle replay votes"
 
 # The word of the list $2 that is nearest to $1, if one is near.
 nearest() {
@@ -43,6 +43,7 @@ is_of() {
   count) expected="how many repositories, 1 to 16"; is_number "$2" 1 16 ;;
   clock) expected="a clock, 1 to 1099511627775"; is_number "$2" 1 1099511627775 ;;
   rule) expected="a rule: count, sum or last"; [[ "$2" =~ ^(count|sum|last)$ ]] ;;
+  values) expected="'--values', or nothing"; [ "$2" = --values ] ;;
   number) expected="a number"; [[ "$2" =~ ^(0|[1-9][0-9]*)$ ]] ;;
   --workers) expected="a number of threads, 1 to 16"; is_number "$2" 1 16 ;;
   --ticks) expected="a number of Ticks, 0 to 1000000"; is_number "$2" 0 1000000 ;;
@@ -113,6 +114,7 @@ words_fault() {
   watch) kinds_fault watch "repository rule" "$@" ;;
   snapshot) kinds_fault snapshot "?clock" "$@" ;;
   settle) kinds_fault settle count "$@" ;;
+  replay) kinds_fault replay "?values" "$@" ;;
   *)
     if [[ " $commands " == *" $folder "* ]]; then
       fault="the folder comes first: ./swallow FOLDER $folder $command"

@@ -45,7 +45,7 @@ pub fn stops_each<R: Threads + Wait + Sync>(
 // Whether texts of the command have no line of the wire.
 fn has_no_wire(verb: &str) -> bool {
     match verb {
-        "retire" | "watch" | "asof" | "audit" | "snapshot" | "settle" => true,
+        "retire" | "watch" | "asof" | "audit" | "snapshot" | "settle" | "replay" => true,
         _ => false,
     }
 }

@@ -8,7 +8,7 @@ use Rattle.std.proofs.Math.Seq.{take-append_seam, take-length}
 use Rattle.std.proofs.lemmas.Bool.Decides.{Decides-eqb}
 use Rattle.std.proofs.lemmas.Fmt.{decimal-digits_value, decimal_digit, decimal_is_IsNumeral, first_decimal, parse-decimal}
 use Rattle.std.proofs.lemmas.Str.Parse.{digit_from_value, numerals_by_value, tells_digits}
-use Rattle.command_words.specs.declared.commands.Command.TheVariants.{Run, Load, History, Retire, Votes, Watch, AsOf, Audit, Snapshot, Settle}
+use Rattle.command_words.specs.declared.commands.Command.TheVariants.{Run, Load, History, Retire, Votes, Watch, AsOf, Audit, Snapshot, Settle, Replay}
 
 -- ---- what is written of a number
 
@@ -119,6 +119,9 @@ run-not-snapshot e = absurd (cc)
 run-not-settle : codes "run" ≡ codes "settle" → ⊥
 run-not-settle e = absurd (cc)
 
+run-not-replay : codes "run" ≡ codes "replay" → ⊥
+run-not-replay e = absurd (cc)
+
 run-not-votes : codes "run" ≡ codes "votes" → ⊥
 run-not-votes e = absurd (cc)
 
@@ -146,6 +149,9 @@ audit-not-votes e = other-first 97 118 (codes "udit") (codes "otes") (λ k. omeg
 
 snapshot-not-votes : codes "snapshot" ≡ codes "votes" → ⊥
 snapshot-not-votes e = other-first 115 118 (codes "napshot") (codes "otes") (λ k. omega (arith, k)) e
+
+replay-not-votes : codes "replay" ≡ codes "votes" → ⊥
+replay-not-votes e = other-first 114 118 (codes "eplay") (codes "otes") (λ k. omega (arith, k)) e
 
 settle-not-votes : codes "settle" ≡ codes "votes" → ⊥
 settle-not-votes e = other-first 115 118 (codes "ettle") (codes "otes") (λ k. omega (arith, k)) e
@@ -304,6 +310,14 @@ run-alone (a ∷ ws) h first bad (Settle repositories) is = let are = is.are in 
   where
     front : {x : List ℕ} {more : List (List ℕ)} → a.now ∷ said ws ≡ x ∷ more → a.now ≡ x
     front e = cc
+run-alone (a ∷ ws) h first bad (Replay false) is = run-not-replay (sym first ∙ front is)
+  where
+    front : {x : List ℕ} {more : List (List ℕ)} → a.now ∷ said ws ≡ x ∷ more → a.now ≡ x
+    front e = cc
+run-alone (a ∷ ws) h first bad (Replay true) is = run-not-replay (sym first ∙ front is)
+  where
+    front : {x : List ℕ} {more : List (List ℕ)} → a.now ∷ said ws ≡ x ∷ more → a.now ≡ x
+    front e = cc
 
 pub votes-alone : (ws : Words) → 1 ≤ length ws → word-at ws 0 ≡ codes "votes" → ((o : Options) → AreVoteOptions o (said (behind-one ws)) → ⊥) → AreNone (said ws)
 votes-alone [] h first bad c is = absurd (omega (arith, h))
@@ -344,6 +358,14 @@ votes-alone (a ∷ ws) h first bad (Snapshot (Some clock)) (word, are, is) = sna
     front : {x : List ℕ} {more : List (List ℕ)} → a.now ∷ said ws ≡ x ∷ more → a.now ≡ x
     front e = cc
 votes-alone (a ∷ ws) h first bad (Settle repositories) is = let are = is.are in settle-not-votes (sym (front are) ∙ first)
+  where
+    front : {x : List ℕ} {more : List (List ℕ)} → a.now ∷ said ws ≡ x ∷ more → a.now ≡ x
+    front e = cc
+votes-alone (a ∷ ws) h first bad (Replay false) is = replay-not-votes (sym (front is) ∙ first)
+  where
+    front : {x : List ℕ} {more : List (List ℕ)} → a.now ∷ said ws ≡ x ∷ more → a.now ≡ x
+    front e = cc
+votes-alone (a ∷ ws) h first bad (Replay true) is = replay-not-votes (sym (front is) ∙ first)
   where
     front : {x : List ℕ} {more : List (List ℕ)} → a.now ∷ said ws ≡ x ∷ more → a.now ≡ x
     front e = cc

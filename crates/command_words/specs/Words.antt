@@ -1,5 +1,5 @@
 -- The words of the top call.
-use Rattle.std.specs.Prelude.{◌≡◌, ◌≢◌, ◌⊎◌, ℕ, ◌≤◌, ◌-◌, ◌^◌, List, [], ◌∷◌, codes, get_or, length, map, Option, Some, None}
+use Rattle.std.specs.Prelude.{◌≡◌, ◌≢◌, ◌⊎◌, ℕ, Bool, true, false, ◌≤◌, ◌-◌, ◌^◌, List, [], ◌∷◌, codes, get_or, length, map, Option, Some, None}
 use Rattle.std.specs.Borrow.{Bor}
 use Rattle.std.specs.Fmt.{decimal}
 use Rattle.std.specs.Option.{unwrap_or}
@@ -9,7 +9,7 @@ use Rattle.command_words.specs.declared.commands.Options.{Options}
 use Rattle.command_words.specs.declared.rules.Rule.{Rule}
 use Rattle.command_words.specs.declared.rules.Rule.TheVariants.{Count, Sum, Last}
 use Rattle.command_words.specs.declared.commands.Command.{Command}
-use Rattle.command_words.specs.declared.commands.Command.TheVariants.{Run, Load, History, Retire, Votes, Watch, AsOf, Audit, Snapshot, Settle}
+use Rattle.command_words.specs.declared.commands.Command.TheVariants.{Run, Load, History, Retire, Votes, Watch, AsOf, Audit, Snapshot, Settle, Replay}
 use Rattle.command_words.specs.declared.options.Given.{Given}
 
 -- ---- numbers
@@ -119,6 +119,11 @@ pub record IsSettle (repositories : ℕ) (words : List (List ℕ)) : Type 0 wher
   pub are : words ≡ codes "settle" ∷ word ∷ []
   pub number_is : IsNumber 1 16 repositories word
 
+-- this word, and behind it another one if the values are asked for
+abbrev pub IsReplay : Bool → List (List ℕ) → Type 0
+IsReplay false words = words ≡ codes "replay" ∷ []
+IsReplay true words = words ≡ codes "replay" ∷ codes "--values" ∷ []
+
 -- the words are this command
 abbrev pub AreWords : Command → List (List ℕ) → Type 0
 AreWords (Run o) words = (more : List (List ℕ)) × (words ≡ codes "run" ∷ more) × AreOptions o more
@@ -131,6 +136,7 @@ AreWords (AsOf repository clock) words = IsAsOf repository clock words
 AreWords (Audit object) words = IsAudit object words
 AreWords (Snapshot clock) words = IsSnapshot clock words
 AreWords (Settle repositories) words = IsSettle repositories words
+AreWords (Replay values) words = IsReplay values words
 
 -- what the words of a call are
 abbrev pub said : List (Bor (List ℕ)) → List (List ℕ)

@@ -1,8 +1,8 @@
 //! The commands.
-ghost use Rattle.std.specs.Prelude.{◌≡◌, ◌∷◌, ℕ, codes, Option, None, IfSome, MatchOption};
+ghost use Rattle.std.specs.Prelude.{◌≡◌, ◌∷◌, ℕ, Bool, codes, Option, None, IfSome, MatchOption};
 ghost use Rattle.value_form.specs.declared.objects.ObjectId.{ObjectId};
 ghost use Rattle.command_words.specs.declared.rules.Rule.{Rule};
-ghost use Rattle.command_words.specs.Words.{AreWords, AreNone, IsLoad, IsHistory, IsRetire, IsWatch, IsAsOf, IsAudit, IsSnapshot, IsSettle, said};
+ghost use Rattle.command_words.specs.Words.{AreWords, AreNone, IsLoad, IsHistory, IsRetire, IsWatch, IsAsOf, IsAudit, IsSnapshot, IsSettle, IsReplay, said};
 
 use crate::numbers::{number, object};
 use crate::options::{options, vote_options};
@@ -66,6 +66,11 @@ pub enum Command {
     Settle {
         /// 1 to 16.
         repositories: u8,
+    },
+    /// Carry all attempts of the folder out again, and tell whether the logs say the same.
+    Replay {
+        /// Whether the values that they leave are told.
+        values: bool,
     },
 }
 
@@ -179,9 +184,24 @@ fn settle(words: &[&str]) -> Option<Command>
     })
 }
 
+// A replay: whether its values are asked for.
+fn replay(words: &[&str]) -> Option<Command>
+    ensures { MatchOption result ((values : Bool) → IsReplay values (codes "replay" ∷ said words.now) → ⊥)
+        (λ c. AreWords c (codes "replay" ∷ said words.now)) }
+{
+    match words {
+        [] => Some(Command::Replay { values: false }),
+        [word] => match *word {
+            "--values" => Some(Command::Replay { values: true }),
+            _ => None,
+        },
+        _ => None,
+    }
+}
+
 /// The command that the words are: `run OPTIONS`, `load SEED COUNT OPTIONS`, `history R.N`,
 /// `retire R CLOCK`, `votes OPTIONS`, `watch R RULE`, `asof R CLOCK`, `audit R.N`, `snapshot CLOCK`,
-/// `snapshot` or `settle N`. OPTIONS are any of `--workers W` (1 unless given; not of votes), `--ticks T` (10,000) and
+/// `snapshot`, `settle N`, `replay` or `replay --values`. OPTIONS are any of `--workers W` (1 unless given; not of votes), `--ticks T` (10,000) and
 /// `--messages N` (200,000), in any order, each at most once, name and number as two words. RULE is `count`,
 /// `sum` or `last`. Numbers are decimal digits without a sign or a zero in front. None where they are no
 /// command.
@@ -203,6 +223,7 @@ pub fn read_words(words: &[&str]) -> Option<Command>
         "audit" => audit(more),
         "snapshot" => snapshot(more),
         "settle" => settle(more),
+        "replay" => replay(more),
         _ => None,
     }
 }

@@ -1,4 +1,16 @@
 pub mod AttemptLemmas
+pub mod CommitLemmas
+pub mod DecisionLemmas
+pub mod DraftLemmas
+pub mod GiftLemmas
+pub mod ItemLemmas
+pub mod JoinLemmas
+pub mod ListLemmas
+pub mod PutLemmas
+pub mod RunLemmas
 pub mod StampLemmas
+pub mod TellLemmas
 pub mod ToldLemmas
+pub mod UnfitLemmas
 pub mod WorkedFolder
+pub mod WrittenLemmas

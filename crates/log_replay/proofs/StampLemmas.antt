@@ -12,10 +12,10 @@ use Rattle.object_history.specs.declared.marks.Mark.TheVariants as mark
 use Rattle.repository_core.specs.Logs.{marks}
 use Rattle.world_core.specs.Deeds.{RunLogs, Try, deed_stamps, find, log_of}
 unfoldable use Rattle.world_core.specs.Deeds.{log_stamps, put_stamps, stamp_if, stamp_in, try_stamps}
-use Rattle.serial_law.proofs.Names.{same_stamp-is, same_stamp-of}
-use Rattle.serial_law.proofs.LogLemmas.{in-both, in-high, in-low, le-cases, marks-put, put-marks}
+use Rattle.serial_law.proofs.Names.{same_stamp-of}
+use Rattle.serial_law.proofs.LogLemmas.{in-both, in-high, in-low, marks-put, put-marks}
 use Rattle.serial_law.proofs.Puts.{PutAt}
-use Rattle.serial_law.proofs.Stamps.{InS, Rising}
+use Rattle.serial_law.proofs.Stamps.{InS, Rising, here-logs, in-stamp, keep-puts, new-if, old-if}
 use Rattle.serial_law.proofs.Times.{stamp_lt-self, stamp_lt-trans}
 use Rattle.log_replay.specs.Tells.{HasPut}
 
@@ -48,55 +48,10 @@ rising-same (x ∷ xs) (y ∷ ys) h k to back =
 
 -- ---- one stamp more
 
-choose-in : (b c : Bool) (s t : StampParts) (ts us : List StampParts) (x : StampParts) → InS (if b then t ∷ ts else (if c then s ∷ t ∷ ts else t ∷ us)) x →
-    (InS us x → (x ≡ s) ⊎ InS ts x) → (x ≡ s) ⊎ InS (t ∷ ts) x
-choose-in true c s t ts us x j h = inr j
-choose-in false true s t ts us x (inl e) h = inl e
-choose-in false true s t ts us x (inr j) h = inr j
-choose-in false false s t ts us x (inl e) h = inr (inl e)
-choose-in false false s t ts us x (inr j) h = elim (h j) [ inl e ↦ inl e | inr i ↦ inr (inr i) ]
-
-in-stamp : (s : StampParts) (ts : List StampParts) (x : StampParts) → InS (stamp_in s ts) x → (x ≡ s) ⊎ InS ts x
-unfolding stamp_in
-in-stamp s [] x (inl e) = inl e
-in-stamp s [] x (inr j) = absurd j
-in-stamp s (t ∷ ts) x j = choose-in (same_stamp s t) (stamp_lt s t) s t ts (stamp_in s ts) x j (in-stamp s ts x)
-
-choose-new : (b c : Bool) (s t : StampParts) (ts us : List StampParts) → (b ≡ true → s ≡ t) → InS us s → InS (if b then t ∷ ts else (if c then s ∷ t ∷ ts else t ∷ us)) s
-choose-new true c s t ts us e h = inl (e refl)
-choose-new false true s t ts us e h = inl refl
-choose-new false false s t ts us e h = inr h
-
-stamp-new : (s : StampParts) (ts : List StampParts) → InS (stamp_in s ts) s
-unfolding stamp_in
-stamp-new s [] = inl refl
-stamp-new s (t ∷ ts) = choose-new (same_stamp s t) (stamp_lt s t) s t ts (stamp_in s ts) (same_stamp-is s t) (stamp-new s ts)
-
-choose-old : (b c : Bool) (s t : StampParts) (ts us : List StampParts) (x : StampParts) → InS (t ∷ ts) x → (InS ts x → InS us x) → InS (if b then t ∷ ts else (if c then s ∷ t ∷ ts else t ∷ us)) x
-choose-old true c s t ts us x j h = j
-choose-old false true s t ts us x j h = inr j
-choose-old false false s t ts us x (inl e) h = inl e
-choose-old false false s t ts us x (inr j) h = inr (h j)
-
-stamp-old : (s : StampParts) (ts : List StampParts) (x : StampParts) → InS ts x → InS (stamp_in s ts) x
-unfolding stamp_in
-stamp-old s [] x j = absurd j
-stamp-old s (t ∷ ts) x j = choose-old (same_stamp s t) (stamp_lt s t) s t ts (stamp_in s ts) x j (stamp-old s ts x)
-
 if-in : (b : Bool) (s : StampParts) (ss : List StampParts) (x : StampParts) → InS (stamp_if b s ss) x → (x ≡ s) ⊎ InS ss x
 unfolding stamp_if
 if-in true s ss x j = in-stamp s ss x j
 if-in false s ss x j = inr j
-
-if-new : (b : Bool) (s : StampParts) (ss : List StampParts) → b ≡ true → InS (stamp_if b s ss) s
-unfolding stamp_if
-if-new true s ss e = stamp-new s ss
-if-new false s ss e = absurd (false≢true e)
-
-if-old : (b : Bool) (s : StampParts) (ss : List StampParts) (x : StampParts) → InS ss x → InS (stamp_if b s ss) x
-unfolding stamp_if
-if-old true s ss x j = stamp-old s ss x j
-if-old false s ss x j = j
 
 -- ---- whose they are
 
@@ -141,35 +96,6 @@ whose k ok s j = elim (logs-in k ok k.repositories (try_stamps ok k.tries) s (om
 
 -- ---- what is listed
 
-keep-puts : (ok : StampParts → Bool) (m : List Mark) (ss : List StampParts) (s : StampParts) → InS ss s → InS (put_stamps ok m ss) s
-unfolding put_stamps
-keep-puts ok [] ss s j = j
-keep-puts ok (mark.Put o x v ∷ m) ss s j = if-old (ok x.stamp) x.stamp (put_stamps ok m ss) s (keep-puts ok m ss s j)
-keep-puts ok (mark.Stretch o x ∷ m) ss s j = keep-puts ok m ss s j
-keep-puts ok (mark.Settle t c ∷ m) ss s j = keep-puts ok m ss s j
-keep-puts ok (mark.Floor z ∷ m) ss s j = keep-puts ok m ss s j
-
-here-puts : (ok : StampParts → Bool) (m : List Mark) (ss : List StampParts) (o : ObjectId) (x : TimeParts) (v : Value) → PutAt o x v m → ok x.stamp ≡ true → InS (put_stamps ok m ss) x.stamp
-unfolding put_stamps
-here-puts ok [] ss o x v h e = absurd h
-here-puts ok (mark.Put a y w ∷ m) ss o x v (inl h) e =
-    subst (λ z. InS (stamp_if (ok y.stamp) y.stamp (put_stamps ok m ss)) z) (ap (λ z. z.stamp) h.1)
-    (if-new (ok y.stamp) y.stamp (put_stamps ok m ss) (ap (λ z. ok z.stamp) h.1 ∙ e))
-here-puts ok (mark.Put a y w ∷ m) ss o x v (inr h) e = if-old (ok y.stamp) y.stamp (put_stamps ok m ss) x.stamp (here-puts ok m ss o x v h e)
-here-puts ok (mark.Stretch a y ∷ m) ss o x v h e = here-puts ok m ss o x v h e
-here-puts ok (mark.Settle t c ∷ m) ss o x v h e = here-puts ok m ss o x v h e
-here-puts ok (mark.Floor z ∷ m) ss o x v h e = here-puts ok m ss o x v h e
-
-here-logs : (k : RunLogs) (ok : StampParts → Bool) (n r : ℕ) (ss : List StampParts) (o : ObjectId) (x : TimeParts) (v : Value) → 1 ≤ r → r ≤ n →
-    PutAt o x v (marks (log_of k r)) → ok x.stamp ≡ true → InS (log_stamps k ok n ss) x.stamp
-unfolding log_stamps
-here-logs k ok zero r ss o x v h j p e = absurd (omega (arith, h, j))
-here-logs k ok (suc n) r ss o x v h j p e =
-    elim (le-cases r n j) [
-      | inl q ↦ here-puts ok (marks (log_of k (suc n))) (log_stamps k ok n ss) o x v (subst (λ z. PutAt o x v (marks (log_of k z))) q p) e
-      | inr q ↦ keep-puts ok (marks (log_of k (suc n))) (log_stamps k ok n ss) x.stamp (here-logs k ok n r ss o x v h q p e)
-    ]
-
 pub put-listed : (k : RunLogs) (ok : StampParts → Bool) (s : StampParts) → HasPut k s → ok s ≡ true → InS (deed_stamps k ok) s
 put-listed k ok s p e =
     subst (InS (deed_stamps k ok)) p.same (here-logs k ok k.repositories p.repository (try_stamps ok k.tries) p.object p.start p.value
@@ -184,23 +110,13 @@ here-tries : (ok : StampParts → Bool) (ts : List Try) (t : Try) → Has t ts �
 unfolding try_stamps
 here-tries ok [] t h e = absurd h
 here-tries ok (u ∷ ts) t (inl q) e =
-    subst (λ (z : Try). InS (stamp_if (ok u.stamp) u.stamp (try_stamps ok ts)) z.stamp) q (if-new (ok u.stamp) u.stamp (try_stamps ok ts) (ap (λ (z : Try). ok z.stamp) q ∙ e))
-here-tries ok (u ∷ ts) t (inr h) e = if-old (ok u.stamp) u.stamp (try_stamps ok ts) t.stamp (here-tries ok ts t h e)
+    subst (λ (z : Try). InS (stamp_if (ok u.stamp) u.stamp (try_stamps ok ts)) z.stamp) q (new-if (ok u.stamp) u.stamp (try_stamps ok ts) (ap (λ (z : Try). ok z.stamp) q ∙ e))
+here-tries ok (u ∷ ts) t (inr h) e = old-if (ok u.stamp) u.stamp (try_stamps ok ts) t.stamp (here-tries ok ts t h e)
 
 pub try-listed : (k : RunLogs) (ok : StampParts → Bool) (t : Try) → Has t k.tries → ok t.stamp ≡ true → InS (deed_stamps k ok) t.stamp
 try-listed k ok t h e = keep-logs k ok k.repositories (try_stamps ok k.tries) t.stamp (here-tries ok k.tries t h e)
 
 -- ---- the attempt with a stamp
-
-found-at : (b : Bool) (t : Try) (r : Option Try) (s : StampParts) (ts : List Try) → same_stamp t.stamp s ≡ b →
-    ((u : Try) → r ≡ Some u → Has u ts × (u.stamp ≡ s)) → (u : Try) → (if b then Some t else r) ≡ Some u → Has u (t ∷ ts) × (u.stamp ≡ s)
-found-at true t r s ts e h u q = let k : t ≡ u = cc q in (inl k, ap (λ (z : Try). z.stamp) (sym k) ∙ same_stamp-is t.stamp s e)
-found-at false t r s ts e h u q = let w = h u q in (inr w.0, w.1)
-
-pub find-is : (s : StampParts) (ts : List Try) (u : Try) → find s ts ≡ Some u → Has u ts × (u.stamp ≡ s)
-unfolding find
-find-is s [] u q = absurd (cc q)
-find-is s (t ∷ ts) u q = found-at (same_stamp t.stamp s) t (find s ts) s ts refl (find-is s ts) u q
 
 found-some : (b : Bool) (t : Try) (r : Option Try) → (b ≡ true) ⊎ ((u : Try) × (r ≡ Some u)) → (u : Try) × ((if b then Some t else r) ≡ Some u)
 found-some true t r h = (t, refl)

@@ -23,7 +23,8 @@ use Rattle.script_replay.specs.declared.attempts.Told.TheVariants.{Given, Tried}
 use Rattle.script_replay.proofs.VersionLemmas.{after-more}
 use Rattle.log_replay.specs.Tells.{AreRising, HasPut, IsGiven, IsTold, Says, TellsAll}
 use Rattle.log_replay.proofs.AttemptLemmas.{replays-answers, replays-serial, serial-replays}
-use Rattle.log_replay.proofs.StampLemmas.{find-is, find-some, not-itself, put-listed, rising-same, try-listed, whose}
+use Rattle.serial_law.proofs.Before.{find-is}
+use Rattle.log_replay.proofs.StampLemmas.{find-some, not-itself, put-listed, rising-same, try-listed, whose}
 
 -- ---- rising stamps
 

@@ -1,2 +1,11 @@
+pub mod Commits
+pub mod Decisions
+pub mod Drafts
 pub mod Folders
+pub mod Puts
+pub mod Tellers
+pub mod Telling
 pub mod Tells
+pub mod Unfit
+pub mod Untold
+pub mod Whole

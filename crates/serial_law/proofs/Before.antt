@@ -15,7 +15,7 @@ if-same : (b : Bool) (T U : Try) (r : Option Try) → (if b then Some T else r) 
 if-same true T U r h = inl (refl, cc h)
 if-same false T U r h = inr h
 
-find-is : (s : StampParts) (ts : List Try) (T : Try) → find s ts ≡ Some T → Has T ts × (T.stamp ≡ s)
+pub find-is : (s : StampParts) (ts : List Try) (T : Try) → find s ts ≡ Some T → Has T ts × (T.stamp ≡ s)
 unfolding find
 find-is s [] T h = absurd (cc h)
 find-is s (U ∷ ts) T h =

@@ -21,7 +21,7 @@ choose-in false true s t ts us x (inr j) h = inr j
 choose-in false false s t ts us x (inl e) h = inr (inl e)
 choose-in false false s t ts us x (inr j) h = elim (h j) [ inl e ↦ inl e | inr i ↦ inr (inr i) ]
 
-in-stamp : (s : StampParts) (ts : List StampParts) (x : StampParts) → InS (stamp_in s ts) x → (x ≡ s) ⊎ InS ts x
+pub in-stamp : (s : StampParts) (ts : List StampParts) (x : StampParts) → InS (stamp_in s ts) x → (x ≡ s) ⊎ InS ts x
 unfolding stamp_in
 in-stamp s [] x (inl e) = inl e
 in-stamp s [] x (inr j) = absurd j
@@ -32,7 +32,7 @@ choose-new true c s t ts us e h = inl (e refl)
 choose-new false true s t ts us e h = inl refl
 choose-new false false s t ts us e h = inr h
 
-stamp-new : (s : StampParts) (ts : List StampParts) → InS (stamp_in s ts) s
+pub stamp-new : (s : StampParts) (ts : List StampParts) → InS (stamp_in s ts) s
 unfolding stamp_in
 stamp-new s [] = inl refl
 stamp-new s (t ∷ ts) = choose-new (same_stamp s t) (stamp_lt s t) s t ts (stamp_in s ts) (same_stamp-is s t) (stamp-new s ts)
@@ -43,7 +43,7 @@ choose-old false true s t ts us x j h = inr j
 choose-old false false s t ts us x (inl e) h = inl e
 choose-old false false s t ts us x (inr j) h = inr (h j)
 
-stamp-old : (s : StampParts) (ts : List StampParts) (x : StampParts) → InS ts x → InS (stamp_in s ts) x
+pub stamp-old : (s : StampParts) (ts : List StampParts) (x : StampParts) → InS ts x → InS (stamp_in s ts) x
 unfolding stamp_in
 stamp-old s [] x j = absurd j
 stamp-old s (t ∷ ts) x j = choose-old (same_stamp s t) (stamp_lt s t) s t ts (stamp_in s ts) x j (stamp-old s ts x)
@@ -68,12 +68,12 @@ unfolding stamp_if
 rising-if true s ss h = rising-in s ss h
 rising-if false s ss h = h
 
-old-if : (b : Bool) (s : StampParts) (ss : List StampParts) (x : StampParts) → InS ss x → InS (stamp_if b s ss) x
+pub old-if : (b : Bool) (s : StampParts) (ss : List StampParts) (x : StampParts) → InS ss x → InS (stamp_if b s ss) x
 unfolding stamp_if
 old-if true s ss x j = stamp-old s ss x j
 old-if false s ss x j = j
 
-new-if : (b : Bool) (s : StampParts) (ss : List StampParts) → b ≡ true → InS (stamp_if b s ss) s
+pub new-if : (b : Bool) (s : StampParts) (ss : List StampParts) → b ≡ true → InS (stamp_if b s ss) s
 unfolding stamp_if
 new-if true s ss e = stamp-new s ss
 new-if false s ss e = absurd (false≢true e)
@@ -125,13 +125,13 @@ pass-tries ok (T ∷ ts) = pass-if ok (ok T.stamp) T.stamp (try_stamps ok ts) re
 pub listed-pass : (k : RunLogs) (ok : StampParts → Bool) (x : StampParts) → InS (deed_stamps k ok) x → ok x ≡ true
 listed-pass k ok = pass-logs k ok k.repositories (try_stamps ok k.tries) (pass-tries ok k.tries)
 
-keep-puts : (ok : StampParts → Bool) (m : List Mark) (ss : List StampParts) (x : StampParts) → InS ss x → InS (put_stamps ok m ss) x
+pub keep-puts : (ok : StampParts → Bool) (m : List Mark) (ss : List StampParts) (x : StampParts) → InS ss x → InS (put_stamps ok m ss) x
 unfolding put_stamps
 keep-puts ok [] ss x j = j
 keep-puts ok (Put o y v ∷ m) ss x j = old-if (ok y.stamp) y.stamp (put_stamps ok m ss) x (keep-puts ok m ss x j)
 keep-puts ok (_ ∷ m) ss x j = keep-puts ok m ss x j
 
-here-puts : (ok : StampParts → Bool) (m : List Mark) (ss : List StampParts) (o : ObjectId) (x : TimeParts) (v : Value) → PutAt o x v m → ok x.stamp ≡ true → InS (put_stamps ok m ss) x.stamp
+pub here-puts : (ok : StampParts → Bool) (m : List Mark) (ss : List StampParts) (o : ObjectId) (x : TimeParts) (v : Value) → PutAt o x v m → ok x.stamp ≡ true → InS (put_stamps ok m ss) x.stamp
 unfolding put_stamps
 here-puts ok [] ss o x v h e = absurd h
 here-puts ok (Put a y w ∷ m) ss o x v (inl h) e =
@@ -141,7 +141,7 @@ here-puts ok (Put a y w ∷ m) ss o x v (inr h) e = old-if (ok y.stamp) y.stamp 
 here-puts ok (Stretch a y ∷ m) ss o x v h e = here-puts ok m ss o x v h e
 here-puts ok (_ ∷ m) ss o x v h e = here-puts ok m ss o x v h e
 
-here-logs : (k : RunLogs) (ok : StampParts → Bool) (n r : ℕ) (ss : List StampParts) (o : ObjectId) (x : TimeParts) (v : Value) → 1 ≤ r → r ≤ n →
+pub here-logs : (k : RunLogs) (ok : StampParts → Bool) (n r : ℕ) (ss : List StampParts) (o : ObjectId) (x : TimeParts) (v : Value) → 1 ≤ r → r ≤ n →
     PutAt o x v (marks (log_of k r)) → ok x.stamp ≡ true → InS (log_stamps k ok n ss) x.stamp
 unfolding log_stamps
 here-logs k ok zero r ss o x v h j p e = absurd (omega (arith, h, j))

@@ -2,6 +2,8 @@
 ghost use Rattle.std.specs.Prelude.{◌≡◌, ◌≤◌, ◌+◌, ◌⊎◌, ◌++◌, ◌∷◌, [], List, IfErr, OnErr, length, map, vec_len, vec_capacity};
 ghost use Rattle.pseudo_time.specs.Nodes.{repository as named};
 ghost use Rattle.watch_command.specs.Shelves.{shelf_sight};
+ghost use Rattle.watch_command.specs.Archives.{joined_marks};
+ghost use Rattle.snapshot_command.specs.Nodes.{Reads};
 ghost use Rattle.snapshot_command.specs.Repositories as spec;
 
 use archive_store::Known;
@@ -22,7 +24,7 @@ fn known_of<M: Medium>(
 ) -> Result<Known, Outcome>
     requires some { 1 ≤ length openings.now }
     requires few { length openings.now ≤ 1000 }
-    ensures { spec.Reads node openings.now result }
+    ensures { Reads joined_marks node openings.now result }
 {
     match stand_of(openings) {
         Standing::Shut(cause) => Err(fallen(down_line(alloc, node, cause))),

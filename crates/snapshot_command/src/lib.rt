@@ -9,4 +9,7 @@ mod marks;
 mod texts;
 
 pub use calls::snapshot;
-pub use watch_command::{Outcome, Question, ask, watch};
+pub use watch_command::{
+    Kept, Opening, Outcome, Question, Standing, ask, fallen, give_back, keep_volumes, open_volumes,
+    refused, stand_of, told, watch,
+};

@@ -54,7 +54,7 @@ fn hold_streams(rt: &HostRuntime) -> io::Result<(File, File, File)> {
 fn is_look(words: &[String]) -> bool {
     match words.first() {
         Some(word) => match word.as_str() {
-            "history" | "asof" | "audit" | "snapshot" => true,
+            "history" | "asof" | "audit" | "snapshot" | "replay" => true,
             _ => false,
         },
         None => false,

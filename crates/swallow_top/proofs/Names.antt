@@ -39,7 +39,7 @@ pub use Rattle.run_command.specs.Contract.{CameOf, HasNoRun, RunsPlan}
 pub use Rattle.swallow_top.specs.Refusals.{IsNoPlan, RefusedAs}
 pub use Rattle.swallow_top.specs.Histories.{AskedNothing, TellsHistory, TellsVolumes, home_of}
 pub use Rattle.swallow_top.specs.Inputs.{OfInput}
-pub use Rattle.swallow_top.specs.Outcomes.{TellsAnswer, TellsSnapshot, TellsOutcome, TellsWatch}
+pub use Rattle.swallow_top.specs.Outcomes.{TellsAnswer, TellsOutcome, TellsReplay, TellsSnapshot, TellsWatch}
 pub use Rattle.swallow_top.specs.Plans.{IsReadAs, ReadsPlan}
 pub use Rattle.swallow_top.specs.Retirements.{TellsRetired, TellsRetirement, mark_at}
 pub use Rattle.run_command.specs.Tellings.{status_of}

@@ -1,5 +1,5 @@
 -- How it is told what came of a question to an archive or of a watch, and what is handed back of it.
-use Rattle.swallow_top.proofs.Names.{AllZip-long, Opening, Media, HasOpened, medium_in, Kept, AllKept, kept_under, ShelfSight, first_names, logs_of, all-kept, back-all, Rule, AskedNothing, IsOfStamp, TellsAnswer, TellsSnapshot, TellsWatch, Sinking, Ends, ◌⊎◌, ◌≤◌, inl, inr, ℕ, List, Option, Some, None, length, map, ap, sym, subst, ◌∙◌, arith, IsLawful, TellsOutcome}
+use Rattle.swallow_top.proofs.Names.{AllZip-long, Opening, Media, HasOpened, medium_in, Kept, AllKept, kept_under, ShelfSight, first_names, logs_of, all-kept, back-all, Rule, AskedNothing, IsOfStamp, TellsAnswer, TellsReplay, TellsSnapshot, TellsWatch, Sinking, Ends, ◌⊎◌, ◌≤◌, inl, inr, ℕ, Bool, List, Option, Some, None, length, map, ap, sym, subst, ◌∙◌, arith, IsLawful, TellsOutcome}
 use Rattle.std.specs.Prelude.{IfSome}
 use Rattle.command_words.specs.Words.{IsSnapshot}
 use Rattle.archive_promise.specs.Outcome.{Outcome}
@@ -14,6 +14,8 @@ use Rattle.archive_promise.proofs.KeptLemmas.{watch-kept}
 use Rattle.archive_promise.proofs.AnsweredLemmas.{is-lawful}
 use Rattle.archive_promise.proofs.RepositoryLemmas.{as-many-logs, repositories-kept}
 use Rattle.archive_promise.proofs.SnappedLemmas.{lawful-snapshot}
+use Rattle.replay_command.proofs.NodeLemmas.{replay-kept}
+use Rattle.replay_command.specs.Replayed.{ReplayOver}
 use Rattle.archive_promise.proofs.WatchedLemmas.{counts-on}
 
 module _ {M : Type 0} (w : Media M) (old new : ShelfSight) (kept : List (Kept M)) (s : Sinking) (status : ℕ) where
@@ -47,7 +49,14 @@ module _ {M : Type 0} (w : Media M) (old new : ShelfSight) (kept : List (Kept M)
   tells-snapshot clock r (inl none) told = inl (asked-nothing r none told)
   tells-snapshot clock r (inr over) told = inr (record { outcome = r; over = over; lawful = lawful-map clock over.volumes r over.came; told = told })
 
+  pub tells-replay : (values : Bool) (r : Outcome) → TookNothing w old new kept r ⊎ ReplayOver w old new values kept r → TellsOutcome r status s → AskedNothing w old new kept s status ⊎ TellsReplay w old new values kept s status
+  tells-replay values r (inl none) told = inl (asked-nothing r none told)
+  tells-replay values r (inr over) told = inr (record { outcome = r; over = over; told = told })
+
   -- each medium that was taken is handed back
+  pub tellsreplay-kept : (values : Bool) → TellsReplay w old new values kept s status → AllKept old new kept
+  tellsreplay-kept values h = replay-kept w old new h.over.volumes kept h.over.are
+
   pub tellssnapshot-kept : (clock : Option ℕ) → TellsSnapshot w old new clock kept s status → AllKept old new kept
   tellssnapshot-kept clock h = repositories-kept w old new h.over.volumes kept h.over.are
 

@@ -1,11 +1,11 @@
 -- What the parts of a call say, said in the words of its promise.
 use Rattle.votes_command.specs.Tellings.{some_down as voters_down}
-use Rattle.swallow_top.proofs.Names.{Every, Plan, IsPlanFault, IsPlan, CanRun, Trace, open_acts, ObjectId, no_trace, Options, AreWords, Media, some_down, Account, AllKept, Kept, Wanted, Stop, CameOf, HasNoRun, RefusedAs, RunsPlan, AskedNothing, TellsHistory, TellsVolumes, ReadsPlan, ShelfSight, Retired, Rule, TellsAnswer, TellsSnapshot, TellsWatch, TellsRetired, TellsRetirement, mark_at, status_of, Sinking, Ends, EndsIfAny, VoteEnd, Told, IsInputFault, IsInput, IsPoll, PollLine, HavePolled, ReadsPolls, TellsVotes, limits_of, tellers_of, votes_status, Vec, Global, ◌≡◌, ◌⊎◌, ◌≤◌, ◌==◌, inl, inr, ℕ, Bool, true, false, List, [], ◌∷◌, length, Option, Ok, Err, refl, sym, subst, arith, if◌then◌else◌, AreGiven, AreOptions, IsWith, IsNoPlan, AreNoPolls}
+use Rattle.swallow_top.proofs.Names.{Every, Plan, IsPlanFault, IsPlan, CanRun, Trace, open_acts, ObjectId, no_trace, Options, AreWords, Media, some_down, Account, AllKept, Kept, Wanted, Stop, CameOf, HasNoRun, RefusedAs, RunsPlan, AskedNothing, TellsHistory, TellsVolumes, ReadsPlan, ShelfSight, Retired, Rule, TellsAnswer, TellsReplay, TellsSnapshot, TellsWatch, TellsRetired, TellsRetirement, mark_at, status_of, Sinking, Ends, EndsIfAny, VoteEnd, Told, IsInputFault, IsInput, IsPoll, PollLine, HavePolled, ReadsPolls, TellsVotes, limits_of, tellers_of, votes_status, Vec, Global, ◌≡◌, ◌⊎◌, ◌≤◌, ◌==◌, inl, inr, ℕ, Bool, true, false, List, [], ◌∷◌, length, Option, Ok, Err, refl, sym, subst, arith, if◌then◌else◌, AreGiven, AreOptions, IsWith, IsNoPlan, AreNoPolls}
 use Rattle.std.specs.Option.{unwrap_or}
 use Rattle.plan_form.specs.Making.{made_plan}
 use Rattle.plan_form.proofs.PlanTextLemmas.{plan_can_run}
 use Rattle.command_words.specs.declared.commands.Command.{Command}
-use Rattle.command_words.specs.declared.commands.Command.TheVariants.{Run, Load, History, Retire, Votes, Watch, AsOf, Audit, Snapshot, Settle}
+use Rattle.command_words.specs.declared.commands.Command.TheVariants.{Run, Load, History, Retire, Votes, Watch, AsOf, Audit, Snapshot, Settle, Replay}
 use Rattle.command_words.specs.declared.options.Given.{Given}
 use Rattle.run_command.specs.declared.reports.Wanted.TheVariants.{Report, Summary}
 use Rattle.run_command.specs.declared.stops.Stop.TheVariants as stop
@@ -23,7 +23,7 @@ use Rattle.votes_command.specs.Statuses.{all_held}
 use Rattle.swallow_top.proofs.VoteLemmas.{votes-kept}
 use Rattle.swallow_top.proofs.HistoryLemmas.{history-kept}
 use Rattle.swallow_top.proofs.InputLemmas.{of_input-all, of_input-with}
-use Rattle.swallow_top.proofs.OutcomeLemmas.{outcome-most, tellsanswer-kept, tellssnapshot-kept, tellswatch-kept}
+use Rattle.swallow_top.proofs.OutcomeLemmas.{outcome-most, tellsanswer-kept, tellsreplay-kept, tellssnapshot-kept, tellswatch-kept}
 use Rattle.swallow_top.proofs.RetirementLemmas.{retirement-kept}
 
 -- ---- statuses
@@ -184,6 +184,16 @@ module _ {M : Type 0} (c : Call M) where
     votes = inl votes;
   }
 
+  promise-replay : (values : Bool) → IsUnread c → AreWords (Replay values) c.words → AskedNothing c.media_are c.shelf_before c.shelf c.media c.sink c.status ⊎ TellsReplay c.media_are c.shelf_before c.shelf values c.media c.sink c.status →
+      HasNoRun c.told → c.votes ≡ no_trace → Promise c
+  promise-replay values unread words (inl nothing) none votes = promise-unasked nothing none votes
+  promise-replay values unread words (inr tells) none votes = record {
+    done = inr (inr (Replay values, words, (unread, tells, none)));
+    kept = tellsreplay-kept c.media_are c.shelf_before c.shelf c.media c.sink c.status values tells;
+    statuses = outcome-most tells.outcome c.sink c.status tells.told;
+    votes = inl votes;
+  }
+
   promise-map : (repository clock : ℕ) → IsUnread c → AreWords (AsOf repository clock) c.words →
       AskedNothing c.media_are c.shelf_before c.shelf c.media c.sink c.status ⊎ TellsAnswer c.media_are c.shelf_before c.shelf (question.AsOf repository (mark_at clock)) c.media c.sink c.status → HasNoRun c.told → c.votes ≡ no_trace → Promise c
   promise-map repository clock unread words (inl nothing) none votes = promise-unasked nothing none votes
@@ -228,6 +238,7 @@ module _ {M : Type 0} (c : Call M) where
   promise-asked (AsOf repository clock) unread words tells none votes = promise-map repository clock unread words tells none votes
   promise-asked (Audit object) unread words tells none votes = promise-audit object unread words tells none votes
   promise-asked (Snapshot clock) unread words tells none votes = promise-snapshot clock unread words tells none votes
+  promise-asked (Replay values) unread words tells none votes = promise-replay values unread words tells none votes
   promise-asked (Run o) unread words (inl nothing) none votes = promise-unasked nothing none votes
   promise-asked (Run o) unread words (inr tells) none votes = absurd tells
   promise-asked (Load seed count o) unread words (inl nothing) none votes = promise-unasked nothing none votes

@@ -1,13 +1,13 @@
 -- What the commands that ask media alone tell.
 use Rattle.std.specs.Prelude.{ℕ, List}
 use Rattle.command_words.specs.declared.commands.Command.{Command}
-use Rattle.command_words.specs.declared.commands.Command.TheVariants.{Run, Load, History, Retire, Votes, Watch, AsOf, Audit, Snapshot, Settle}
+use Rattle.command_words.specs.declared.commands.Command.TheVariants.{Run, Load, History, Retire, Votes, Watch, AsOf, Audit, Snapshot, Settle, Replay}
 use Rattle.plan_volumes.specs.KeptMedium.{Kept}
 use Rattle.plan_volumes.specs.Media.{Media}
 use Rattle.plan_volumes.specs.Shelves.{ShelfSight}
 use Rattle.archive_promise.specs.Question.TheVariants as question
 use Rattle.swallow_top.specs.Histories.{TellsHistory}
-use Rattle.swallow_top.specs.Outcomes.{TellsAnswer, TellsSnapshot, TellsWatch}
+use Rattle.swallow_top.specs.Outcomes.{TellsAnswer, TellsReplay, TellsSnapshot, TellsWatch}
 use Rattle.swallow_top.specs.Retirements.{TellsRetirement, mark_at}
 use Rattle.run_command.specs.Written.{Sinking}
 
@@ -19,6 +19,7 @@ TellsAsked w old new (Watch repository rule) kept s status = TellsWatch w old ne
 TellsAsked w old new (AsOf repository clock) kept s status = TellsAnswer w old new (question.AsOf repository (mark_at clock)) kept s status
 TellsAsked w old new (Audit object) kept s status = TellsAnswer w old new (question.Audit object) kept s status
 TellsAsked w old new (Snapshot clock) kept s status = TellsSnapshot w old new clock kept s status
+TellsAsked w old new (Replay values) kept s status = TellsReplay w old new values kept s status
 TellsAsked w old new (Run o) kept s status = ⊥
 TellsAsked w old new (Load seed count o) kept s status = ⊥
 TellsAsked w old new (Votes o) kept s status = ⊥

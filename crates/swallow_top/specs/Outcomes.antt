@@ -1,5 +1,5 @@
--- How it is reported what came of a command over the volumes of a repository: a question to its archive, or a watch.
-use Rattle.std.specs.Prelude.{◌≡◌, ◌⊎◌, ℕ, List, Option}
+-- How it is reported what came of a command over volumes: a question to an archive, a watch, a snapshot or a replay.
+use Rattle.std.specs.Prelude.{◌≡◌, ◌⊎◌, ℕ, Bool, List, Option}
 use Rattle.plan_volumes.specs.Media.{Media}
 use Rattle.plan_volumes.specs.KeptMedium.{Kept}
 use Rattle.plan_volumes.specs.Shelves.{ShelfSight}
@@ -14,6 +14,7 @@ use Rattle.archive_promise.specs.Repositories.{SnapshotOver, all_logs}
 use Rattle.archive_promise.specs.Snapped.{IsLawfulSnapshot}
 use Rattle.archive_promise.specs.Watched.{CountsOver}
 use Rattle.archive_promise.specs.Watches.{StopsBefore, WatchesOver}
+use Rattle.replay_command.specs.Replayed.{ReplayOver}
 use Rattle.run_command.specs.Written.{Sinking, Ends, GotLine, HasNoMemory}
 
 -- the status and the text that tell it
@@ -43,4 +44,10 @@ module _ {M : Type 0} (w : Media M) (old new : ShelfSight) where
     pub outcome : Outcome
     pub over : SnapshotOver w old new clock kept outcome
     pub lawful : IsLawfulSnapshot clock (all_logs over.volumes) outcome
+    pub told : TellsOutcome outcome status s
+
+  -- The volumes of all nodes were taken and opened, this came of the replay, and so it was reported. Nothing was written to the volumes, which are handed back.
+  pub record TellsReplay (values : Bool) (kept : List (Kept M)) (s : Sinking) (status : ℕ) : Type 0 where
+    pub outcome : Outcome
+    pub over : ReplayOver w old new values kept outcome
     pub told : TellsOutcome outcome status s

@@ -7,7 +7,7 @@ use Rattle.plan_form.specs.Plans.{IsPlan}
 use Rattle.plan_form.specs.Making.{made_plan}
 use Rattle.command_words.specs.declared.commands.Options.{Options}
 use Rattle.command_words.specs.declared.commands.Command.{Command}
-use Rattle.command_words.specs.declared.commands.Command.TheVariants.{Run, Load, History, Retire, Votes, Watch, AsOf, Audit, Snapshot, Settle}
+use Rattle.command_words.specs.declared.commands.Command.TheVariants.{Run, Load, History, Retire, Votes, Watch, AsOf, Audit, Snapshot, Settle, Replay}
 use Rattle.command_words.specs.Words.{AreWords, AreNone}
 use Rattle.plan_volumes.specs.Media.{Media}
 use Rattle.run_rounds.specs.Runs.{Account}
@@ -21,7 +21,7 @@ use Rattle.swallow_top.specs.Inputs.{OfInput}
 use Rattle.run_command.specs.Lines.{words_line, source_line}
 use Rattle.plan_volumes.specs.Shelves.{ShelfSight}
 use Rattle.archive_promise.specs.Question.TheVariants as question
-use Rattle.swallow_top.specs.Outcomes.{TellsAnswer, TellsSnapshot, TellsWatch}
+use Rattle.swallow_top.specs.Outcomes.{TellsAnswer, TellsReplay, TellsSnapshot, TellsWatch}
 use Rattle.swallow_top.specs.Retirements.{TellsRetirement, mark_at}
 use Rattle.swallow_top.specs.Votes.{AreNoPolls, HavePolled}
 use Rattle.run_command.specs.Written.{Sinking, GotLine, GotNothing}
@@ -101,6 +101,7 @@ module _ {M : Type 0} (c : Call M) where
   WasDone (Audit object) = IsUnread × TellsAnswer c.media_are c.shelf_before c.shelf (question.Audit object) c.media c.sink c.status × HasNoRun c.told
   WasDone (Snapshot clock) = IsUnread × TellsSnapshot c.media_are c.shelf_before c.shelf clock c.media c.sink c.status × HasNoRun c.told
   WasDone (Settle repositories) = IsUnread × SettlesAll c.media_are c.shelf_before c.shelf c.media repositories c.told c.sink c.status
+  WasDone (Replay values) = IsUnread × TellsReplay c.media_are c.shelf_before c.shelf values c.media c.sink c.status × HasNoRun c.told
 
   -- but for votes nobody votes
   abbrev pub VotesAlone : Type 0

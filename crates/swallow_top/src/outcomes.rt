@@ -1,8 +1,8 @@
-//! What came of a question to an archive, and of a watch.
+//! What came of a question to an archive, of a watch, of a snapshot and of a replay.
 ghost use Rattle.std.specs.Prelude.{◌≡◌, ◌⊎◌, ◌≤◌, ◌^◌, ◌-◌, IfSome};
 ghost use Rattle.plan_volumes.specs.Shelves.{shelf_sight};
 ghost use Rattle.swallow_top.specs.Histories.{AskedNothing};
-ghost use Rattle.swallow_top.specs.Outcomes.{TellsAnswer, TellsOutcome, TellsSnapshot, TellsWatch};
+ghost use Rattle.swallow_top.specs.Outcomes.{TellsAnswer, TellsOutcome, TellsReplay, TellsSnapshot, TellsWatch};
 ghost use Rattle.swallow_top.specs.Retirements.{mark_at};
 ghost use Rattle.run_command.specs.Written.{sinking};
 
@@ -11,6 +11,7 @@ use archive_promise::{Outcome, Question, ask, snapshot, watch};
 use command_words::Rule;
 use medium_port::{Medium, Shelf};
 use plan_volumes::Kept;
+use replay_command::replay;
 use run_command::{tell_text, write_all};
 use std::alloc::Global;
 use stream_port::Sink;
@@ -111,5 +112,24 @@ pub fn tell_snapshot<O: Sink, S: Shelf>(
         (sinking (O.taken sink.old) (O.taken sink.new) (O.faults sink.old) (O.faults sink.new)) result.0 }
 {
     let (outcome, media) = snapshot(alloc, clock, shelf);
+    (tell_outcome(outcome, sink), media)
+}
+
+/// Carries all attempts of a folder out again, and writes whether its logs say the same. The answer is the status, and
+/// the media that were taken, in the order of the nodes and volumes.
+pub fn tell_replay<O: Sink, S: Shelf>(
+    alloc: Global,
+    values: bool,
+    sink: &mut O,
+    shelf: &mut S,
+) -> (u8, Vec<Kept<S::Medium>>)
+    ensures { AskedNothing S.Medium.Medium (shelf_sight S.Shelf shelf.old)
+        (shelf_sight S.Shelf shelf.new) result.1.items
+        (sinking (O.taken sink.old) (O.taken sink.new) (O.faults sink.old) (O.faults sink.new)) result.0
+        ⊎ TellsReplay S.Medium.Medium (shelf_sight S.Shelf shelf.old)
+        (shelf_sight S.Shelf shelf.new) values result.1.items
+        (sinking (O.taken sink.old) (O.taken sink.new) (O.faults sink.old) (O.faults sink.new)) result.0 }
+{
+    let (outcome, media) = replay(alloc, values, shelf);
     (tell_outcome(outcome, sink), media)
 }

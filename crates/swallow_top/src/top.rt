@@ -10,7 +10,7 @@ ghost use Rattle.plan_volumes.specs.Shelves.{shelf_sight};
 ghost use Rattle.run_command.specs.Written.{sinking};
 
 use crate::histories::tell_history;
-use crate::outcomes::{tell_audit, tell_map, tell_snapshot, tell_watch};
+use crate::outcomes::{tell_audit, tell_map, tell_replay, tell_snapshot, tell_watch};
 use crate::plans::read_plan;
 use crate::retirements::tell_retirement;
 use crate::votes::{read_polls, tell_votes};
@@ -83,6 +83,7 @@ fn tell_asked<O: Sink, S: Shelf>(
         Command::AsOf { repository, clock } => tell_map(alloc, repository, clock, sink, shelf),
         Command::Audit(object) => tell_audit(alloc, object, sink, shelf),
         Command::Snapshot { clock } => tell_snapshot(alloc, clock, sink, shelf),
+        Command::Replay { values } => tell_replay(alloc, values, sink, shelf),
         Command::Run(_) | Command::Load { .. } | Command::Votes(_) | Command::Settle { .. } => (
             7,
             Vec::new(alloc),
@@ -108,7 +109,9 @@ fn tell_asked<O: Sink, S: Shelf>(
 ///   one doesn't know of an attempt is what the attempt's home knows;
 /// - `settle` opens repositories and no broker, lets expire what is due by the clock, lets each repository
 ///   learn what the homes of its versions decided, and writes how many versions that settled, and which are
-///   open.
+///   open;
+/// - `replay` reads all logs of repositories and brokers 1 to 16, carries every attempt that they tell out again by
+///   its script alone, and writes how many there are, if the logs say the same.
 ///
 /// The status in the answer is the one with which a program ends:
 ///
@@ -120,7 +123,7 @@ fn tell_asked<O: Sink, S: Shelf>(
 ///   `swallow: old run N` or `swallow: other plan act I` was;
 /// - 3: the source failed, and `swallow: source` was written;
 /// - 4: the sink failed while a report, a summary, a history, totals, a map, an audit, the line of a
-///   retirement, what a settle came to or the line of a node that is down was written;
+///   retirement, what a settle or a replay came to or the line of a node that is down was written;
 /// - 5: no node is down, and an act has no outcome, a poll holds no decision, or a settle left a version open;
 /// - 6: a node is down, and the text says why;
 /// - 7: memory runs out;
@@ -128,7 +131,8 @@ fn tell_asked<O: Sink, S: Shelf>(
 ///   `swallow: last volume`, `swallow: old mark FLOOR` or `swallow: undecided OBJECT START` says why; or
 ///   there is no map as of the mark, and `swallow: undecided OBJECT START` says why; or no clock is above
 ///   those of the repositories, and `swallow: last clock` says so; or no number holds a total, no total was
-///   written, and `swallow: overflow OBJECT START` says why.
+///   written, and `swallow: overflow OBJECT START` says why; or the logs don't say what the scripts do:
+///   `differs STAMP KIND` or `differs broker B log` says where.
 pub fn swallow<
     I: Source,
     O: Sink,

@@ -1,0 +1,5 @@
+pub mod CountLemmas
+pub mod JudgeLemmas
+pub mod LogLemmas
+pub mod NodeLemmas
+pub mod TextLemmas

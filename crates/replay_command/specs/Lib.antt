@@ -1,0 +1,5 @@
+pub mod Counts
+pub mod Nodes
+pub mod Replayed
+pub mod Texts
+pub mod Verdicts
