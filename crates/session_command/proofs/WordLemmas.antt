@@ -1,12 +1,12 @@
 -- The words of a session.
-use Rattle.std.proofs.Common.{◌≡◌, ◌≢◌, ◌↔◌, ◌-◌, ◌<◌, ◌≤◌, ◌∙◌, ℕ, List, [], ◌∷◌, ap, arith, get_or, inl, inr, length, refl, subst, sym, take}
+use Rattle.std.proofs.Common.{◌≡◌, ◌≢◌, ◌↔◌, ◌-◌, ◌<◌, ◌≤◌, ◌∙◌, ℕ, false, true, List, [], ◌∷◌, ap, arith, get_or, inl, inr, length, refl, subst, sym, take}
 use Rattle.std.specs.Prelude.{Option, Some, None, IfSome, codes}
 use Rattle.std.specs.Borrow.{Bor}
 use Rattle.std.specs.Option.{unwrap_or}
 use Rattle.std.proofs.Math.Seq.{take-length}
 use Rattle.command_words.specs.declared.commands.Options.{Options}
 use Rattle.command_words.specs.declared.commands.Command.{Command}
-use Rattle.command_words.specs.declared.commands.Command.TheVariants.{Run, Load, History, Retire, Votes, Watch, AsOf, Audit, Snapshot, Settle}
+use Rattle.command_words.specs.declared.commands.Command.TheVariants.{Run, Load, History, Retire, Votes, Watch, AsOf, Audit, Snapshot, Settle, Replay}
 use Rattle.command_words.specs.Words.{AreGiven, AreNone, AreOptions, AreWords, IsWith, said}
 use Rattle.command_words.specs.declared.options.Given.{Given}
 use Rattle.command_words.proofs.WordLemmas.{behind-one, word-at}
@@ -41,6 +41,8 @@ runs-options (Audit object) more w = absurd (other (codes "audit") more _ w.are 
 runs-options (Snapshot None) more w = absurd (other (codes "snapshot") more [] w (λ k. omega (arith, k)))
 runs-options (Snapshot (Some clock)) more (word, e, n) = absurd (other (codes "snapshot") more _ e (λ k. omega (arith, k)))
 runs-options (Settle n) more w = absurd (other (codes "settle") more _ w.are (λ k. omega (arith, k)))
+runs-options (Replay false) more w = absurd (other-second (codes "replay") more _ w (λ k. omega (arith, k)))
+runs-options (Replay true) more w = absurd (other-second (codes "replay") more _ w (λ k. omega (arith, k)))
 
 pub more-given : (r : Option Command) (out : Option Options) (all more : List (List ℕ)) → all ≡ codes "run" ∷ more → IfSome r (λ c. AreWords c all) → (r ≡ None → AreNone all) → ((o : Options) → (out ≡ Some o) ↔ (r ≡ Some (Run o))) → GivesMore more out
 more-given None (Some o) all more is words none same = absurd (cc ((same o).0 refl))
