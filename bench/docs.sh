@@ -21,7 +21,7 @@ work=$(mktemp -d -p /dev/shm 2> /dev/null || mktemp -d) || exit 1 # in memory, i
 trap 'rm -rf "$work" "$disk"' EXIT
 base=$work
 right=0 wrong=0 folders=0
-seconds=120 # for one command
+seconds=600 # for one command: 500 acts make 7,000 syncs, and a slow disk has them one by one
 
 # Counts one comparison: what it is, what was shown and what came, a file each.
 compare() {
