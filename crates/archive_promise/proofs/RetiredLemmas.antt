@@ -2,7 +2,7 @@
 use Rattle.std.proofs.Common.{◌≡◌, ◌∙◌, ◌⊎◌, ◌+◌, ◌≤◌, ◌++◌, ℕ, zero, suc, Bool, true, false, List, [], ◌∷◌, length, map, reverse, append_assoc, ap, arith, inl, inr, refl, subst, sym}
 use Rattle.std.proofs.lemmas.List.{append-nil, length-append, reverse-append}
 use Rattle.std.specs.Prelude.{if◌then◌else◌}
-use Rattle.pseudo_time.specs.Nodes.{repository, same_node}
+use Rattle.pseudo_time.specs.Nodes.{repository}
 use Rattle.pseudo_time.specs.TimeParts.{TimeParts}
 use Rattle.effect_form.specs.declared.effects.Effect.{Effect}
 use Rattle.message_core.proofs.NodeLemmas.{same_node-refl}

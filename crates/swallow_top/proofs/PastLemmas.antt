@@ -1,5 +1,5 @@
 -- The past that a retirement leaves.
-use Rattle.std.proofs.Common.{◌≡◌, ◌∙◌, ◌⊎◌, ◌≤◌, ◌++◌, ◌||◌, IsTrue, ℕ, suc, true, false, List, [], ◌∷◌, length, map, reverse, Ok, ap, arith, inl, inr, refl, subst, sym}
+use Rattle.std.proofs.Common.{◌≡◌, ◌∙◌, ◌≤◌, ◌++◌, IsTrue, ℕ, suc, true, false, List, [], ◌∷◌, length, reverse, Ok, ap, arith, inl, inr, refl, subst, sym}
 use Rattle.std.proofs.lemmas.Bool.{or_right, true≢false}
 use Rattle.std.proofs.lemmas.List.{length-append, map-append, reverse-append}
 use Rattle.std.specs.List.{AllZip}
@@ -16,7 +16,6 @@ use Rattle.medium_port.specs.Image.{Image}
 use Rattle.version_store.specs.Storage.{storage}
 use Rattle.version_store.specs.declared.stores.Store.{Store}
 use Rattle.object_retirement.specs.Forward.{MayRetire, carried as kept_of, forward}
-use Rattle.forward_copy.specs.Carried.{LeavesFront}
 use Rattle.forward_copy.specs.Currents.{node_log}
 use Rattle.forward_copy.specs.Wholes.{has_whole, is_whole}
 use Rattle.plan_volumes.specs.Media.{Media}
