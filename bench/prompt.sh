@@ -130,7 +130,7 @@ data snapshot now|'now': $clock
 data settle 17|'17': expected how many repositories, 1 to 16
 data run --yes|'--yes' is no option of 'run'
 data history 17.1 --quiet|'17.1': $object
-data --quiet|'--quiet' is no command: expected one of run load session history retire watch asof audit snapshot settle votes
+data --quiet|'--quiet' is no command: expected one of run load session history retire watch asof audit snapshot settle replay votes
 TABLE
 
 # Faulty plans: the first faulty line, and what was expected there. It stands in the place of line 6 of this plan, or of another.

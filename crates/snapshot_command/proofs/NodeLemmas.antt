@@ -45,6 +45,11 @@ back-append [] ys (u ∷ us) vs h k = absurd h
 back-append (x ∷ xs) ys [] vs h k = absurd h
 back-append (x ∷ xs) ys (u ∷ us) vs h k = (h.0, back-append xs ys us vs h.1 k)
 
+module _ {M : Type 0} (w : Media M) where
+  pub as-many-logs : (vs : List (Volumes w)) → length (all_logs vs) ≡ length vs
+  as-many-logs [] = refl
+  as-many-logs (v ∷ vs) = let a = length-append (all_logs vs) (logs_of v.openings ∷ []) in let b = as-many-logs vs in omega (arith, a, b)
+
 -- the nodes from place 0 on are these, and no two of them are one; `read` is what is read of each
 module _ (node : ℕ → NodeId) (differ : (i j : ℕ) → i < j → node i ≡ node j → ⊥) {K : Type 0} (read : List (List Effect) → K) {M : Type 0} (w : Media M) where
   abbrev AreNodes : (old new : ShelfSight) → List (Volumes w) → List (Kept M) → Type 0
@@ -175,16 +180,12 @@ module _ (node : ℕ → NodeId) (differ : (i j : ℕ) → i < j → node i ≡ 
 
   -- ---- all were read
 
-  pub as-many-logs : (vs : List (Volumes w)) → length (all_logs vs) ≡ length vs
-  as-many-logs [] = refl
-  as-many-logs (v ∷ vs) = let a = length-append (all_logs vs) (logs_of v.openings ∷ []) in let b = as-many-logs vs in omega (arith, a, b)
-
   pub read-all : (count : ℕ) (vs : List (Volumes w)) (r : Result (Vec K Global) Outcome) (known : Vec K Global) (shown : List K) → AreRead count vs r → r ≡ Ok known → shown ≡ known.items → length shown ≡ count
   read-all count vs r known shown are is same =
       let h = subst (λ (x : Result (Vec K Global) Outcome). AreRead count vs x) is are in
       let a = ap length (same ∙ h.1.1) in
       let b = length-map (all_logs vs) read in
-      let c = as-many-logs vs in
+      let c = as-many-logs w vs in
       let d = h.0 in
       omega (arith, a, b, c, d)
 
