@@ -1,4 +1,4 @@
-# Read by ./swallow, ./swallow_lab and bench/, with the repository's folder as `top`: which proved program is to be started.
+# Read by ./swallow, ./swallow_lab, bench/, torture/ and tools/, with the repository's folder as `top`: which proved program is to be started.
 # One is where the sum of the sources here and its own sha256 are those noted beside it: first the one of release/, then the
 # one that was built here (crates/NAME/out). Else it is built, which proves each crate that it is made of.
 logic="logic dac8208d650f15bf" # what the proofs are for: the last words of `rt version`, whatever the kit's name

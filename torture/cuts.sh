@@ -8,6 +8,6 @@ trap 'rm -rf "$work"' EXIT
 . "$top/release/start.sh" && find_program swallow_main || exit 1
 images=${1:-5000}
 for workers in 1 4; do
-  python3 "$top/bench/cuts.py" "$program" "$work" "$images" "$workers" "${2:-1}" || { cp -r "$work/wrong" /tmp/; exit 1; }
+  python3 "$top/torture/cuts.py" "$program" "$work" "$images" "$workers" "${2:-1}" || { cp -r "$work/wrong" /tmp/; exit 1; }
 done
 uptime >&2

@@ -1,6 +1,6 @@
 #!/usr/bin/env bash
 # Runs what the pages show and compares it: every example of examples/ with its report, and every command that
-# README, TUTORIAL, LANGUAGE, COMMANDS and OPERATIONS show with its output. `bench/docs.sh PAGE ..` takes these pages
+# README, TUTORIAL, LANGUAGE, COMMANDS and OPERATIONS show with its output. `tools/docs.sh PAGE ..` takes these pages
 # alone. It ends with a count, and with status 0 if all was right. It is the program that ./swallow starts.
 #
 # In a page it finds the fenced blocks. Those of one page are run in order in one fresh folder, which has links to

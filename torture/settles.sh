@@ -6,4 +6,4 @@ top="$(cd "$(dirname "${BASH_SOURCE[0]}")/.." && pwd)" || exit 1
 work=$(mktemp -d -p /dev/shm) || exit 1
 trap 'rm -rf "$work"' EXIT
 . "$top/release/start.sh" && find_program swallow_main || exit 1
-python3 "$top/bench/settles.py" "$program" "$work" "${1:-200}" "${2:-1}" || { cp -r "$work/wrong" /tmp/ 2> /dev/null; exit 1; }
+python3 "$top/torture/settles.py" "$program" "$work" "${1:-200}" "${2:-1}" || { cp -r "$work/wrong" /tmp/ 2> /dev/null; exit 1; }

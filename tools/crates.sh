@@ -1,6 +1,6 @@
 #!/usr/bin/env bash
 # Writes docs/CRATES.md: of each crate what its sources say it is, what each file of its specs/ defines, and its laws.
-# `bench/crates.sh check` changes nothing: its status is 0 if the page is what the sources give, and it shows the
+# `tools/crates.sh check` changes nothing: its status is 0 if the page is what the sources give, and it shows the
 # differences if not. It needs no toolchain.
 #
 # The layers and their order are those of crates.txt. What is said of a crate is the first sentence of the `//!` lines
@@ -50,7 +50,7 @@ write() {
   local line name source file law text
   echo "# Crates"
   echo
-  echo "bench/crates.sh writes this page from the first lines of the sources, and \`./swallow test\` compares" \
+  echo "tools/crates.sh writes this page from the first lines of the sources, and \`./swallow test\` compares" \
     "it with them. Nothing here is written by hand, and its words don't count among those of the pages." \
     "[ARCHITECTURE](ARCHITECTURE.md) explains the layers; which crates each crate names is in" \
     "[crates.txt](../crates.txt)." | wrap
@@ -84,9 +84,9 @@ check)
   if write | diff "$page" -; then
     echo "docs/CRATES.md is what the sources give"
   else
-    echo "docs/CRATES.md isn't what the sources give: bench/crates.sh writes it again"
+    echo "docs/CRATES.md isn't what the sources give: tools/crates.sh writes it again"
     exit 1
   fi
   ;;
-*) echo "bench/crates.sh [check]"; exit 1 ;;
+*) echo "tools/crates.sh [check]"; exit 1 ;;
 esac

@@ -1,5 +1,5 @@
 #!/usr/bin/env bash
-# Refuses each allocation of a run in turn (refuse.c), and runs again over the media that were handed back (bench/memory): one act;
+# Refuses each allocation of a run in turn (refuse.c), and runs again over the media that were handed back (torture/memory): one act;
 # two brokers, of which one is refused a write; one act whose repository stops in the middle of a page; and three acts
 # over three repositories. The program is built with checks of each index and sum (checked.sh). Prints for each run how many
 # allocations it has, and what came of those that were refused: status 0, the report as if none had been; 7, memory is wanting; 9, a medium or the sink
@@ -12,7 +12,7 @@ trap 'rm -rf "$made"' EXIT
 . "$top/bench/checked.sh" || exit 1
 build_checked memory "$made" quick || exit 1
 . "$top/release/start.sh" && find_program swallow_main || exit 1
-cc -O2 -Wall -shared -fPIC -o "$made/refuse.so" "$top/bench/refuse.c" || exit 1
+cc -O2 -Wall -shared -fPIC -o "$made/refuse.so" "$top/torture/refuse.c" || exit 1
 count=${1:-1}
 
 # Each number from $2 to $3 by steps of $4, each in a run of $1: a line each with its number, status and what was written.

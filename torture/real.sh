@@ -244,7 +244,7 @@ is "status of the starter with a limit on the size of files" "$?" 6
 
 # ---- kills
 
-if "$top/bench/kills.sh" "$kills" > "$work/kills"; then right=$((right + kills)); else wrong=$((wrong + 1)); fi
+if "$top/torture/kills.sh" "$kills" > "$work/kills"; then right=$((right + kills)); else wrong=$((wrong + 1)); fi
 cat "$work/kills"
 
 echo "$right right, $wrong wrong, $left left out"

@@ -1,5 +1,5 @@
 #!/usr/bin/env bash
-# bench/look.sh PROGRAM DIR OUT: the page of the folder DIR by the program (crates/swallow_look/out/swallow_look), and what a
+# tools/look.sh PROGRAM DIR OUT: the page of the folder DIR by the program (crates/swallow_look/out/swallow_look), and what a
 # browser shows of it: OUT/page.html, and OUT/light-1280.png, light-400.png, dark-1280.png, dark-400.png, with Debian's chromium.
 # A page of 400 pixels is shown in a frame, since a window can't be that narrow.
 set -euo pipefail

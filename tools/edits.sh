@@ -21,7 +21,7 @@ stamp_of() {
   if [ "${#stamps[@]}" -eq 0 ]; then
     while read -r name value; do
       stamps[$name]=$value
-    done < <(python3 "$top/bench/stamps.py")
+    done < <(python3 "$top/tools/stamps.py")
   fi
   stamp=${stamps[$1]}
   [ -n "$stamp" ] || fail "the files of $1 can't be read"

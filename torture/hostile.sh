@@ -1,9 +1,9 @@
 #!/usr/bin/env bash
 # Spoils plans, media that runs left, and messages, and gives each to the public call that reads it. The words are
 # a seed, how many plans, sets of media and messages, and how many processes share them: 7, 800, 200, 4,000 and 1 unless
-# given. The program (bench/hostile) isn't proved: it and the libraries below it are built with checks of each index and
+# given. The program (torture/hostile) isn't proved: it and the libraries below it are built with checks of each index and
 # sum, and with HOW=whole of each access (checked.sh). Prints how often each answer came, and how much processor each kind
-# took; a wrong one is told with its seed and its number, by which it can be tried alone: bench/hostile.sh SEED KIND NUMBER.
+# took; a wrong one is told with its seed and its number, by which it can be tried alone: torture/hostile.sh SEED KIND NUMBER.
 # A crash and a hang are told with their block of numbers.
 top="$(cd "$(dirname "${BASH_SOURCE[0]}")/.." && pwd)" || exit 1
 made="$(mktemp -d)" || exit 1

@@ -54,17 +54,17 @@ has perl "the system's mistakes, and 20 kills" && kills=20
 if has strace "power cuts" && has python3 "power cuts"; then
   if strace -o /dev/null true 2> /dev/null; then cuts=100; else echo "skipped: power cuts (strace may not trace here)"; fi
 fi
-begin sums "$top/bench/release.sh" check
-begin pages "$top/bench/docs.sh"
-begin crates "$top/bench/crates.sh" check
-begin names "$top/bench/names.sh"
-begin remedies "$top/bench/remedies.sh"
-begin prompt "$top/bench/prompt.sh"
-[ -z "$kills" ] || begin system "$top/bench/real.sh" 1
-[ -z "$cuts" ] || begin cuts "$top/bench/cuts.sh" "$cuts"
-[ -z "$cuts" ] || begin settles "$top/bench/settles.sh" 20
-[ -z "$kills" ] || begin kills "$top/bench/kills.sh" "$kills"
-[ -z "$sessions" ] || begin sessions "$top/bench/session.sh" "$sessions" 20
+begin sums "$top/tools/release.sh" check
+begin pages "$top/tools/docs.sh"
+begin crates "$top/tools/crates.sh" check
+begin names "$top/tools/names.sh"
+begin remedies "$top/tools/remedies.sh"
+begin prompt "$top/tools/prompt.sh"
+[ -z "$kills" ] || begin system "$top/torture/real.sh" 1
+[ -z "$cuts" ] || begin cuts "$top/torture/cuts.sh" "$cuts"
+[ -z "$cuts" ] || begin settles "$top/torture/settles.sh" 20
+[ -z "$kills" ] || begin kills "$top/torture/kills.sh" "$kills"
+[ -z "$sessions" ] || begin sessions "$top/torture/session.sh" "$sessions" 20
 wait
 count sums 1
 count pages 1

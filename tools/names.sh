@@ -8,7 +8,7 @@ export LC_ALL=C
 work=$(mktemp -d) || exit 1
 trap 'rm -rf "$work"' EXIT
 right=0 wrong=0
-pages=(README.md docs/*.md crates/*/data/README.md bench/README.md edits/README.md examples/README.md examples/*/README.md release/README.md)
+pages=(README.md docs/*.md crates/*/data/README.md bench/README.md torture/README.md tools/README.md edits/README.md examples/README.md examples/*/README.md release/README.md)
 
 check() {
   if [ "$1" -eq 0 ]; then right=$((right + 1)); else wrong=$((wrong + 1)); echo "WRONG $2"; fi
@@ -40,7 +40,7 @@ done
 # Files and folders by their paths: below crates/ where the first part of the path is a crate.
 cited() {
   grep -ohE '(^|[^A-Za-z0-9_./-])(crates/[a-z_]+|[a-z_]+)/(src|specs|proofs|must-fail)/[A-Za-z_0-9/]+([.](rt|antt|edit))?' "$@" | sed 's/^[^A-Za-z_]//'
-  grep -ohE '(^|[^A-Za-z0-9_/])(bench|edits|examples|release|docs)/[A-Za-z_0-9/]+([.][a-z]+)*' "$@" | sed 's/^[^A-Za-z_]//'
+  grep -ohE '(^|[^A-Za-z0-9_/])(bench|torture|tools|edits|examples|release|docs)/[A-Za-z_0-9/]+([.][a-z]+)*' "$@" | sed 's/^[^A-Za-z_]//'
 }
 while IFS= read -r path; do
   found=1
@@ -48,7 +48,7 @@ while IFS= read -r path; do
     for end in "" .rt .antt .edit; do [ ! -e "$base$path$end" ] || found=0; done
   done
   check "$found" "a page names $path"
-done < <(cited README.md docs/[A-BD-Z]*.md docs/CALLING.md docs/COMMANDS.md bench/README.md | grep -vE '/[A-Z]+([./]|$)' | sort -u)
+done < <(cited README.md docs/[A-BD-Z]*.md docs/CALLING.md docs/COMMANDS.md bench/README.md torture/README.md tools/README.md | grep -vE '/[A-Z]+([./]|$)' | sort -u)
 
 # Names in the sources.
 cat crates/*/src/*.rt crates/*/specs/*.antt | tr -cs 'A-Za-z0-9_' '\n' | sort -u > "$work/words"

@@ -1,11 +1,11 @@
 #!/usr/bin/env bash
-# Renews release/ behind a gate that passed: bench/release.sh LOG [FOLDER]. LOG is what `rt ci` printed, and FOLDER the
+# Renews release/ behind a gate that passed: tools/release.sh LOG [FOLDER]. LOG is what `rt ci` printed, and FOLDER the
 # checkout that it ran in, or this one. Behind a gate the programs that it proved and ran lie there, as crates/NAME/out/NAME:
 # `rt ci` puts away what it found in out/, and leaves what it built (by LLVM; NAME.by-rattle is the other compiler's). The
 # sources there and here have to be the same, and each program earlier than the end of the log and, unless the log says that
 # it is kept of an earlier gate, later than its sources. Writes the programs and release/README.md, which names the last
 # commit of this checkout: let it be the one of the gate.
-# `bench/release.sh check` changes nothing: status 0 where the sums in release/README.md are those of the sources here and of
+# `tools/release.sh check` changes nothing: status 0 where the sums in release/README.md are those of the sources here and of
 # the programs, else 1, and it says what differs.
 top="$(cd "$(dirname "${BASH_SOURCE[0]}")/.." && pwd)" || exit 1
 . "$top/release/start.sh" || exit 1
@@ -49,8 +49,8 @@ page() {
 # The proved programs, for x86-64 Linux
 
 \`./swallow\`, \`./swallow_lab\` and \`./swallow_look\` start these where the sources are still those that they were built from
-([start.sh](start.sh)); each with the word \`build\` proves and builds it again, and compares byte for byte. \`bench/release.sh\` writes
-this page and the programs, behind a gate that passed, and \`bench/release.sh check\` says whether they are those of the sources.
+([start.sh](start.sh)); each with the word \`build\` proves and builds it again, and compares byte for byte. \`tools/release.sh\` writes
+this page and the programs, behind a gate that passed, and \`tools/release.sh check\` says whether they are those of the sources.
 
 | Program | The sum of its sources | Its own sha256 |
 |---|---|---|

@@ -1,4 +1,0 @@
-#!/usr/bin/env bash
-# Tries sessions of the program that ./swallow starts (session.py): bench/session.sh [SESSIONS [KILLS]]
-top="$(cd "$(dirname "${BASH_SOURCE[0]}")/.." && pwd)" || exit 1
-exec python3 "$top/bench/session.py" "$top/swallow" "${1:-1000}" "${2:-200}"
